@@ -1,11 +1,21 @@
 //! The pass.
 
-ghost use Rattle.std.specs.Prelude.{◌≡◌, ◌<◌, None, slice_index_or, IfOk, IfSome, OnOk};
-ghost use Rattle.staticise.specs.Loosened.{name_with, names_with, extended, IsLoosened, IsStaticised};
+ghost use Rattle.std.specs.Prelude.{◌≡◌, ◌<◌, ◌≤◌, ◌+◌, true, None, is_some, min, slice_index_or, IfOk, IfSome, OnOk};
+ghost use Rattle.std.specs.List.{count_by};
+ghost use Rattle.program_model.specs.ProgramRules.{is_well_formed};
+ghost use Rattle.program_model.specs.declared.program.Program.{Program};
+ghost use Rattle.hierarchy.specs.Shapes.{IsResolved};
+ghost use Rattle.staticise.specs.Ordering.{AreTargets};
+ghost use Rattle.staticise.specs.Asked.{IsJudged};
+ghost use Rattle.staticise.specs.Growing.{IsGrown};
+ghost use Rattle.staticise.specs.Judging.{Tables};
+ghost use Rattle.staticise.specs.Left.{NoneLeft, receivers_in};
+ghost use Rattle.staticise.specs.Loosened.{name_with, names_with, extended, IsLoosenedBy, IsStaticisedBy};
+ghost use Rattle.staticise.specs.Planned.{IsSieved, IsPlanned};
 
 use crate::calls::sift;
 use crate::candidates::Judged;
-use crate::loosening::{Loosening, made_static};
+use crate::loosening::Loosening;
 use crate::protos::Additions;
 use facts::Facts;
 use hierarchy::Hierarchy;
@@ -13,54 +23,50 @@ use program_model::{Admitted, Changed, MethodName, Outside, Program};
 use seq::Seq;
 use std::alloc::{AllocError, Global};
 
-/// What is made static, and what the tables get for it.
-#[derive(Drop)]
-struct Plan {
-    additions: Additions,
-    loosening: Loosening,
-    count: u64,
+/// How many methods are made static.
+fn count_given(given: &[Option<u32>]) -> u64
+    ensures { result ≡ count_by is_some given.now }
+{
+    given.iter().filter(|proto| proto.is_some()).count() as u64
 }
 
-/// How many numbers are marked.
-fn count_marks(marks: &[bool]) -> u64 {
-    marks.iter().filter(|mark| **mark).count() as u64
+/// The marks of the methods that other methods, annotations, first values and calls let be static.
+fn sieve<'a>(
+    alloc: Global,
+    judged: &Judged<'a>,
+    facts: &'a Facts,
+    outside: &Outside,
+    admitted: &'a Admitted,
+) -> Result<Vec<bool>, AllocError>
+    ensures { IsJudged judged.now → IfOk result (λ marks. IsSieved judged.now.program.now facts.now outside.now admitted.now.methods.items marks.items) }
+{
+    let mut loose = judged.candidates(alloc, outside)?;
+    judged.bar_mentioned(alloc, loose.as_mut_slice())?;
+    sift(alloc, judged, facts, admitted, loose)
 }
 
-/// What is made static in a program, none where nothing is loose.
-fn find_loose<'a>(
+/// What the tables get for the methods of a program that are made static, none where there are none.
+fn plan<'a>(
     alloc: Global,
     program: &'a Program,
     hierarchy: &'a Hierarchy,
     facts: &'a Facts,
     outside: &Outside,
     admitted: &'a Admitted,
-) -> Result<Option<Plan>, AllocError>
-    ensures { IfOk result (λ found. IfSome found (λ plan. 0 < plan.count)) }
+) -> Result<Option<Additions>, AllocError>
+    ensures planned { is_well_formed program.now ≡ true → IsResolved program.now hierarchy.now → IfOk result (IsPlanned program.now facts.now outside.now admitted.now.methods.items) }
+    ensures some { IfOk result (λ found. IfSome found (λ a. 0 < count_by is_some a.given.items)) }
 {
     if !outside.optimise {
         return Ok(None);
     }
     let judged = Judged { program, hierarchy };
-    let mut loose = judged.candidates(alloc, outside)?;
-    if count_marks(&loose) == 0 {
+    let loose = sieve(alloc, &judged, facts, outside, admitted)?;
+    let additions = judged.add_protos(alloc, loose.as_slice())?;
+    if count_given(additions.given.as_slice()) == 0 {
         return Ok(None);
     }
-    let items = judged.bar_mentioned(alloc, loose.as_mut_slice())?;
-    loose = sift(alloc, judged, facts, admitted, loose)?;
-    if count_marks(&loose) == 0 {
-        return Ok(None);
-    }
-    let additions = judged.add_protos(alloc, items, loose.as_mut_slice())?;
-    let count = count_marks(&loose);
-    if count == 0 {
-        return Ok(None);
-    }
-    let loosening = made_static(alloc, &judged, loose)?;
-    Ok(Some(Plan {
-        additions,
-        loosening,
-        count,
-    }))
+    Ok(Some(additions))
 }
 
 /// Gives a method number its new proto.
@@ -93,11 +99,11 @@ fn give_protos(names: &mut [MethodName], protos: &[Option<u32>])
 
 /// Appends what the tables get.
 fn append(program: &mut Program, additions: Additions) -> Result<(), AllocError>
-    ensures { OnOk result (program.new ≡ extended additions.new_strings.items additions.new_protos.items additions.proto_of.items program.old) }
+    ensures { (p : Program) (t : Tables) → IsGrown p t additions → program.old.strings ≡ p.strings → program.old.protos ≡ p.protos → OnOk result (program.new ≡ extended t program.old) }
 {
     give_protos(
         program.methods.items.as_mut_slice(),
-        additions.proto_of.as_slice(),
+        additions.given.as_slice(),
     );
     let Additions {
         mut new_strings,
@@ -109,23 +115,42 @@ fn append(program: &mut Program, additions: Additions) -> Result<(), AllocError>
     Ok(())
 }
 
-/// Makes methods of a program static by a plan.
-fn write(alloc: Global, program: &mut Program, plan: Plan) -> Result<(), AllocError>
-    ensures { OnOk result (IsLoosened program.old program.new) }
+/// For each method number the method made static that it resolves to.
+fn targets_of(
+    alloc: Global,
+    program: &Program,
+    hierarchy: &Hierarchy,
+    given: &[Option<u32>],
+) -> Result<Vec<Option<u32>>, AllocError>
+    ensures { is_well_formed program.now ≡ true → IsResolved program.now hierarchy.now → IfOk result (λ targets. AreTargets program.now given.now targets.items) }
 {
-    let Plan {
-        additions,
-        loosening,
-        count: _,
-    } = plan;
+    let judged = Judged { program, hierarchy };
+    judged.targets(alloc, given)
+}
+
+/// Makes the methods of a program static that get new protos.
+fn write(
+    alloc: Global,
+    program: &mut Program,
+    hierarchy: &Hierarchy,
+    additions: Additions,
+) -> Result<(), AllocError>
+    ensures { (t : Tables) → is_well_formed program.old ≡ true → IsResolved program.old hierarchy.now → IsGrown program.old t additions → OnOk result (IsLoosenedBy program.old t program.new) }
+{
+    let targets = targets_of(alloc, program, hierarchy, additions.given.as_slice())?;
+    let loosening = Loosening {
+        hierarchy,
+        given: additions.given.as_slice(),
+        targets: targets.as_slice(),
+    };
     loosening.loosen(alloc, program)?;
-    append(program, additions)?;
-    Ok(())
+    append(program, additions)
 }
 
 /// Makes the loose methods of a program static, and their calls, in place. The hierarchy is that of the program's classes, the
-/// facts are those of the program, and the outside table is closed. `count` is how many methods are made static. New protos and
-/// strings are appended, and lines stay. After want of memory, the only error, the program is lost.
+/// facts are those of the program, and the outside table is closed. `count` is how many methods are made static, 0 exactly where
+/// the program is the same: then no method is loose. Else fewer methods have a receiver. New protos and strings are appended, and
+/// lines stay. After want of memory, the only error, the program is lost.
 pub fn apply(
     alloc: Global,
     program: Program,
@@ -134,14 +159,18 @@ pub fn apply(
     outside: &Outside,
     admitted: &Admitted,
 ) -> Result<Changed, AllocError>
-    ensures { IfOk result (IsStaticised program) }
+    ensures staticised { is_well_formed program ≡ true → IsResolved program hierarchy.now → IfOk result (IsStaticisedBy program facts.now outside.now admitted.now.methods.items) }
+    ensures none_left { is_well_formed program ≡ true → IsResolved program hierarchy.now
+        → IfOk result (λ c. c.count ≡ 0 → NoneLeft program facts.now outside.now admitted.now.methods.items) }
+    ensures same { IfOk result (λ changed. changed.count ≡ 0 → changed.program ≡ program) }
+    ensures falls { is_well_formed program ≡ true → IsResolved program hierarchy.now → IfOk result (λ c. receivers_in c.program + min c.count 1 ≤ receivers_in program) }
 {
     let mut program = program;
     let origins = Seq::new(alloc);
-    match find_loose(alloc, &program, hierarchy, facts, outside, admitted)? {
-        Some(plan) => {
-            let count = plan.count;
-            write(alloc, &mut program, plan)?;
+    match plan(alloc, &program, hierarchy, facts, outside, admitted)? {
+        Some(additions) => {
+            let count = count_given(additions.given.as_slice());
+            write(alloc, &mut program, hierarchy, additions)?;
             Ok(Changed {
                 program,
                 count,

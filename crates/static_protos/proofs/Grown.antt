@@ -1,0 +1,166 @@
+-- The tables with one method more.
+use Rattle.std.proofs.Common.{◌≡◌, ◌⊎◌, inl, inr, ℕ, zero, suc, ◌+◌, ◌<◌, ◌≤◌, ◌^◌, Bool, true, false, true≢false, nat_eq, List, [], ◌∷◌, ◌++◌, map, length, get_or, take, Option, Some, None, refl, sym, ap, ◌∙◌, subst, arith}
+use Rattle.std.specs.Prelude.{◌&&◌, ◌||◌, not, cond, is_some, nat_le, nat_lt, position, slice_get, slice_set, sum_by, Vec}
+use Rattle.std.specs.List.{list_any}
+use Rattle.std.specs.Option.{option_map}
+use Rattle.std.specs.declared.alloc.Global.{Global}
+use Rattle.std.specs.Cmp.Lexicographic.{pointwise}
+use Rattle.std.proofs.lemmas.List.{append_assoc, take_more}
+use Rattle.lemmas.proofs.Bools.{and_left, and_right, or_cases}
+use Rattle.lemmas.proofs.Lists.{map_append}
+use Rattle.program_model.specs.declared.pools.Proto.{Proto}
+use Rattle.program_model.specs.declared.program.Class.{Class}
+use Rattle.program_model.specs.declared.program.Method.{Method}
+use Rattle.program_model.specs.declared.program.Program.{Program}
+use Rattle.program_model.specs.Distinct.{proto_key}
+use Rattle.class_defs.proofs.Positions.{position_step}
+use Rattle.class_defs.proofs.WellFormed.{below}
+use Rattle.std.proofs.lemmas.Bool.{leb-true}
+use Rattle.static_protos.specs.declared.tables.Additions.{Additions}
+use Rattle.static_protos.specs.declared.tables.Wanted.{Wanted}
+use Rattle.std.specs.HashSet.{contains_by}
+use Rattle.static_protos.specs.Growing.{same_pair, texts_in, keys_in, units_more, items_more, IsGrown, grown_method, grown_methods, grown_classes}
+use Rattle.static_protos.specs.Tables.{Tables, same_text, text_place, proto_place, is_proto, texts_with, protos_with, place_or, proto_of, text_at, proto_at, strings_with, items_with, is_taken, has_room, with_new, proto_more}
+
+-- ---- places
+
+one_more : {X : Type 0} (xs : List X) (i : ℕ) (x : X) → i < length xs → x ≡ get_or xs i x → take (i + 1) xs ≡ take i xs ++ x ∷ []
+one_more xs i x lt e = take_more xs i x lt ∙ ap (λ y. take i xs ++ y ∷ []) (sym e)
+
+pub position_map : {X Y : Type 0} (f : X → Y) (t : Y → Bool) (xs : List X) → position t (map f xs) ≡ position (λ x. t (f x)) xs
+position_map f t [] = refl
+position_map f t (x ∷ xs) = by (t (f x)) (position_map f t xs)
+  where
+    by : (b : Bool) → position t (map f xs) ≡ position (λ y. t (f y)) xs → cond b (Some 0) (option_map suc (position t (map f xs))) ≡ cond b (Some 0) (option_map suc (position (λ y. t (f y)) xs))
+    by true e = refl
+    by false e = ap (option_map suc) e
+
+-- nothing passes a test that has no place
+pub place_none : {X : Type 0} (t : X → Bool) (xs : List X) → position t xs ≡ None → list_any t xs ≡ false
+place_none t [] e = refl
+place_none t (x ∷ xs) e = by (t x) refl e
+  where
+    none : (o : Option ℕ) → option_map suc o ≡ None → o ≡ None
+    none None f = refl
+    none (Some i) f = absurd (cc)
+
+    by : (b : Bool) → t x ≡ b → position t (x ∷ xs) ≡ None → (t x || list_any t xs) ≡ false
+    by true f g = absurd (let z : Some 0 ≡ None = sym (position_step t x xs ∙ ap (λ b. cond b (Some 0) (option_map suc (position t xs))) f) ∙ g in cc)
+    by false f g = ap (λ b. b || list_any t xs) f ∙ place_none t xs (none (position t xs) (sym (position_step t x xs ∙ ap (λ b. cond b (Some 0) (option_map suc (position t xs))) f) ∙ g))
+
+module _ (p : Program) (t : Tables) (a : Additions) (g : IsGrown p t a) (w : Wanted) where
+  pub text_room : position (λ (v : Vec ℕ Global). pointwise nat_eq w.text v.items) a.texts.keys ≡ text_at t w
+  text_room = sym (position_map (λ (v : Vec ℕ Global). v.items) (same_text w.text) a.texts.keys) ∙ ap (position (same_text w.text)) g.texts
+
+  pub proto_room : position (λ (v : Vec ℕ Global). pointwise nat_eq (w.result ∷ w.parameters) v.items) a.keys.keys ≡ proto_at t w
+  proto_room = sym (position_map (λ (v : Vec ℕ Global). v.items) (pointwise nat_eq (w.result ∷ w.parameters)) a.keys.keys)
+      ∙ ap (position (pointwise nat_eq (w.result ∷ w.parameters))) g.keys ∙ position_map proto_key (pointwise nat_eq (w.result ∷ w.parameters)) t.protos
+
+-- ---- what is appended
+
+sum_end : (xs : List (List ℕ)) (x : List ℕ) → sum_by length (xs ++ x ∷ []) ≡ sum_by length xs + length x
+sum_end [] x = omega arith
+sum_end (y ∷ xs) x = let z = sum_end xs x in omega (arith, z)
+
+length_end : {X : Type 0} (xs : List X) (x : X) → length (xs ++ x ∷ []) ≡ length xs + 1
+length_end [] x = refl
+length_end (y ∷ xs) x = let z = length_end xs x in omega (arith, z)
+
+abbrev pub more : List ℕ → Option ℕ → ℕ
+more text None = length text
+more text (Some i) = 0
+
+pub units_are : (strings : List (List ℕ)) (text : List ℕ) (place : Option ℕ) → sum_by length (texts_with strings text place) ≡ sum_by length strings + more text place
+units_are strings text None = sum_end strings text
+units_are strings text (Some i) = omega arith
+
+texts_after : (old new : List (List ℕ)) (text : List ℕ) (place : Option ℕ) → texts_with (old ++ new) text place ≡ old ++ texts_with new text place
+texts_after old new text None = append_assoc old new (text ∷ [])
+texts_after old new text (Some i) = refl
+
+protos_after : (old new : List Proto) (proto : Proto) (place : Option ℕ) → protos_with (old ++ new) proto place ≡ old ++ protos_with new proto place
+protos_after old new proto None = append_assoc old new (proto ∷ [])
+protos_after old new proto (Some i) = refl
+
+keys_after : (protos : List Proto) (proto : Proto) (place : Option ℕ) → texts_with (map proto_key protos) (proto_key proto) place ≡ map proto_key (protos_with protos proto place)
+keys_after protos proto None = sym (map_append proto_key protos (proto ∷ []))
+keys_after protos proto (Some i) = refl
+
+texts_few : (strings : List (List ℕ)) (text : List ℕ) (place : Option ℕ) → length strings < 2 ^ 32 → (is_some place || nat_lt (length strings) 65536) ≡ true → length (texts_with strings text place) < 2 ^ 32
+texts_few strings text None few e = let l = below (length strings) 65536 e in let z = length_end strings text in omega (arith, l, z)
+texts_few strings text (Some i) few e = few
+
+protos_few : (protos : List Proto) (proto : Proto) (place : Option ℕ) → length protos ≤ 65535 → (is_some place || nat_lt (length protos) 65535) ≡ true → length (protos_with protos proto place) ≤ 65535
+protos_few protos proto None few e = let l = below (length protos) 65535 e in let z = length_end protos proto in omega (arith, l, z)
+protos_few protos proto (Some i) few e = few
+
+more_same : (w : Wanted) (place : Option ℕ) → more w.text place ≡ units_more w place
+more_same w None = refl
+more_same w (Some i) = refl
+
+-- ---- a method gets its proto
+
+module _ (p : Program) (t : Tables) (w : Wanted) (old new : Additions) (g : IsGrown p t old) (room : has_room p t w ≡ true) where
+  tests : ((is_some (text_at t w) || nat_lt (length t.strings) 65536) ≡ true) × (((is_some (proto_at t w) || nat_lt (length t.protos) 65535) ≡ true) × ((nat_le (sum_by length (strings_with t w)) 16777216 ≡ true) × (nat_le (items_with t w) 16777216 ≡ true)))
+  tests =
+      let four = and_left (not (is_taken p w.name (proto_at t w)) && (is_some (text_at t w) || nat_lt (length t.strings) 65536) && (is_some (proto_at t w) || nat_lt (length t.protos) 65535) && nat_le (sum_by length (strings_with t w)) 16777216) (nat_le (items_with t w) 16777216) room in
+      let three = and_left (not (is_taken p w.name (proto_at t w)) && (is_some (text_at t w) || nat_lt (length t.strings) 65536) && (is_some (proto_at t w) || nat_lt (length t.protos) 65535)) (nat_le (sum_by length (strings_with t w)) 16777216) four in
+      let two = and_left (not (is_taken p w.name (proto_at t w)) && (is_some (text_at t w) || nat_lt (length t.strings) 65536)) (is_some (proto_at t w) || nat_lt (length t.protos) 65535) three in (
+        and_right (not (is_taken p w.name (proto_at t w))) (is_some (text_at t w) || nat_lt (length t.strings) 65536) two,
+        (
+          and_right (not (is_taken p w.name (proto_at t w)) && (is_some (text_at t w) || nat_lt (length t.strings) 65536)) (is_some (proto_at t w) || nat_lt (length t.protos) 65535) three,
+          (
+            and_right (not (is_taken p w.name (proto_at t w)) && (is_some (text_at t w) || nat_lt (length t.strings) 65536) && (is_some (proto_at t w) || nat_lt (length t.protos) 65535)) (nat_le (sum_by length (strings_with t w)) 16777216) four,
+            and_right (not (is_taken p w.name (proto_at t w)) && (is_some (text_at t w) || nat_lt (length t.strings) 65536) && (is_some (proto_at t w) || nat_lt (length t.protos) 65535) && nat_le (sum_by length (strings_with t w)) 16777216) (nat_le (items_with t w) 16777216) room,
+          ),
+        ),
+      )
+
+  pub units_few : sum_by length (strings_with t w) ≤ 16777216
+  units_few = leb-true (sum_by length (strings_with t w)) 16777216 tests.1.1.0
+
+  pub items_few : items_with t w ≤ 16777216
+  items_few = leb-true (items_with t w) 16777216 tests.1.1.1
+
+  pub units_fit : old.units + units_more w (text_at t w) ≡ sum_by length (strings_with t w)
+  units_fit = ap (λ n. n + units_more w (text_at t w)) g.units ∙ ap (λ n. sum_by length t.strings + n) (sym (more_same w (text_at t w))) ∙ sym (units_are t.strings w.text (text_at t w))
+
+  pub items_fit : old.items + items_more w (proto_at t w) ≡ items_with t w
+  items_fit = ap (λ n. n + items_more w (proto_at t w)) g.items
+
+  -- what is kept, appended and given
+  pub grown_new : new.new_strings.items ≡ texts_with old.new_strings.items w.text (text_at t w) → texts_in new ≡ texts_with (texts_in old) w.text (text_at t w)
+      → new.new_protos.items ≡ protos_with old.new_protos.items (proto_of t w) (proto_at t w) → keys_in new ≡ texts_with (keys_in old) (proto_key (proto_of t w)) (proto_at t w)
+      → new.given.items ≡ slice_set old.given.items w.number (Some (place_or (length t.protos) (proto_at t w))) → new.names ≡ old.names → new.units ≡ old.units + units_more w (text_at t w) → new.items ≡ old.items + items_more w (proto_at t w)
+      → IsGrown p (with_new t w) new
+  grown_new strings texts protos keys given names units items = record {
+    strings = ap (λ xs. texts_with xs w.text (text_at t w)) g.strings ∙ texts_after p.strings old.new_strings.items w.text (text_at t w) ∙ ap (λ xs. p.strings ++ xs) (sym strings);
+    protos = ap (λ xs. protos_with xs (proto_of t w) (proto_at t w)) g.protos ∙ protos_after p.protos old.new_protos.items (proto_of t w) (proto_at t w) ∙ ap (λ xs. p.protos ++ xs) (sym protos);
+    given = ap (λ xs. slice_set xs w.number (Some (place_or (length t.protos) (proto_at t w)))) g.given ∙ sym given;
+    texts = texts ∙ ap (λ xs. texts_with xs w.text (text_at t w)) g.texts;
+    keys = keys ∙ ap (λ xs. texts_with xs (proto_key (proto_of t w)) (proto_at t w)) g.keys ∙ keys_after t.protos (proto_of t w) (proto_at t w);
+    names = λ n q. ap (contains_by (same_pair (n, q))) names ∙ g.names n q;
+    units = units ∙ units_fit;
+    items = items ∙ items_fit;
+    few_units = units_few;
+    few_items = items_few;
+    few_strings = texts_few t.strings w.text (text_at t w) g.few_strings tests.0;
+    few_protos = protos_few t.protos (proto_of t w) (proto_at t w) g.few_protos tests.1.0;
+  }
+
+-- ---- methods and classes in turn
+
+module _ (p : Program) (marks : List Bool) where
+  methods_end : (t : Tables) (k : Class) (ms : List Method) (m : Method) → grown_methods p marks t k (ms ++ m ∷ []) ≡ grown_method p marks (grown_methods p marks t k ms) k m
+  methods_end t k [] m = refl
+  methods_end t k (x ∷ ms) m = methods_end (grown_method p marks t k x) k ms m
+
+  pub methods_grown : (t : Tables) (k : Class) (ms : List Method) (i : ℕ) (m : Method) (new : Additions) → i < length ms → m ≡ get_or ms i m → IsGrown p (grown_method p marks (grown_methods p marks t k (take i ms)) k m) new → IsGrown p (grown_methods p marks t k (take (i + 1) ms)) new
+  methods_grown t k ms i m new lt e g = subst (λ u. IsGrown p u new) (sym (methods_end t k (take i ms) m) ∙ ap (grown_methods p marks t k) (sym (one_more ms i m lt e))) g
+
+  classes_end : (t : Tables) (ks : List Class) (k : Class) → grown_classes p marks t (ks ++ k ∷ []) ≡ grown_methods p marks (grown_classes p marks t ks) k k.methods
+  classes_end t [] k = refl
+  classes_end t (x ∷ ks) k = classes_end (grown_methods p marks t x x.methods) ks k
+
+  pub classes_grown : (t : Tables) (ks : List Class) (i : ℕ) (k : Class) (new : Additions) → i < length ks → k ≡ get_or ks i k → IsGrown p (grown_methods p marks (grown_classes p marks t (take i ks)) k k.methods) new → IsGrown p (grown_classes p marks t (take (i + 1) ks)) new
+  classes_grown t ks i k new lt e g = subst (λ u. IsGrown p u new) (sym (classes_end t (take i ks) k) ∙ ap (grown_classes p marks t) (sym (one_more ks i k lt e))) g

@@ -1,2 +1,4 @@
-mod Formed
+pub mod Formed
 mod Grown
+mod Sets
+pub mod Behind

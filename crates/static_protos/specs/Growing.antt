@@ -2,6 +2,7 @@
 use Rattle.std.specs.Prelude.{◌≡◌, ◌<◌, ◌≤◌, ◌^◌, ℕ, ◌+◌, ◌&&◌, Bool, true, false, nat_eq, List, [], ◌∷◌, ◌++◌, map, length, sum_by, Option, Some, None, slice_get, slice_index_or, cond}
 use Rattle.std.specs.List.{list_any}
 use Rattle.std.specs.HashSet.{contains_by}
+use Rattle.dex_base.specs.declared.text.Text.{Text}
 use Rattle.program_model.specs.declared.pools.MethodName.{MethodName}
 use Rattle.program_model.specs.declared.pools.Proto.{Proto}
 use Rattle.program_model.specs.declared.program.Class.{Class}
@@ -12,6 +13,15 @@ use Rattle.static_protos.specs.declared.tables.Additions.{Additions}
 use Rattle.static_protos.specs.declared.growth.Growth.{Growth}
 use Rattle.static_protos.specs.declared.tables.Wanted.{Wanted}
 use Rattle.static_protos.specs.Tables.{Tables, tables_of, wanted, has_room, with_new, proto_more, marks_more}
+
+-- ---- tables that have grown
+
+-- what the tables get stands behind what they had
+pub record AreBehind (t u : Tables) : Type 0 where
+  pub texts : List Text
+  pub strings : u.strings ≡ t.strings ++ texts
+  pub new : List Proto
+  pub protos : u.protos ≡ t.protos ++ new
 
 -- ---- methods in turn, of which some are marked
 

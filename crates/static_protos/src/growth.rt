@@ -118,7 +118,7 @@ fn add_methods(
     ensures { let p = program.now in (t : Tables) → IsGrown p t additions.old → OnOk result (IsGrown p (grown_methods p marked.now t class.now methods.now) additions.new) }
 {
     for method in methods {
-        self.add_marked(alloc, additions, class, method, marked)?;
+        add_marked(alloc, program, additions, class, method, marked)?;
     }
     Ok(())
 }

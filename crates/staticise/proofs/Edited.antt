@@ -9,7 +9,7 @@ use Rattle.std.proofs.lemmas.Option.{slice_get_within, slice_get-get_or}
 use Rattle.program_model.specs.declared.pools.MethodName.{MethodName}
 use Rattle.program_model.specs.declared.program.Class.{Class}
 use Rattle.program_model.specs.declared.program.Program.{Program}
-use Rattle.staticise.specs.Judging.{Tables}
+use Rattle.static_protos.specs.Tables.{Tables}
 use Rattle.staticise.specs.Loosened.{AreEach, AreEdited, name_with, names_with, extended, IsLoosenedClass, IsLoosenedBy}
 
 -- ---- each item by a function

@@ -19,13 +19,15 @@ use Rattle.program_model.specs.declared.program.Method.{Method}
 use Rattle.program_model.specs.declared.program.Program.{Program}
 use Rattle.class_defs.proofs.Positions.{number_of}
 use Rattle.facts.specs.declared.facts.Facts.{Facts}
-use Rattle.staticise.specs.Judging.{Tables, tables_of, wanted, has_room, with_new, is_plain_class, takes_receiver, is_kept, is_candidate, may_be_static, is_loose, behind_method, behind_methods, behind_classes, judged}
+use Rattle.static_protos.specs.Tables.{Tables, wanted, has_room}
+use Rattle.loose_methods.specs.Candidates.{is_plain_class, takes_receiver, is_kept, is_candidate, may_be_static}
+use Rattle.staticise.specs.Judging.{is_loose, judged}
 use Rattle.staticise.specs.Left.{has_receiver_word, class_receivers, receivers_in}
-use Rattle.staticise.specs.Loose.{is_alone, calls_allow}
-use Rattle.staticise.specs.Mentioned.{is_mentioned}
+use Rattle.loose_methods.specs.Loose.{is_alone, calls_allow}
+use Rattle.loose_methods.specs.Mentioned.{is_mentioned}
 use Rattle.staticise.specs.Loosened.{is_given, given_at, self_loosened, method_loosened, code_loosened, flags_loosened, marks_loosened, count_given, IsLoosenedClass, AreEach, IsLoosenedBy}
-use Rattle.staticise.proofs.Judged.{Step, Stays, Gives, step}
-use Rattle.staticise.proofs.Marks.{same_or}
+use Rattle.staticise.proofs.Made.{made_of}
+use Rattle.loose_methods.proofs.Marks.{same_or}
 
 -- ---- one method
 
@@ -108,28 +110,13 @@ module _ (p : Program) (given : List (Option ℕ)) where
 
 -- ---- a method that is made static has a receiver
 
-pub record GivenMethod (p : Program) (n : ℕ) : Type 0 where
-  pub place : ℕ
-  pub at : ℕ
-  pub class : Class
-  pub method : Method
-  pub is_class : slice_get p.classes place ≡ Some class
-  pub is_method : slice_get class.methods at ≡ Some method
-  pub is_number : method.name ≡ n
-  pub receives : has_receiver_word method ≡ true
-
-abbrev pub AllGiven : Program → Tables → Type 0
-AllGiven p t = (n : ℕ) → is_given t.given n ≡ true → GivenMethod p n
-
-set_given : (xs : List (Option ℕ)) (x v n : ℕ) → is_given (slice_set xs x (Some v)) n ≡ true → (is_given xs n ≡ true) ⊎ (x ≡ n)
-set_given [] x v n e = inl e
-set_given (o ∷ xs) zero v zero e = inr refl
-set_given (o ∷ xs) zero v (suc n) e = inl e
-set_given (o ∷ xs) (suc x) v zero e = inl e
-set_given (o ∷ xs) (suc x) v (suc n) e = elim (set_given xs x v n e) [ inl f ↦ inl f | inr s ↦ inr (ap suc s) ]
+some_given : (xs : List (Option ℕ)) → 0 < count_by is_some xs → (n : ℕ) × (is_given xs n ≡ true)
+some_given [] l = absurd (omega (arith, l))
+some_given (None ∷ xs) l = let r = some_given xs l in (suc r.0, r.1)
+some_given (Some x ∷ xs) l = (0, refl)
 
 module _ (p : Program) (facts : Facts) (o : Outside) (admitted : List Bool) where
-  receives_so : (t : Tables) (place : ℕ) (k : Class) (m : Method) (q : MethodName) (proto : Proto) → is_loose p facts o admitted t place k m q proto ≡ true → has_receiver_word m ≡ true
+  pub receives_so : (t : Tables) (place : ℕ) (k : Class) (m : Method) (q : MethodName) (proto : Proto) → is_loose p facts o admitted t place k m q proto ≡ true → has_receiver_word m ≡ true
   receives_so t place k m q proto e =
       let may = and_left (may_be_static p facts o admitted place k q m) (has_room p t (wanted p k m q proto)) e in
       let cand = and_left (is_candidate p o place k q m) (not (is_mentioned p m.name)) (and_left (is_candidate p o place k q m && not (is_mentioned p m.name)) (calls_allow p facts admitted m.name) may) in
@@ -137,48 +124,9 @@ module _ (p : Program) (facts : Facts) (o : Outside) (admitted : List Bool) wher
       let takes = and_right (is_plain_class p place k) (takes_receiver p q m) (and_left (is_plain_class p place k && takes_receiver p q m) (not (is_kept o m.name)) three) in
       and_left (is_some m.body && not (is_static m.flags)) (not (string_is p q.name (codes "<init>"))) takes
 
-  method_given : (t : Tables) (place i : ℕ) (k : Class) (m : Method) → slice_get p.classes place ≡ Some k → slice_get k.methods i ≡ Some m → AllGiven p t → AllGiven p (behind_method p facts o admitted t place k m)
-  method_given t place i k m e f a = by (step p facts o admitted t place k m)
-    where
-      by : Step p facts o admitted t place k m → AllGiven p (behind_method p facts o admitted t place k m)
-      by (Stays g s) = subst (AllGiven p) (sym s) a
-      by (Gives q proto g h s) = subst (AllGiven p) (sym s) (λ n x. elim (set_given t.given m.name _ n x) [
-        | inl y ↦ a n y
-        | inr y ↦ record { place = place; at = i; class = k; method = m; is_class = e; is_method = f; is_number = y; receives = receives_so t place k m q proto h }
-      ])
-
-  methods_given : (t : Tables) (place start : ℕ) (k : Class) (ms : List Method) → slice_get p.classes place ≡ Some k → ((i : ℕ) (m : Method) → slice_get ms i ≡ Some m → slice_get k.methods (i + start) ≡ Some m) → AllGiven p t → AllGiven p (behind_methods p facts o admitted t place k ms)
-  methods_given t place start k [] e h a = a
-  methods_given t place start k (m ∷ ms) e h a = methods_given (behind_method p facts o admitted t place k m) place (suc start) k ms e
-      (λ i x f. ap (slice_get k.methods) (let z : i + suc start ≡ suc i + start = omega arith in z) ∙ h (suc i) x f)
-      (method_given t place start k m e (ap (slice_get k.methods) (let z : start ≡ 0 + start = omega arith in z) ∙ h 0 m refl) a)
-
-  classes_given : (t : Tables) (place : ℕ) (ks : List Class) → ((c : ℕ) (k : Class) → slice_get ks c ≡ Some k → slice_get p.classes (c + place) ≡ Some k) → AllGiven p t → AllGiven p (behind_classes p facts o admitted t place ks)
-  classes_given t place [] h a = a
-  classes_given t place (k ∷ ks) h a =
-      let here : slice_get p.classes place ≡ Some k = ap (slice_get p.classes) (let z : place ≡ 0 + place = omega arith in z) ∙ h 0 k refl in
-      classes_given (behind_methods p facts o admitted t place k k.methods) (suc place) ks (λ c x f. ap (slice_get p.classes) (let z : c + suc place ≡ suc c + place = omega arith in z) ∙ h (suc c) x f)
-      (methods_given t place 0 k k.methods here (λ i m f. ap (slice_get k.methods) (let z : i + 0 ≡ i = omega arith in z) ∙ f) a)
-
-  none_given : (size n : ℕ) → is_given (replicate size None) n ≡ true → ⊥
-  none_given zero n e = true≢false (sym e)
-  none_given (suc size) zero e = true≢false (sym e)
-  none_given (suc size) (suc n) e = none_given size n e
-
-  pub all_given : AllGiven p (judged p facts o admitted)
-  all_given = by o.optimise
-    where
-      by : (b : Bool) → AllGiven p (if b then behind_classes p facts o admitted (tables_of p) 0 p.classes else tables_of p)
-      by true = classes_given (tables_of p) 0 p.classes (λ c k f. ap (slice_get p.classes) (let z : c + 0 ≡ c = omega arith in z) ∙ f) (λ n e. absurd (none_given (length p.methods) n e))
-      by false = λ n e. absurd (none_given (length p.methods) n e)
-
-  some_given : (xs : List (Option ℕ)) → 0 < count_by is_some xs → (n : ℕ) × (is_given xs n ≡ true)
-  some_given [] l = absurd (omega (arith, l))
-  some_given (None ∷ xs) l = let r = some_given xs l in (suc r.0, r.1)
-  some_given (Some x ∷ xs) l = (0, refl)
-
   pub falls : (q : Program) → 0 < count_given (judged p facts o admitted) → IsLoosenedBy p (judged p facts o admitted) q → receivers_in q < receivers_in p
   falls q l r =
       let s = some_given (judged p facts o admitted).given l in
-      let g = all_given s.0 s.1 in
-      classes_less p (judged p facts o admitted).given p.classes q.classes g.place g.at g.class g.method r.classes g.is_class g.is_method (ap (is_given (judged p facts o admitted).given) g.is_number ∙ s.1) g.receives
+      let g = made_of p facts o admitted s.0 s.1 in
+      classes_less p (judged p facts o admitted).given p.classes q.classes g.place g.at g.class g.method r.classes g.is_class g.is_method (ap (is_given (judged p facts o admitted).given) g.is_number ∙ s.1)
+      (receives_so g.tables g.place g.class g.method g.name g.proto g.holds)

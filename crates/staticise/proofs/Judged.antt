@@ -11,12 +11,14 @@ use Rattle.program_model.specs.declared.program.Class.{Class}
 use Rattle.program_model.specs.declared.program.Method.{Method}
 use Rattle.program_model.specs.declared.program.Program.{Program}
 use Rattle.facts.specs.declared.facts.Facts.{Facts}
-use Rattle.staticise.specs.Judging.{Tables, tables_of, wanted, has_room, with_new, may_be_static, is_loose, is_loose_by, is_loose_named, is_loose_at, behind_proto, behind_entry, behind_method, behind_methods, behind_classes, judged}
-use Rattle.staticise.specs.Growing.{room_with, room_by, room_named, room_entry, room_for, grown_method, grown_methods, grown_classes}
+use Rattle.static_protos.specs.Tables.{Tables, tables_of, wanted, has_room, with_new}
+use Rattle.loose_methods.specs.Candidates.{may_be_static}
+use Rattle.staticise.specs.Judging.{is_loose, is_loose_by, is_loose_named, is_loose_at, behind_proto, behind_entry, behind_method, behind_methods, behind_classes, judged}
+use Rattle.static_protos.specs.Growing.{room_with, room_by, room_named, room_entry, room_for, grown_method, grown_methods, grown_classes}
 use Rattle.staticise.specs.Left.{NoneLeft}
 use Rattle.staticise.specs.Loosened.{count_given}
-use Rattle.staticise.specs.Marking.{is_on}
-use Rattle.staticise.specs.Planned.{IsSieved}
+use Rattle.loose_methods.specs.Marking.{is_on}
+use Rattle.loose_methods.specs.Sieved.{IsSieved}
 
 module _ (p : Program) (facts : Facts) (o : Outside) (admitted : List Bool) where
   -- ---- by marks
@@ -85,7 +87,7 @@ module _ (p : Program) (facts : Facts) (o : Outside) (admitted : List Bool) wher
   -- a step leaves the tables as they are, where the method isn't loose, or gives it a proto
   pub data Step (t : Tables) (place : ℕ) (k : Class) (m : Method) : Type 0 where
     Stays : is_loose_at p facts o admitted t place k m ≡ false → behind_method p facts o admitted t place k m ≡ t → Step t place k m
-    Gives : (q : MethodName) (proto : Proto) → slice_get p.methods m.name ≡ Some q → is_loose p facts o admitted t place k m q proto ≡ true → behind_method p facts o admitted t place k m ≡ with_new t (wanted p k m q proto) → Step t place k m
+    Gives : (q : MethodName) (proto : Proto) → slice_get p.methods m.name ≡ Some q → slice_get p.protos q.proto ≡ Some proto → is_loose p facts o admitted t place k m q proto ≡ true → behind_method p facts o admitted t place k m ≡ with_new t (wanted p k m q proto) → Step t place k m
 
   pub step : (t : Tables) (place : ℕ) (k : Class) (m : Method) → Step t place k m
   step t place k m = by (slice_get p.methods m.name) refl
@@ -99,7 +101,7 @@ module _ (p : Program) (facts : Facts) (o : Outside) (admitted : List Bool) wher
           by_proto (Some proto) g = test (is_loose p facts o admitted t place k m q proto) refl
             where
               test : (b : Bool) → is_loose p facts o admitted t place k m q proto ≡ b → Step t place k m
-              test true x = Gives q proto f x (ap (behind_entry p facts o admitted t place k m) f ∙ ap (behind_proto p facts o admitted t place k m q) g ∙ ap (λ z. if z then with_new t (wanted p k m q proto) else t) x)
+              test true x = Gives q proto f g x (ap (behind_entry p facts o admitted t place k m) f ∙ ap (behind_proto p facts o admitted t place k m q) g ∙ ap (λ z. if z then with_new t (wanted p k m q proto) else t) x)
               test false x = Stays (ap (is_loose_named p facts o admitted t place k m) f ∙ ap (is_loose_by p facts o admitted t place k m q) g ∙ x)
                   (ap (behind_entry p facts o admitted t place k m) f ∙ ap (behind_proto p facts o admitted t place k m q) g ∙ ap (λ z. if z then with_new t (wanted p k m q proto) else t) x)
 
@@ -108,14 +110,14 @@ module _ (p : Program) (facts : Facts) (o : Outside) (admitted : List Bool) wher
     where
       by : Step t place k m → IsSized (behind_method p facts o admitted t place k m)
       by (Stays a e) = subst IsSized (sym e) s
-      by (Gives q proto f x e) = subst IsSized (sym e) (with_sized t k m q proto s)
+      by (Gives q proto f y x e) = subst IsSized (sym e) (with_sized t k m q proto s)
 
   method_grows : (t : Tables) (place : ℕ) (k : Class) (m : Method) → IsSized t → 0 < count_given t → 0 < count_given (behind_method p facts o admitted t place k m)
   method_grows t place k m s l = by (step t place k m)
     where
       by : Step t place k m → 0 < count_given (behind_method p facts o admitted t place k m)
       by (Stays a e) = subst (λ u. 0 < count_given u) (sym e) l
-      by (Gives q proto f x e) = subst (λ u. 0 < count_given u) (sym e) (with_some t k m q proto s f)
+      by (Gives q proto f y x e) = subst (λ u. 0 < count_given u) (sym e) (with_some t k m q proto s f)
 
   methods_sized : (t : Tables) (place : ℕ) (k : Class) (ms : List Method) → IsSized t → IsSized (behind_methods p facts o admitted t place k ms)
   methods_sized t place k [] s = s
@@ -140,7 +142,7 @@ module _ (p : Program) (facts : Facts) (o : Outside) (admitted : List Bool) wher
   none_of t place k (m ∷ ms) s e = by (step t place k m)
     where
       by : Step t place k m → NoneOf t place k (m ∷ ms)
-      by (Gives q proto f x g) =
+      by (Gives q proto f y x g) =
           let l = methods_grow (behind_method p facts o admitted t place k m) place k ms (method_sized t place k m s) (subst (λ u. 0 < count_given u) (sym g) (with_some t k m q proto s f)) in
           absurd (omega (arith, l, e))
       by (Stays a g) =

@@ -16,10 +16,10 @@ use Rattle.program_model.specs.declared.program.Method.{Method}
 use Rattle.program_model.specs.declared.program.Program.{Program}
 use Rattle.class_defs.proofs.Positions.{number_test}
 use Rattle.staticise.specs.Ordering.{order_of, IsOrdered, AreOwn}
-use Rattle.staticise.proofs.Placed.{entry_of}
+use Rattle.loose_methods.proofs.Placed.{entry_of}
 use Rattle.staticise.proofs.Few.{few_methods}
-use Rattle.staticise.proofs.Marks.{same_or, differ_test}
-use Rattle.staticise.proofs.Once.{own_once}
+use Rattle.loose_methods.proofs.Marks.{same_or, differ_test}
+use Rattle.loose_methods.proofs.Once.{own_once}
 use Rattle.std.proofs.lemmas.List.Sorted.{sum_by-IsPermutation, All-permutation}
 
 module _ (p : Program) where

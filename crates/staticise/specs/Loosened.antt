@@ -21,7 +21,8 @@ use Rattle.program_model.specs.MemberRules.{methods_in_order}
 use Rattle.program_model.specs.Neighbours.{neighbours}
 use Rattle.class_defs.specs.Finding.{resolves_method}
 use Rattle.facts.specs.declared.facts.Facts.{Facts}
-use Rattle.staticise.specs.Judging.{Tables, judged}
+use Rattle.static_protos.specs.Tables.{Tables}
+use Rattle.staticise.specs.Judging.{judged}
 
 -- ---- tables of new protos by method number
 

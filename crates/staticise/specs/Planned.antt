@@ -6,18 +6,12 @@ use Rattle.program_model.specs.declared.program.Class.{Class}
 use Rattle.program_model.specs.declared.program.Method.{Method}
 use Rattle.program_model.specs.declared.program.Program.{Program}
 use Rattle.facts.specs.declared.facts.Facts.{Facts}
-use Rattle.staticise.specs.declared.protos.Additions.{Additions}
-use Rattle.staticise.specs.Growing.{IsGrown}
-use Rattle.staticise.specs.Judging.{judged, may_be_static}
+use Rattle.static_protos.specs.declared.growth.Growth.{Growth}
+use Rattle.static_protos.specs.Growing.{IsGrowth}
+use Rattle.staticise.specs.Judging.{judged}
 use Rattle.staticise.specs.Loosened.{count_given}
-use Rattle.staticise.specs.Marking.{is_on}
-
--- just those methods are marked that may be static as far as the tables have room
-pub record IsSieved (p : Program) (facts : Facts) (o : Outside) (admitted marks : List Bool) : Type 0 where
-  pub are : (place i : ℕ) (k : Class) (m : Method) (q : MethodName) → slice_get p.classes place ≡ Some k → slice_get k.methods i ≡ Some m → slice_get p.methods m.name ≡ Some q
-      → is_on marks m.name ≡ may_be_static p facts o admitted place k q m
 
 -- what the tables get for the loose methods, or that there are none
-abbrev pub IsPlanned : Program → Facts → Outside → List Bool → Option Additions → Type 0
+abbrev pub IsPlanned : Program → Facts → Outside → List Bool → Option Growth → Type 0
 IsPlanned p facts o admitted None = count_given (judged p facts o admitted) ≡ 0
-IsPlanned p facts o admitted (Some a) = IsGrown p (judged p facts o admitted) a × (0 < count_given (judged p facts o admitted))
+IsPlanned p facts o admitted (Some g) = IsGrowth p (judged p facts o admitted) g × (0 < count_given (judged p facts o admitted))

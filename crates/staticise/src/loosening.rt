@@ -1,18 +1,15 @@
 //! Methods that become static, and their calls.
 
-ghost use Rattle.std.specs.Prelude.{◌≡◌, ℕ, Some, None, true, cond, map, slice_get, IfOk, OnOk};
+ghost use Rattle.std.specs.Prelude.{◌≡◌, ◌<◌, ◌^◌, ℕ, Some, None, true, cond, map, slice_get, IfOk, OnOk};
 ghost use Rattle.std.specs.List.Sorted.{IsPermutation};
 ghost use Rattle.program_model.specs.ProgramRules.{is_well_formed};
 ghost use Rattle.program_model.specs.declared.program.Class.{Class};
-ghost use Rattle.hierarchy.specs.Shapes.{IsOf};
+ghost use Rattle.hierarchy.specs.Shapes.{IsOf, IsResolved};
 ghost use Rattle.program_model.specs.declared.program.Program.{Program};
-ghost use Rattle.staticise.specs.Asked.{IsJudged};
 ghost use Rattle.staticise.specs.Loosened.{is_given, given_at, target_at, target_of, insn_loosened, body_loosened, self_loosened, method_loosened, IsLoosenedClass, AreEach};
 ghost use Rattle.staticise.specs.Ordering.{order_of, AreTargets, IsOrdered, AreOwn};
 
-use crate::candidates::Judged;
-use crate::table::word;
-use hierarchy::Hierarchy;
+use hierarchy::{Hierarchy, method_at};
 use insn_set::{Insn, InvokeKind};
 use program_model::{Body, Class, Flags, Method, MethodAt, Program};
 use seq::Seq;
@@ -25,6 +22,17 @@ pub(crate) struct Loosening<'a> {
     pub(crate) hierarchy: &'a Hierarchy,
     pub(crate) given: &'a [Option<u32>],
     pub(crate) targets: &'a [Option<u32>],
+}
+
+/// A place as a number of 32 bits.
+fn word(place: usize) -> u32
+    ensures { place < 2 ^ 32 → result ≡ place }
+{
+    if place < 0xffff_ffff {
+        place as u32
+    } else {
+        0xffff_ffff
+    }
 }
 
 /// The new proto of a method number, none where it isn't made static.
@@ -180,39 +188,43 @@ impl Loosening<'_> {
     }
 }
 
-impl Judged<'_> {
-    /// The method made static that stands at a place.
-    fn target_at(&self, given: &[Option<u32>], at: MethodAt) -> Option<u32>
-        ensures { result ≡ target_at self.now.program.now given.now (Some at) }
-    {
-        match self.number_at(at) {
-            Some(number) => if_given(given, number),
-            None => None,
-        }
+/// The number of the method made static that stands at a place.
+fn target_at(program: &Program, given: &[Option<u32>], at: MethodAt) -> Option<u32>
+    ensures { result ≡ target_at program.now given.now (Some at) }
+{
+    match method_at(program, at) {
+        Some(method) => if_given(given, method.name),
+        None => None,
     }
+}
 
-    /// The method made static that a number resolves to.
-    fn target_of(&self, given: &[Option<u32>], method: u32) -> Option<u32>
-        ensures { IsJudged self.now → result ≡ target_of self.now.program.now given.now method }
-    {
-        match self.hierarchy.resolve_method(self.program, method) {
-            Some(at) => self.target_at(given, at),
-            None => None,
-        }
+/// The method made static that a number resolves to.
+fn target_of(
+    program: &Program,
+    hierarchy: &Hierarchy,
+    given: &[Option<u32>],
+    method: u32,
+) -> Option<u32>
+    ensures { IsResolved program.now hierarchy.now → result ≡ target_of program.now given.now method }
+{
+    match hierarchy.resolve_method(program, method) {
+        Some(at) => target_at(program, given, at),
+        None => None,
     }
+}
 
-    /// For each method number the method made static that it resolves to.
-    pub(crate) fn targets(
-        &self,
-        alloc: Global,
-        given: &[Option<u32>],
-    ) -> Result<Vec<Option<u32>>, AllocError>
-        ensures { IsJudged self.now → IfOk result (λ targets. AreTargets self.now.program.now given.now targets.items) }
-    {
-        let mut targets = Vec::new(alloc);
-        for method in 0..self.program.methods.len() {
-            targets.push(self.target_of(given, word(method)))?;
-        }
-        Ok(targets)
+/// For each method number the method made static that it resolves to.
+pub(crate) fn targets(
+    alloc: Global,
+    program: &Program,
+    hierarchy: &Hierarchy,
+    given: &[Option<u32>],
+) -> Result<Vec<Option<u32>>, AllocError>
+    ensures { is_well_formed program.now ≡ true → IsResolved program.now hierarchy.now → IfOk result (λ targets. AreTargets program.now given.now targets.items) }
+{
+    let mut targets = Vec::new(alloc);
+    for method in 0..program.methods.len() {
+        targets.push(target_of(program, hierarchy, given, word(method)))?;
     }
+    Ok(targets)
 }

@@ -6,21 +6,20 @@ ghost use Rattle.program_model.specs.ProgramRules.{is_well_formed};
 ghost use Rattle.program_model.specs.declared.program.Program.{Program};
 ghost use Rattle.hierarchy.specs.Shapes.{IsResolved};
 ghost use Rattle.staticise.specs.Ordering.{AreTargets};
-ghost use Rattle.staticise.specs.Asked.{IsJudged};
-ghost use Rattle.staticise.specs.Growing.{IsGrown};
-ghost use Rattle.staticise.specs.Judging.{Tables};
+ghost use Rattle.static_protos.specs.Growing.{IsGrowth};
+ghost use Rattle.static_protos.specs.Tables.{Tables};
 ghost use Rattle.staticise.specs.Left.{NoneLeft, receivers_in};
 ghost use Rattle.staticise.specs.Loosened.{name_with, names_with, extended, IsLoosenedBy, IsStaticisedBy};
-ghost use Rattle.staticise.specs.Planned.{IsSieved, IsPlanned};
+ghost use Rattle.loose_methods.specs.Sieved.{IsSieved};
+ghost use Rattle.staticise.specs.Planned.{IsPlanned};
 
-use crate::calls::sift;
-use crate::candidates::Judged;
-use crate::loosening::Loosening;
-use crate::protos::Additions;
+use crate::loosening::{Loosening, targets};
 use facts::Facts;
 use hierarchy::Hierarchy;
+use loose_methods::find;
 use program_model::{Admitted, Changed, MethodName, Outside, Program};
 use seq::Seq;
+use static_protos::{Growth, grow};
 use std::alloc::{AllocError, Global};
 
 /// How many methods are made static.
@@ -28,21 +27,6 @@ fn count_given(given: &[Option<u32>]) -> u64
     ensures { result ≡ count_by is_some given.now }
 {
     given.iter().filter(|proto| proto.is_some()).count() as u64
-}
-
-/// The marks of the methods that other methods, annotations, first values and calls let be static.
-fn sieve<'a>(
-    alloc: Global,
-    judged: &Judged<'a>,
-    facts: &'a Facts,
-    outside: &Outside,
-    admitted: &'a Admitted,
-) -> Result<Vec<bool>, AllocError>
-    ensures { IsJudged judged.now → IfOk result (λ marks. IsSieved judged.now.program.now facts.now outside.now admitted.now.methods.items marks.items) }
-{
-    let mut loose = judged.candidates(alloc, outside)?;
-    judged.bar_mentioned(alloc, loose.as_mut_slice())?;
-    sift(alloc, judged, facts, admitted, loose)
 }
 
 /// What the tables get for the methods of a program that are made static, none where there are none.
@@ -53,20 +37,19 @@ fn plan<'a>(
     facts: &'a Facts,
     outside: &Outside,
     admitted: &'a Admitted,
-) -> Result<Option<Additions>, AllocError>
+) -> Result<Option<Growth>, AllocError>
     ensures planned { is_well_formed program.now ≡ true → IsResolved program.now hierarchy.now → IfOk result (IsPlanned program.now facts.now outside.now admitted.now.methods.items) }
-    ensures some { IfOk result (λ found. IfSome found (λ a. 0 < count_by is_some a.given.items)) }
+    ensures some { IfOk result (λ found. IfSome found (λ g. 0 < count_by is_some g.given.items)) }
 {
     if !outside.optimise {
         return Ok(None);
     }
-    let judged = Judged { program, hierarchy };
-    let loose = sieve(alloc, &judged, facts, outside, admitted)?;
-    let additions = judged.add_protos(alloc, loose.as_slice())?;
-    if count_given(additions.given.as_slice()) == 0 {
+    let loose = find(alloc, program, hierarchy, facts, outside, admitted)?;
+    let growth = grow(alloc, program, loose.as_slice())?;
+    if count_given(growth.given.as_slice()) == 0 {
         return Ok(None);
     }
-    Ok(Some(additions))
+    Ok(Some(growth))
 }
 
 /// Gives a method number its new proto.
@@ -98,34 +81,21 @@ fn give_protos(names: &mut [MethodName], protos: &[Option<u32>])
 }
 
 /// Appends what the tables get.
-fn append(program: &mut Program, additions: Additions) -> Result<(), AllocError>
-    ensures { (p : Program) (t : Tables) → IsGrown p t additions → program.old.strings ≡ p.strings → program.old.protos ≡ p.protos → OnOk result (program.new ≡ extended t program.old) }
+fn append(program: &mut Program, growth: Growth) -> Result<(), AllocError>
+    ensures { (p : Program) (t : Tables) → IsGrowth p t growth → program.old.strings ≡ p.strings → program.old.protos ≡ p.protos → OnOk result (program.new ≡ extended t program.old) }
 {
     give_protos(
         program.methods.items.as_mut_slice(),
-        additions.given.as_slice(),
+        growth.given.as_slice(),
     );
-    let Additions {
-        mut new_strings,
-        mut new_protos,
+    let Growth {
+        mut strings,
+        mut protos,
         ..
-    } = additions;
-    program.strings.items.append(&mut new_strings)?;
-    program.protos.items.append(&mut new_protos)?;
+    } = growth;
+    program.strings.items.append(&mut strings)?;
+    program.protos.items.append(&mut protos)?;
     Ok(())
-}
-
-/// For each method number the method made static that it resolves to.
-fn targets_of(
-    alloc: Global,
-    program: &Program,
-    hierarchy: &Hierarchy,
-    given: &[Option<u32>],
-) -> Result<Vec<Option<u32>>, AllocError>
-    ensures { is_well_formed program.now ≡ true → IsResolved program.now hierarchy.now → IfOk result (λ targets. AreTargets program.now given.now targets.items) }
-{
-    let judged = Judged { program, hierarchy };
-    judged.targets(alloc, given)
 }
 
 /// Makes the methods of a program static that get new protos.
@@ -133,18 +103,18 @@ fn write(
     alloc: Global,
     program: &mut Program,
     hierarchy: &Hierarchy,
-    additions: Additions,
+    growth: Growth,
 ) -> Result<(), AllocError>
-    ensures { (t : Tables) → is_well_formed program.old ≡ true → IsResolved program.old hierarchy.now → IsGrown program.old t additions → OnOk result (IsLoosenedBy program.old t program.new) }
+    ensures { (t : Tables) → is_well_formed program.old ≡ true → IsResolved program.old hierarchy.now → IsGrowth program.old t growth → OnOk result (IsLoosenedBy program.old t program.new) }
 {
-    let targets = targets_of(alloc, program, hierarchy, additions.given.as_slice())?;
+    let targets = targets(alloc, program, hierarchy, growth.given.as_slice())?;
     let loosening = Loosening {
         hierarchy,
-        given: additions.given.as_slice(),
+        given: growth.given.as_slice(),
         targets: targets.as_slice(),
     };
     loosening.loosen(alloc, program)?;
-    append(program, additions)
+    append(program, growth)
 }
 
 /// Makes the loose methods of a program static, and their calls, in place. The hierarchy is that of the program's classes, the
@@ -168,9 +138,9 @@ pub fn apply(
     let mut program = program;
     let origins = Seq::new(alloc);
     match plan(alloc, &program, hierarchy, facts, outside, admitted)? {
-        Some(additions) => {
-            let count = count_given(additions.given.as_slice());
-            write(alloc, &mut program, hierarchy, additions)?;
+        Some(growth) => {
+            let count = count_given(growth.given.as_slice());
+            write(alloc, &mut program, hierarchy, growth)?;
             Ok(Changed {
                 program,
                 count,

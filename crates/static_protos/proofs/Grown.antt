@@ -1,6 +1,6 @@
 -- The tables with one method more.
 use Rattle.std.proofs.Common.{◌≡◌, ◌⊎◌, inl, inr, ℕ, zero, suc, ◌+◌, ◌<◌, ◌≤◌, ◌^◌, Bool, true, false, true≢false, nat_eq, List, [], ◌∷◌, ◌++◌, map, length, get_or, take, Option, Some, None, refl, sym, ap, ◌∙◌, subst, arith}
-use Rattle.std.specs.Prelude.{◌&&◌, ◌||◌, not, cond, is_some, nat_le, nat_lt, position, slice_get, slice_set, sum_by, Vec}
+use Rattle.std.specs.Prelude.{◌&&◌, ◌||◌, not, cond, is_some, nat_le, nat_lt, position, replicate, slice_get, slice_set, sum_by, Vec}
 use Rattle.std.specs.List.{list_any}
 use Rattle.std.specs.Option.{option_map}
 use Rattle.std.specs.declared.alloc.Global.{Global}
@@ -12,15 +12,19 @@ use Rattle.program_model.specs.declared.pools.Proto.{Proto}
 use Rattle.program_model.specs.declared.program.Class.{Class}
 use Rattle.program_model.specs.declared.program.Method.{Method}
 use Rattle.program_model.specs.declared.program.Program.{Program}
+use Rattle.program_model.specs.Cells.{capped}
 use Rattle.program_model.specs.Distinct.{proto_key}
+use Rattle.program_model.specs.Items.{items_of}
+use Rattle.program_model.specs.ProgramRules.{is_well_formed}
+use Rattle.static_protos.proofs.Formed.{few_units, few_items, few_strings, few_protos}
 use Rattle.class_defs.proofs.Positions.{position_step}
 use Rattle.class_defs.proofs.WellFormed.{below}
 use Rattle.std.proofs.lemmas.Bool.{leb-true}
 use Rattle.static_protos.specs.declared.tables.Additions.{Additions}
 use Rattle.static_protos.specs.declared.tables.Wanted.{Wanted}
 use Rattle.std.specs.HashSet.{contains_by}
-use Rattle.static_protos.specs.Growing.{same_pair, texts_in, keys_in, units_more, items_more, IsGrown, grown_method, grown_methods, grown_classes}
-use Rattle.static_protos.specs.Tables.{Tables, same_text, text_place, proto_place, is_proto, texts_with, protos_with, place_or, proto_of, text_at, proto_at, strings_with, items_with, is_taken, has_room, with_new, proto_more}
+use Rattle.static_protos.specs.Growing.{same_pair, is_pair, texts_in, keys_in, units_more, items_more, IsGrown, grown_method, grown_methods, grown_classes}
+use Rattle.static_protos.specs.Tables.{Tables, tables_of, same_text, text_place, proto_place, is_proto, texts_with, protos_with, place_or, proto_of, text_at, proto_at, strings_with, items_with, is_taken, has_room, with_new, proto_more}
 
 -- ---- places
 
@@ -55,6 +59,54 @@ module _ (p : Program) (t : Tables) (a : Additions) (g : IsGrown p t a) (w : Wan
   pub proto_room : position (λ (v : Vec ℕ Global). pointwise nat_eq (w.result ∷ w.parameters) v.items) a.keys.keys ≡ proto_at t w
   proto_room = sym (position_map (λ (v : Vec ℕ Global). v.items) (pointwise nat_eq (w.result ∷ w.parameters)) a.keys.keys)
       ∙ ap (position (pointwise nat_eq (w.result ∷ w.parameters))) g.keys ∙ position_map proto_key (pointwise nat_eq (w.result ∷ w.parameters)) t.protos
+
+-- ---- nothing is appended yet
+
+length_map : (vs : List (Vec ℕ Global)) → length (map (λ v. v.items) vs) ≡ length vs
+length_map [] = refl
+length_map (v ∷ vs) = ap suc (length_map vs)
+
+nothing_more : {X : Type 0} (xs : List X) → xs ≡ xs ++ []
+nothing_more [] = refl
+nothing_more (x ∷ xs) = ap (λ l. x ∷ l) (nothing_more xs)
+
+few_capped : (n : ℕ) → n ≤ 16777216 → capped n ≡ n
+few_capped n le = omega (arith, le)
+
+pub grown_first : (p : Program) (a : Additions) → is_well_formed p ≡ true → a.new_strings.items ≡ [] → a.new_protos.items ≡ [] → a.given.items ≡ replicate (length p.methods) None → texts_in a ≡ p.strings → keys_in a ≡ map proto_key p.protos
+    → ((name proto : ℕ) → contains_by (same_pair (name, proto)) a.names ≡ list_any (is_pair name proto) p.methods) → a.units ≡ capped (sum_by length p.strings) → a.items ≡ capped (items_of p) → IsGrown p (tables_of p) a
+grown_first p a wf strings protos given texts keys names units items = record {
+  strings = nothing_more p.strings ∙ ap (λ xs. p.strings ++ xs) (sym strings);
+  protos = nothing_more p.protos ∙ ap (λ xs. p.protos ++ xs) (sym protos);
+  given = sym given;
+  texts = texts;
+  keys = keys;
+  names = names;
+  units = units ∙ few_capped (sum_by length p.strings) (few_units p wf);
+  items = items ∙ few_capped (items_of p) (few_items p wf);
+  few_units = few_units p wf;
+  few_items = few_items p wf;
+  few_strings = few_strings p wf;
+  few_protos = few_protos p wf;
+}
+
+-- how long the tables are
+pub texts_long : (p : Program) (t : Tables) (a : Additions) → IsGrown p t a → length a.texts.keys ≡ length t.strings
+texts_long p t a g = sym (length_map a.texts.keys) ∙ ap length g.texts
+
+pub keys_long : (p : Program) (t : Tables) (a : Additions) → IsGrown p t a → length a.keys.keys ≡ length t.protos
+keys_long p t a g = sym (length_map a.keys.keys) ∙ ap length g.keys ∙ protos_long t.protos
+  where
+    protos_long : (xs : List Proto) → length (map proto_key xs) ≡ length xs
+    protos_long [] = refl
+    protos_long (x ∷ xs) = ap suc (protos_long xs)
+
+-- the tests of room, as they are made
+pub room_is : (a b c d e : Bool) → (a && (b && c) && (d && e)) ≡ (a && b && c && d && e)
+room_is true true true d e = refl
+room_is true true false d e = refl
+room_is true false c d e = refl
+room_is false b c d e = refl
 
 -- ---- what is appended
 

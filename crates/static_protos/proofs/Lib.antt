@@ -1,4 +1,5 @@
 pub mod Formed
-mod Grown
+pub mod Grown
 mod Sets
 pub mod Behind
+pub mod Soundly

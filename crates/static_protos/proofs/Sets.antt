@@ -1,6 +1,6 @@
 -- Sets of the entries of tables, which are in the order of these.
 use Rattle.std.proofs.Common.{◌≡◌, ◌⊎◌, inl, inr, ℕ, zero, suc, ◌+◌, ◌<◌, Bool, true, false, true≢false, nat_eq, List, [], ◌∷◌, ◌++◌, map, length, get_or, take, Option, Some, None, refl, sym, ap, ◌∙◌}
-use Rattle.std.specs.Prelude.{◌||◌, slice_get, if◌then◌else◌, Vec}
+use Rattle.std.specs.Prelude.{◌&&◌, ◌||◌, slice_get, if◌then◌else◌, Vec}
 use Rattle.std.specs.List.{list_any}
 use Rattle.std.specs.declared.alloc.Global.{Global}
 use Rattle.std.specs.Cmp.Lexicographic.{pointwise, nat_list_eq_equiv}
@@ -9,7 +9,10 @@ use Rattle.std.proofs.lemmas.List.Folds.{list_any-append}
 use Rattle.std.proofs.lemmas.Option.{slice_get-get_or}
 use Rattle.lemmas.proofs.Bools.{or_cases}
 use Rattle.lemmas.proofs.Lists.{map_append}
-use Rattle.program_model.specs.Distinct.{same_entry, differ_from, all_differ}
+use Rattle.program_model.specs.Distinct.{same_entry, differ_from, all_differ, text_key}
+use Rattle.program_model.specs.declared.pools.MethodName.{MethodName}
+use Rattle.class_defs.proofs.Positions.{number_of, number_test, same_test}
+use Rattle.static_protos.specs.Growing.{is_pair, same_pair}
 
 or_left : (a b : Bool) → (a || b) ≡ false → a ≡ false
 or_left true b e = e
@@ -64,7 +67,26 @@ set_more {X} key xs i y old new v lt is differ same was e =
     ∙ (sym (map_append key (take i xs) (y ∷ []))
     ∙ ap (map key) (sym (take_more xs i y lt ∙ ap (λ z. take i xs ++ z ∷ []) (sym is)))))))
 
+map_same : (xs : List (List ℕ)) → map text_key xs ≡ xs
+map_same [] = refl
+map_same (x ∷ xs) = ap (λ l. x ∷ l) (map_same xs)
+
+pub texts_more : (xs : List (List ℕ)) (i : ℕ) (y : List ℕ) (old new : List (Vec ℕ Global)) (v : Vec ℕ Global) → i < length xs → y ≡ get_or xs i y → all_differ text_key xs ≡ true → v.items ≡ y → map (λ v. v.items) old ≡ take i xs
+    → new ≡ (if list_any (λ w. pointwise nat_eq v.items w.items) old then old else old ++ v ∷ []) → map (λ v. v.items) new ≡ take (i + 1) xs
+texts_more xs i y old new v lt is differ same was e = set_more text_key xs i y old new v lt is differ same (was ∙ sym (map_same (take i xs))) e ∙ map_same (take (i + 1) xs)
+
 -- ---- names and protos
+
+-- by the number that stands on the other side
+pub turned_pair : (name proto : ℕ) (m : MethodName) → same_pair (name, proto) (m.name, m.proto) ≡ is_pair name proto m
+turned_pair name proto m = ap (λ b. b && nat_eq proto m.proto) (turned_eq name m.name) ∙ ap (λ b. nat_eq m.name name && b) (turned_eq proto m.proto)
+  where
+    turned_eq : (a b : ℕ) → nat_eq a b ≡ nat_eq b a
+    turned_eq a b = same_test (nat_eq a b) (nat_eq b a) (λ e. number_test b a (sym (number_of a b e))) (λ e. number_test a b (sym (number_of b a e)))
+
+pub names_are : (name proto : ℕ) (ms : List MethodName) → list_any (λ (m : MethodName). same_pair (name, proto) (m.name, m.proto)) ms ≡ list_any (is_pair name proto) ms
+names_are name proto [] = refl
+names_are name proto (m ∷ ms) = ap (λ b. b || list_any (λ (m : MethodName). same_pair (name, proto) (m.name, m.proto)) ms) (turned_pair name proto m) ∙ ap (λ b. is_pair name proto m || b) (names_are name proto ms)
 
 -- the pairs in a set are those of a list
 pub pairs_more : {X P : Type 0} (test : P → Bool) (eq : P → P → Bool) (pair : X → P) (xs : List X) (i : ℕ) (y : X) (old new : List P) → ((a b : P) → eq a b ≡ true → test b ≡ test a) → i < length xs → y ≡ get_or xs i y

@@ -8,11 +8,11 @@ use Rattle.program_model.specs.declared.pools.Proto.{Proto}
 use Rattle.program_model.specs.declared.program.Class.{Class}
 use Rattle.program_model.specs.declared.program.Method.{Method}
 use Rattle.program_model.specs.declared.program.Program.{Program}
-use Rattle.program_model.specs.Distinct.{proto_key}
+use Rattle.program_model.specs.Distinct.{all_differ, text_key, proto_key}
 use Rattle.static_protos.specs.declared.tables.Additions.{Additions}
 use Rattle.static_protos.specs.declared.growth.Growth.{Growth}
 use Rattle.static_protos.specs.declared.tables.Wanted.{Wanted}
-use Rattle.static_protos.specs.Tables.{Tables, tables_of, wanted, has_room, with_new, proto_more, marks_more}
+use Rattle.static_protos.specs.Tables.{Tables, tables_of, shorty, wanted, has_room, with_new, proto_more, marks_more}
 
 -- ---- tables that have grown
 
@@ -22,6 +22,16 @@ pub record AreBehind (t u : Tables) : Type 0 where
   pub strings : u.strings ≡ t.strings ++ texts
   pub new : List Proto
   pub protos : u.protos ≡ t.protos ++ new
+
+-- Tables of a program that keep the limits of files, have no entry twice, and have the short form of each proto.
+pub record AreSound (p : Program) (t : Tables) : Type 0 where
+  pub units : sum_by length t.strings ≤ 16777216
+  pub items : t.items ≤ 16777216
+  pub few_strings : length t.strings < 2 ^ 32
+  pub few_protos : length t.protos ≤ 65535
+  pub texts : all_differ text_key t.strings ≡ true
+  pub keys : all_differ proto_key t.protos ≡ true
+  pub shorties : (n : ℕ) (x : Proto) → slice_get t.protos n ≡ Some x → slice_get t.strings x.shorty ≡ Some (shorty p x.result x.parameters)
 
 -- ---- methods in turn, of which some are marked
 

@@ -6,3 +6,4 @@ pub mod Made
 pub mod Called
 pub mod Falls
 pub mod Fresh
+pub mod Limits

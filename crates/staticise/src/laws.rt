@@ -5,6 +5,7 @@ ghost use Rattle.program_model.specs.ProgramRules.{is_well_formed};
 ghost use Rattle.program_model.specs.declared.pass.Outside.{Outside};
 ghost use Rattle.program_model.specs.declared.program.Program.{Program};
 ghost use Rattle.facts.specs.declared.facts.Facts.{Facts};
+ghost use Rattle.static_protos.specs.Growing.{AreSound};
 ghost use Rattle.staticise.specs.Judging.{judged};
 ghost use Rattle.staticise.specs.Made.{AreMade, IsFresh, WasLoose};
 ghost use Rattle.staticise.specs.Called.{AreKnown, IsUntouched};
@@ -29,4 +30,9 @@ pub fn fresh_law()
 /// The code of a method that may not be rewritten stays.
 pub fn untouched_law()
     ensures { (p : Program) (facts : Facts) (o : Outside) (admitted : List Bool) → IsUntouched p admitted (judged p facts o admitted) }
+{}
+
+/// The tables that come keep the limits of files, have no entry twice, and have the short form of each proto.
+pub fn sound_law()
+    ensures { (p : Program) (facts : Facts) (o : Outside) (admitted : List Bool) → is_well_formed p ≡ true → AreSound p (judged p facts o admitted) }
 {}

@@ -3,4 +3,4 @@ use Rattle.program_model.specs.Distinct.{all_differ, text_key}
 use Rattle.static_protos.proofs.tables.texts_of.Given as goal
 
 abbrev pub invariant-loop-text : goal.invariant-loop-text
-invariant-loop-text l = all_differ text_key l.strings ≡ true → map (λ v. v.items) l.texts.keys ≡ map text_key (take l.text-index l.strings)
+invariant-loop-text l = all_differ text_key l.strings ≡ true → map (λ v. v.items) l.texts.keys ≡ take l.text-index l.strings

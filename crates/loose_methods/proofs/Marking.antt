@@ -1,5 +1,5 @@
 -- Methods that are marked, class by class and method by method.
-use Rattle.std.proofs.Common.{◌≡◌, ◌⊎◌, inl, inr, ℕ, ◌+◌, ◌<◌, ◌≤◌, Bool, true, false, List, length, replicate, Some, None, Option, refl, sym, ap, ◌∙◌, subst, arith, true≢false}
+use Rattle.std.proofs.Common.{◌≡◌, ◌⊎◌, inl, inr, ℕ, ◌+◌, ◌<◌, ◌≤◌, Bool, true, false, List, nat_eq, length, replicate, Some, None, Option, refl, sym, ap, ◌∙◌, subst, arith, true≢false}
 use Rattle.std.specs.Prelude.{◌&&◌, ◌||◌, not, is_some, slice_get, slice_set, cond}
 use Rattle.std.specs.List.{list_any}
 use Rattle.std.proofs.lemmas.Bool.{cases_lt}
@@ -15,9 +15,9 @@ use Rattle.program_model.specs.declared.program.Method.{Method}
 use Rattle.program_model.specs.declared.program.Program.{Program}
 use Rattle.loose_methods.specs.Loose.{is_alone}
 use Rattle.loose_methods.specs.Candidates.{is_plain_class, takes_receiver, is_kept, is_candidate}
-use Rattle.loose_methods.specs.Marking.{is_on, tested, IsTable, IsCandidate}
+use Rattle.loose_methods.specs.Marking.{is_on, tested, turned_on, IsTable, IsCandidate}
 use Rattle.loose_methods.specs.Asked.{MarksClass, CandidatesTo, AreCandidates}
-use Rattle.loose_methods.proofs.Marks.{set_long, set_on, set_stays, set_from, none_on, replicate_long}
+use Rattle.loose_methods.proofs.Marks.{set_long, set_on, set_stays, set_from, none_on, replicate_long, turned_at, turned_long}
 
 module _ (p : Program) (o : Outside) (place : ℕ) (k : Class) (kept : List Bool) (plain : is_plain_class p place k ≡ true) (table : IsTable (length p.methods) (is_kept o) kept) where
   kept_same : (m : Method) (q : MethodName) → slice_get p.methods m.name ≡ Some q → is_on kept m.name ≡ is_kept o m.name
@@ -113,6 +113,14 @@ no_candidates p o place k old new is_class no e = subst (λ x. MarksClass p o pl
   where
     plain : (c : Class) (q : MethodName) (m : Method) → is_candidate p o place c q m ≡ true → is_plain_class p place c ≡ true
     plain c q m x = and_left (is_plain_class p place c) (takes_receiver p q m) (and_left (is_plain_class p place c && takes_receiver p q m) (not (is_kept o m.name)) (and_left (is_plain_class p place c && takes_receiver p q m && not (is_kept o m.name)) (is_direct p m || is_alone p q place) x))
+
+-- ---- kept methods
+
+pub kept_table : (size : ℕ) (o : Outside) (marks : List Bool) → marks ≡ turned_on (replicate size false) o.methods → IsTable size (is_kept o) marks
+kept_table size o marks e = record {
+  long = ap length e ∙ (turned_long (replicate size false) o.methods ∙ replicate_long size);
+  are = λ n lt. ap (λ l. is_on l n) e ∙ (turned_at (replicate size false) o.methods n (let l = replicate_long size in omega (arith, l, lt)) ∙ ap (λ b. b || list_any (nat_eq n) o.methods) (none_on size n));
+}
 
 -- ---- all classes
 

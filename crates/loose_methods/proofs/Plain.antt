@@ -240,3 +240,8 @@ module _ (p : Program) (h : Hierarchy) (wf : is_well_formed p ≡ true) (res : I
     | inl s ↦ subst (λ y. is_plain_call p y 0 call.Virtual called q ≡ false) s (f (subst (λ y. is_on marks y ≡ true) (sym s) m))
     | inr k ↦ plain_static n m (ap (is_this n) e ∙ differ_test x n k)
   ]
+
+  -- what is known of the one that is found
+  pub plain_known : (x : ℕ) → number_found p (finds_static p called) ≡ Some x → (b : Bool) → b ≡ is_plain_call p x 0 call.Virtual called q → KeepsPlain p marks called q b
+  plain_known x e true f = (x, sym f)
+  plain_known x e false f = one_plain x e (λ m. sym f)

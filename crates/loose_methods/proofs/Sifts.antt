@@ -1,6 +1,6 @@
 -- What each kind of call leaves of the marked methods.
 use Rattle.std.proofs.Common.{◌≡◌, ◌⊎◌, inl, inr, ℕ, zero, suc, ◌+◌, ◌<◌, ◌≤◌, Bool, true, false, true≢false, nat_eq, List, [], ◌∷◌, ◌++◌, length, take, Option, Some, None, refl, sym, ap, ◌∙◌, subst, arith}
-use Rattle.std.specs.Prelude.{◌&&◌, ◌||◌, is_some, not, slice_get, slice_set, cond, if◌then◌else◌}
+use Rattle.std.specs.Prelude.{◌&&◌, ◌||◌, is_some, not, replicate, slice_get, slice_index_or, slice_set, cond, if◌then◌else◌}
 use Rattle.std.specs.List.{list_any, list_all}
 use Rattle.insn_set.specs.declared.ops.InvokeKind.TheVariants as call
 use Rattle.std.proofs.lemmas.List.Folds.{list_any-append}
@@ -20,14 +20,16 @@ use Rattle.hierarchy.specs.Ranks.{IsRanked}
 use Rattle.hierarchy.specs.Shapes.{IsResolved}
 use Rattle.hierarchy.specs.declared.build.Hierarchy.{Hierarchy}
 use Rattle.receivers.specs.Receiving.{interface_at}
+use Rattle.facts.specs.declared.facts.Facts.{Facts}
+use Rattle.insn_set.specs.declared.ops.InvokeKind.{InvokeKind}
 use Rattle.loose_methods.specs.declared.calls.Marks.{Marks}
-use Rattle.loose_methods.specs.Loose.{number_at, number_found, is_this, is_it, names_it, named_by, resolves_to, is_subclass, found_by, is_nothing, super_candidates, may_find, misses, may_leave, concerns, is_plain_call}
+use Rattle.loose_methods.specs.Loose.{allows_by, has_receiver, number_at, number_found, is_this, is_it, names_it, named_by, resolves_to, is_subclass, found_by, is_nothing, super_candidates, may_find, misses, may_leave, concerns, is_plain_call}
 use Rattle.loose_methods.specs.Marking.{is_on, IsCandidate}
-use Rattle.loose_methods.specs.Sifting.{number_searched, is_clear, same_some, HasCandidates, Keeps, IsSifted, Sifts, allows_so}
+use Rattle.loose_methods.specs.Sifting.{number_searched, is_clear, same_some, HasCandidates, Keeps, IsSifted, Sifts, allows_so, allows_entry}
 use Rattle.loose_methods.proofs.Bars.{keeps_all, keeps_one, keeps_both, keeps_same, kept_on, candidates_kept}
 use Rattle.loose_methods.proofs.Found.{here, itself, coded, method_here, other_than, static_is, static_same, so_static, resolves_static}
 use Rattle.loose_methods.proofs.Given.{Has, among_has, clash_one, super_given, no_method, all_methods, has_right}
-use Rattle.loose_methods.proofs.Marks.{same_or, differ_test, and_true, set_from}
+use Rattle.loose_methods.proofs.Marks.{same_or, differ_test, and_true, set_from, none_on}
 
 -- ---- the state
 
@@ -51,6 +53,45 @@ sifts_same p o s t old new a h = record { sifted = a.sifted; keeps = keeps_same 
 
 pub sifts_none : (p : Program) (o : Outside) (test : ℕ → Bool) (old : Marks) → IsSifted p o old → ((n : ℕ) → is_on old.loose.items n ≡ true → test n ≡ true) → Sifts p o test old old
 sifts_none p o test old s h = record { sifted = s; keeps = keeps_all old.loose.items old.loose.items test h refl }
+
+-- the mark of a number is taken
+pub bar_sifts : (p : Program) (o : Outside) (number : Option ℕ) (old new : Marks) → IsSifted p o old → ((n : ℕ) → is_on new.loose.items n ≡ (is_on old.loose.items n && not (is_this n number))) → length new.loose.items ≡ length old.loose.items
+    → new ≡ record old { loose = new.loose } → Sifts p o (λ n. not (is_this n number)) old new
+bar_sifts p o number old new s are long rest = sifts p o (λ n. not (is_this n number)) old new s (keeps_one old.loose.items new.loose.items (λ n. not (is_this n number)) number are long (λ n m. refl))
+    (ap (λ (x : Marks). x.virtual_calls) rest) (ap (λ (x : Marks). x.interface_calls) rest)
+
+-- nothing is looked at yet
+pub sifted_first : (p : Program) (o : Outside) (m : Marks) (count : ℕ) → HasCandidates p o m.loose.items → m.virtual_calls.items ≡ replicate count false → m.interface_calls.items ≡ replicate count false → IsSifted p o m
+sifted_first p o m count c v i = record {
+  candidates = c;
+  virtuals = λ n called q e f g. absurd (true≢false (sym f ∙ (ap (λ x. is_on x called) v ∙ none_on count called)));
+  interfaces = λ n called q e f g. absurd (true≢false (sym f ∙ (ap (λ x. is_on x called) i ∙ none_on count called)));
+}
+
+-- nothing is marked
+pub none_kept : (test : ℕ → Bool) (marks : List Bool) → list_any (λ mark. mark) marks ≡ false → Keeps test marks marks
+none_kept test marks e = keeps_all marks marks test (λ n m. clash (list_any (λ mark. mark) marks) (some marks n m) e) refl
+  where
+    some : (ms : List Bool) (n : ℕ) → is_on ms n ≡ true → list_any (λ mark. mark) ms ≡ true
+    some [] n f = f
+    some (m ∷ ms) zero f = or_left m (list_any (λ mark. mark) ms) f
+    some (m ∷ ms) (suc n) f = or_right m (list_any (λ mark. mark) ms) (some ms n f)
+
+-- a call that is safe or isn't, by its instruction
+pub call_allows : (p : Program) (facts : Facts) (admitted : List Bool) (n caller method position : ℕ) (kind : InvokeKind) (called : ℕ) (args : List ℕ) (o : Option MethodName) (safe : Bool)
+    → safe ≡ (slice_index_or admitted method false && has_receiver facts method position kind args) → allows_entry p caller kind called o safe n ≡ allows_by p facts admitted n caller method position kind called args o
+call_allows p facts admitted n caller method position kind called args None safe e = refl
+call_allows p facts admitted n caller method position kind called args (Some q) safe e =
+    ap (λ b. not (concerns p n caller kind called q) || (b && is_plain_call p n caller kind called q)) e
+    ∙ by (concerns p n caller kind called q) (slice_index_or admitted method false) (is_plain_call p n caller kind called q) (has_receiver facts method position kind args)
+  where
+    by : (c a l r : Bool) → (not c || ((a && r) && l)) ≡ (not c || (a && l && r))
+    by false a l r = refl
+    by true true true true = refl
+    by true true true false = refl
+    by true true false true = refl
+    by true true false false = refl
+    by true false l r = refl
 
 -- the virtual calls of a number are looked at
 pub sifts_virtual : (p : Program) (o : Outside) (called : ℕ) (q : MethodName) (old new : Marks) → slice_get p.methods called ≡ Some q → IsSifted p o old → Keeps (λ n. is_clear p n called q) old.loose.items new.loose.items

@@ -229,6 +229,16 @@ module _ (p : Program) (q : MethodName) (c : ℕ) (under : List ℕ) (a : AreUnd
   kept_is = same_test (list_any test (definers_of p q.name q.proto)) (has_rival p q c || is_in_interface p q c) kept_so
       (λ e. elim (or_cases (has_rival p q c) (is_in_interface p q c) e) [ inl f ↦ rival_met f | inr f ↦ face_met f ])
 
+-- a definer that keeps it so, among some classes
+abbrev pub kept_of : Program → MethodName → ℕ → List ℕ → List ℕ → Bool
+kept_of p q c under xs = list_any (λ u. keeps_from p q c u && list_any (λ d. is_under p d u) under) xs
+
+-- definers are classes of the program
+pub definers_short : (p : Program) (q : MethodName) (xs : List ℕ) → xs ≡ definers_of p q.name q.proto → (k c : ℕ) → slice_get xs k ≡ Some c → c < length p.classes
+definers_short p q xs e k c f =
+    let i = in_filter (λ d. is_some (own_method p q.name q.proto d)) (range_with_len 0 (length p.classes)) c (at_in (definers_of p q.name q.proto) k c (ap (λ l. slice_get l k) (sym e) ∙ f)) in
+    place_of p c i.0
+
 -- by its three parts
 pub alone_is : (p : Program) (q : MethodName) (c : ℕ) (outward common kept : Bool) → outward ≡ has_outward p c → common ≡ is_common p q.name q.proto → kept ≡ (has_rival p q c || is_in_interface p q c)
     → (not outward && not common && not kept) ≡ is_alone p q c

@@ -1,6 +1,6 @@
 //! Which methods calls leave loose.
 
-ghost use Rattle.std.specs.Prelude.{◌≡◌, ◌<◌, ◌^◌, ◌&&◌, ◌||◌, ℕ, Some, not, true, false, length, slice_get, flat_map, IfOk, OnOk};
+ghost use Rattle.std.specs.Prelude.{◌≡◌, ◌<◌, ◌^◌, ◌&&◌, ◌||◌, ℕ, Some, not, true, false, length, slice_get, slice_index_or, flat_map, IfOk, OnOk};
 ghost use Rattle.std.specs.List.{list_any, list_all};
 ghost use Rattle.insn_set.specs.declared.ops.InvokeKind.TheVariants as invoke;
 ghost use Rattle.program_model.specs.declared.pools.MethodName.{MethodName};
@@ -9,9 +9,10 @@ ghost use Rattle.program_model.specs.declared.program.Class.{Class};
 ghost use Rattle.call_targets.specs.Bound.{target_found};
 ghost use Rattle.class_defs.specs.Finding.{Search, finds_static, finds_super, finds_virtual};
 ghost use Rattle.class_defs.specs.Members.{own_virtual};
+ghost use Rattle.program_model.specs.Lookups.{class_place};
 ghost use Rattle.hierarchy.specs.Naming.{IsKey};
 ghost use Rattle.receivers.specs.Receiving.{is_at};
-ghost use Rattle.loose_methods.specs.Loose.{number_found, is_this, names_it, is_it, is_plain_call, concerns, knows_not_null, has_receiver, allows, all_allow, code_allows, methods_allow, classes_allow, calls_allow};
+ghost use Rattle.loose_methods.specs.Loose.{is_not_null, number_at, number_found, is_this, names_it, is_it, is_plain_call, concerns, knows_not_null, has_receiver, allows, all_allow, code_allows, methods_allow, classes_allow, calls_allow};
 ghost use Rattle.loose_methods.specs.Marking.{is_on, IsCandidate};
 ghost use Rattle.loose_methods.specs.Asked.{IsJudged};
 ghost use Rattle.loose_methods.specs.Sifting.{number_searched, is_met_by, find_met, is_found, is_clear, HasCandidates, Keeps, KeepsUnfound, KeepsPlain, IsSifted, Sifts, unfound_in, same_some, allows_so, allows_entry, IsShortCode, AreShortCodes};
@@ -82,6 +83,17 @@ fn is_same(one: Option<u32>, other: Option<u32>) -> bool
     }
 }
 
+/// Whether a value is known as not null, or is none.
+fn is_not_null(nullness: Nullness) -> bool
+    ensures { result ≡ is_not_null nullness }
+{
+    match nullness {
+        Nullness::Bottom => true,
+        Nullness::NotNull => true,
+        _ => false,
+    }
+}
+
 impl Marks {
     /// Takes the mark of a method number, if there is one.
     fn bar(&mut self, number: Option<u32>)
@@ -110,7 +122,8 @@ impl<'a> Judged<'a> {
     {
         match target {
             Target::One(at) => self.number_at(at),
-            Target::Nothing | Target::Clash => None,
+            Target::Nothing => None,
+            Target::Clash => None,
         }
     }
 
@@ -149,8 +162,10 @@ impl<'a> Judged<'a> {
         ensures { let p = self.now.program.now in (q : MethodName) → IsJudged self.now → IsKey p self.now.hierarchy.now key q.name q.proto → kind ≡ q.class
             → class < length p.classes → result ≡ find_met p q at class }
     {
-        self.is_met_by(kind, class)
-            && is_at(at, self.hierarchy.find_virtual(self.program, class, key))
+        if !self.is_met_by(kind, class) {
+            return false;
+        }
+        is_at(at, self.hierarchy.find_virtual(self.program, class, key))
     }
 
     /// Whether an object of one of some classes on which a call may be made finds a method.
@@ -179,6 +194,24 @@ impl<'a> Judged<'a> {
         true
     }
 
+    /// Whether a virtual call that names a candidate through the class at a place, under the candidate's, finds it alone.
+    fn is_plain_under(
+        &self,
+        alloc: Global,
+        upper: u32,
+        called: u32,
+        at: MethodAt,
+    ) -> Result<bool, AllocError>
+        ensures { let p = self.now.program.now in (q : MethodName) → IsJudged self.now → slice_get p.methods called ≡ Some q → finds_static p called ≡ Some at → class_place p q.class ≡ Some upper
+            → (o : Outside) (n : ℕ) → IsCandidate p o n → is_it p n at ≡ true → IfOk result (λ b. b ≡ is_plain_call p n 0 invoke.Virtual called q) }
+    {
+        if self.is_interface(upper) {
+            return Ok(false);
+        }
+        let under = self.under(alloc, upper)?;
+        Ok(self.find_all(under.as_slice(), self.hierarchy.key_of_method(called), at))
+    }
+
     /// Whether a virtual call that names a candidate through its class or one under that finds it alone.
     fn is_plain_virtual(
         &self,
@@ -190,15 +223,48 @@ impl<'a> Judged<'a> {
         ensures { let p = self.now.program.now in IsJudged self.now → slice_get p.methods called ≡ Some name.now → finds_static p called ≡ Some at
             → (o : Outside) (n : ℕ) → IsCandidate p o n → is_it p n at ≡ true → IfOk result (λ b. b ≡ is_plain_call p n 0 invoke.Virtual called name.now) }
     {
-        let upper = match self.hierarchy.place_of(name.class) {
-            Some(upper) => upper,
-            None => return Ok(false),
-        };
-        if self.is_interface(upper) {
+        match self.hierarchy.place_of(name.class) {
+            Some(upper) => self.is_plain_under(alloc, upper, called, at),
+            None => Ok(false),
+        }
+    }
+
+    /// Whether a virtual call that finds the method of a number at a place, if it is marked, finds it alone.
+    fn keeps_number(
+        &self,
+        alloc: Global,
+        loose: &[bool],
+        called: u32,
+        name: &MethodName,
+        at: MethodAt,
+        number: u32,
+    ) -> Result<bool, AllocError>
+        ensures { let p = self.now.program.now in (o : Outside) → IsJudged self.now → slice_get p.methods called ≡ Some name.now → HasCandidates p o loose.now
+            → finds_static p called ≡ Some at → number_at p at ≡ Some number → IfOk result (λ b. KeepsPlain p loose.now called name.now b) }
+    {
+        if !is_on(loose, number) {
             return Ok(false);
         }
-        let under = self.under(alloc, upper)?;
-        Ok(self.find_all(under.as_slice(), self.hierarchy.key_of_method(called), at))
+        let plain = self.is_plain_virtual(alloc, called, name, at)?;
+        Ok(plain)
+    }
+
+    /// Whether a virtual call that finds the method at a place, if it is marked, finds it alone.
+    fn keeps_at(
+        &self,
+        alloc: Global,
+        loose: &[bool],
+        called: u32,
+        name: &MethodName,
+        at: MethodAt,
+    ) -> Result<bool, AllocError>
+        ensures { let p = self.now.program.now in (o : Outside) → IsJudged self.now → slice_get p.methods called ≡ Some name.now → HasCandidates p o loose.now
+            → finds_static p called ≡ Some at → IfOk result (λ b. KeepsPlain p loose.now called name.now b) }
+    {
+        match self.number_at(at) {
+            Some(number) => self.keeps_number(alloc, loose, called, name, at, number),
+            None => Ok(false),
+        }
     }
 
     /// Whether a virtual call of a method number names a marked method and finds it alone.
@@ -212,20 +278,36 @@ impl<'a> Judged<'a> {
         ensures { let p = self.now.program.now in (o : Outside) → IsJudged self.now → slice_get p.methods called ≡ Some name.now → HasCandidates p o loose.now
             → IfOk result (λ b. KeepsPlain p loose.now called name.now b) }
     {
-        let at = match self.hierarchy.find_static(self.program, called) {
-            Some(at) => at,
-            None => return Ok(false),
-        };
-        match self.number_at(at) {
-            Some(number) => {
-                if is_on(loose, number) {
-                    self.is_plain_virtual(alloc, called, name, at)
-                } else {
-                    Ok(false)
-                }
-            }
+        match self.hierarchy.find_static(self.program, called) {
+            Some(at) => self.keeps_at(alloc, loose, called, name, at),
             None => Ok(false),
         }
+    }
+
+    /// Takes the mark of the virtual method of a number at a place, if an object of a class under its class on which a call on a type
+    /// may be made finds it.
+    fn bar_number(
+        &self,
+        alloc: Global,
+        loose: &mut [bool],
+        kind: u32,
+        key: u32,
+        at: MethodAt,
+        number: u32,
+    ) -> Result<(), AllocError>
+        ensures { let p = self.now.program.now in (o : Outside) (q : MethodName) → IsJudged self.now → IsKey p self.now.hierarchy.now key q.name q.proto → kind ≡ q.class
+            → own_virtual p q.name q.proto at.class ≡ Some at → at.class < length p.classes → HasCandidates p o loose.old → number_at p at ≡ Some number
+            → OnOk result (KeepsUnfound p q at.class loose.old loose.new) }
+    {
+        if !is_on(loose, number) {
+            return Ok(());
+        }
+        let under = self.under(alloc, at.class)?;
+        if !self.find_met(under.as_slice(), kind, key, at) {
+            return Ok(());
+        }
+        bar(loose, Some(number));
+        Ok(())
     }
 
     /// Takes the mark of the virtual method at a place, if an object of a class under its class on which a call on a type may be made
@@ -242,18 +324,13 @@ impl<'a> Judged<'a> {
             → own_virtual p q.name q.proto at.class ≡ Some at → at.class < length p.classes → HasCandidates p o loose.old
             → OnOk result (KeepsUnfound p q at.class loose.old loose.new) }
     {
-        let number = match self.number_at(at) {
-            Some(number) => number,
-            None => return Ok(()),
-        };
-        if !is_on(loose, number) {
-            return Ok(());
+        match self.number_at(at) {
+            Some(number) => {
+                self.bar_number(alloc, loose, kind, key, at, number)?;
+                Ok(())
+            }
+            None => Ok(()),
         }
-        let under = self.under(alloc, at.class)?;
-        if self.find_met(under.as_slice(), kind, key, at) {
-            bar(loose, Some(number));
-        }
-        Ok(())
     }
 
     /// The same for the one that a class defines with a key.
@@ -269,7 +346,10 @@ impl<'a> Judged<'a> {
             → class < length p.classes → HasCandidates p o loose.old → OnOk result (KeepsUnfound p q class loose.old loose.new) }
     {
         match self.hierarchy.own_virtual(self.program, class, key) {
-            Some(at) => self.bar_own(alloc, loose, kind, key, at),
+            Some(at) => {
+                self.bar_own(alloc, loose, kind, key, at)?;
+                Ok(())
+            }
             None => Ok(()),
         }
     }
@@ -310,7 +390,8 @@ impl<'a> Judged<'a> {
             name.class,
             key,
             self.hierarchy.definers_of(key),
-        )
+        )?;
+        Ok(())
     }
 
     /// Takes the marks of the methods that a method number names, or that virtual or interface calls of it may find.
@@ -325,7 +406,8 @@ impl<'a> Judged<'a> {
             → OnOk result (Keeps (λ n. not (concerns p n 0 invoke.Interface called name.now)) loose.old loose.new) }
     {
         bar(loose, self.named(called));
-        self.bar_found(alloc, loose, called, name)
+        self.bar_found(alloc, loose, called, name)?;
+        Ok(())
     }
 
     /// Takes the marks of the methods that virtual calls of a method number keep from being loose in whatever method they stand.
@@ -339,10 +421,12 @@ impl<'a> Judged<'a> {
         ensures { let p = self.now.program.now in (o : Outside) → IsJudged self.now → slice_get p.methods called ≡ Some name.now → HasCandidates p o loose.old
             → OnOk result (Keeps (λ n. is_clear p n called name.now) loose.old loose.new) }
     {
-        if self.keeps_plain(alloc, loose, called, name)? {
+        let plain = self.keeps_plain(alloc, loose, called, name)?;
+        if plain {
             return Ok(());
         }
-        self.bar_concerned(alloc, loose, called, name)
+        self.bar_concerned(alloc, loose, called, name)?;
+        Ok(())
     }
 }
 
@@ -352,10 +436,7 @@ impl Sifter<'_> {
         ensures { result ≡ knows_not_null self.now.facts.now method position register }
     {
         match self.facts.at(method, position) {
-            Some(frame) => matches!(
-                frame.get(register).nullness(),
-                Nullness::Bottom | Nullness::NotNull
-            ),
+            Some(frame) => is_not_null(frame.get(register).nullness()),
             None => true,
         }
     }
@@ -373,6 +454,16 @@ impl Sifter<'_> {
         }
     }
 
+    /// Whether a call stands in a method that may be rewritten, and has a receiver that is known as not null.
+    fn is_safe(&self, method: u32, position: u32, kind: InvokeKind, args: &Words) -> bool
+        ensures { result ≡ (slice_index_or self.now.admitted.now method false && has_receiver self.now.facts.now method position kind args.now) }
+    {
+        if !is_on(self.admitted, method) {
+            return false;
+        }
+        self.has_receiver(method, position, kind, args)
+    }
+
     /// Looks at a static call.
     fn judge_static(&self, marks: &mut Marks, called: u32)
         ensures { let p = self.now.judged.program.now in (o : Outside) (q : MethodName) (caller : ℕ) → IsJudged self.now.judged → slice_get p.methods called ≡ Some q → IsSifted p o marks.old
@@ -386,7 +477,10 @@ impl Sifter<'_> {
     fn keeps_found(&self, call: &Call, found: Option<u32>) -> bool
         ensures { let p = self.now.judged.program.now in IsJudged self.now.judged → result ≡ (call.now.safe && same_some found (number_found p (finds_static p call.now.called))) }
     {
-        call.safe && is_same(found, self.judged.found_static(call.called))
+        if !call.safe {
+            return false;
+        }
+        is_same(found, self.judged.found_static(call.called))
     }
 
     /// Looks at a call that finds one method. Any other one that it names or finds isn't left loose.
@@ -396,10 +490,11 @@ impl Sifter<'_> {
         ensures above { let p = self.now.judged.program.now in (o : Outside) (q : MethodName) → IsJudged self.now.judged → slice_get p.methods call.now.called ≡ Some q → IsSifted p o marks.old
             → found ≡ number_searched p (finds_super p call.now.caller call.now.called) → Sifts p o (allows_so p call.now.caller invoke.Super call.now.called q call.now.safe) marks.old marks.new }
     {
-        if !self.keeps_found(call, found) {
-            marks.bar(self.judged.named(call.called));
-            marks.bar(found);
+        if self.keeps_found(call, found) {
+            return;
         }
+        marks.bar(self.judged.named(call.called));
+        marks.bar(found);
     }
 
     /// Looks at an interface call, which may always find a method of the framework.
@@ -447,9 +542,10 @@ impl Sifter<'_> {
         ensures { let p = self.now.judged.program.now in (o : Outside) → IsJudged self.now.judged → IsSifted p o marks.old
             → Sifts p o (λ n. safe || not (names_it p n called)) marks.old marks.new }
     {
-        if !safe {
-            marks.bar(self.judged.named(called));
+        if safe {
+            return;
         }
+        marks.bar(self.judged.named(called));
     }
 
     /// Looks at a virtual call.
@@ -499,9 +595,18 @@ impl Sifter<'_> {
                 self.judge_found(marks, call, self.judged.found_static(call.called));
                 Ok(())
             }
-            InvokeKind::Super => self.judge_super(alloc, marks, call),
-            InvokeKind::Virtual => self.judge_virtual(alloc, marks, call, name),
-            InvokeKind::Interface => self.judge_interface(alloc, marks, call, name),
+            InvokeKind::Super => {
+                self.judge_super(alloc, marks, call)?;
+                Ok(())
+            }
+            InvokeKind::Virtual => {
+                self.judge_virtual(alloc, marks, call, name)?;
+                Ok(())
+            }
+            InvokeKind::Interface => {
+                self.judge_interface(alloc, marks, call, name)?;
+                Ok(())
+            }
         }
     }
 
@@ -517,7 +622,10 @@ impl Sifter<'_> {
             .as_slice()
             .get(call.called as usize)
         {
-            Some(name) => self.judge_named(alloc, marks, call, name),
+            Some(name) => {
+                self.judge_named(alloc, marks, call, name)?;
+                Ok(())
+            }
             None => Ok(()),
         }
     }
@@ -536,15 +644,14 @@ impl Sifter<'_> {
     {
         match insn {
             Insn::Invoke { kind, method, args } => {
-                let safe = is_on(self.admitted, at.number)
-                    && self.has_receiver(at.number, position, *kind, args);
                 let call = Call {
                     caller: at.class,
                     kind: *kind,
                     called: *method,
-                    safe,
+                    safe: self.is_safe(at.number, position, *kind, args),
                 };
-                self.judge(alloc, marks, &call)
+                self.judge(alloc, marks, &call)?;
+                Ok(())
             }
             _ => Ok(()),
         }
@@ -583,7 +690,10 @@ impl Sifter<'_> {
             number: method.name,
         };
         match &method.body {
-            Some(body) => self.judge_insns(alloc, marks, at, body.insns.as_slice()),
+            Some(body) => {
+                self.judge_insns(alloc, marks, at, body.insns.as_slice())?;
+                Ok(())
+            }
             None => Ok(()),
         }
     }

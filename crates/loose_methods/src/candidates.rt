@@ -49,7 +49,10 @@ impl<'a> Judged<'a> {
     fn is_outer(&self, kind: u32) -> bool
         ensures { IsJudged self.now → result ≡ is_outer self.now.program.now kind }
     {
-        self.hierarchy.place_of(kind).is_none() && !is_object(type_units(self.program, kind))
+        match self.hierarchy.place_of(kind) {
+            Some(_) => false,
+            None => !is_object(type_units(self.program, kind)),
+        }
     }
 
     /// Whether one of some types is one of the framework other than the class above all.
@@ -68,7 +71,10 @@ impl<'a> Judged<'a> {
     fn lists_outer(&self, class: &Class) -> bool
         ensures { IsJudged self.now → result ≡ lists_outer self.now.program.now (Some class.now) }
     {
-        self.is_outer(class.superclass) || self.is_any_outer(class.interfaces.as_slice())
+        if self.is_outer(class.superclass) {
+            return true;
+        }
+        self.is_any_outer(class.interfaces.as_slice())
     }
 
     /// The classes under the class at a place, it among them.
@@ -140,12 +146,15 @@ impl<'a> Judged<'a> {
     fn keeps_from(&self, class: u32, key: u32, definer: u32) -> bool
         ensures { (q : MethodName) → IsJudged self.now → IsKey self.now.program.now self.now.hierarchy.now key q.name q.proto → result ≡ keeps_from self.now.program.now q class definer }
     {
-        (definer != class
-            && self
-                .hierarchy
-                .own_virtual(self.program, definer, key)
-                .is_some())
-            || self.is_interface(definer)
+        if self.is_interface(definer) {
+            return true;
+        }
+        if definer == class {
+            return false;
+        }
+        self.hierarchy
+            .own_virtual(self.program, definer, key)
+            .is_some()
     }
 
     /// Whether it keeps that one from being alone, and stands above a class under that.
@@ -153,7 +162,10 @@ impl<'a> Judged<'a> {
         ensures { let p = self.now.program.now in (q : MethodName) → IsJudged self.now → IsKey p self.now.hierarchy.now key q.name q.proto → AreUnder p place.now.class place.now.under.now
             → definer < length p.classes → result ≡ (keeps_from p q place.now.class definer && list_any (λ d. is_under p d definer) place.now.under.now) }
     {
-        self.keeps_from(place.class, key, definer) && self.is_any_under(place.under, definer)
+        if !self.keeps_from(place.class, key, definer) {
+            return false;
+        }
+        self.is_any_under(place.under, definer)
     }
 
     /// Whether one of some classes that define a method with a key keeps the one of a class from being alone.
@@ -176,9 +188,14 @@ impl<'a> Judged<'a> {
         ensures { let p = self.now.program.now in (q : MethodName) → IsJudged self.now → IsKey p self.now.hierarchy.now key q.name q.proto → AreUnder p place.now.class place.now.under.now
             → place.now.outward ≡ has_outward p place.now.class → result ≡ is_alone p q place.now.class }
     {
-        !place.outward
-            && !self.hierarchy.is_key_of_object(key)
-            && !self.is_kept_from(place, key, self.hierarchy.definers_of(key))
+        let outward = place.outward;
+        if outward {
+            return false;
+        }
+        if self.hierarchy.is_key_of_object(key) {
+            return false;
+        }
+        !self.is_kept_from(place, key, self.hierarchy.definers_of(key))
     }
 
     /// Whether a method has code and a receiver and is no constructor.
@@ -202,10 +219,16 @@ impl<'a> Judged<'a> {
             → place.now.outward ≡ has_outward p place.now.class
             → result ≡ tested p kept.now place.now.class name.now method.now }
     {
-        self.takes_receiver(name, method)
-            && !is_on(kept, method.name)
-            && (!self.hierarchy.is_virtual(method)
-                || self.is_alone(place, self.hierarchy.key_of_method(method.name)))
+        if !self.takes_receiver(name, method) {
+            return false;
+        }
+        if is_on(kept, method.name) {
+            return false;
+        }
+        if !self.hierarchy.is_virtual(method) {
+            return true;
+        }
+        self.is_alone(place, self.hierarchy.key_of_method(method.name))
     }
 
     /// Whether a method of a class may be static as far as other methods go.
@@ -255,9 +278,10 @@ impl<'a> Judged<'a> {
         ensures { let p = self.now.program.now in (o : Outside) → IsJudged self.now → slice_get p.classes place ≡ Some class.now → IsTable (length p.methods) (is_kept o) kept.now
             → IsTable (length p.classes) (is_outward p) outward.now → length marks.old ≡ length p.methods → OnOk result (MarksClass p o place marks.old marks.new) }
     {
-        if class.flags.has(Flags::INTERFACE)
-            || !self.hierarchy.trivially_initialised(self.program, place)
-        {
+        if class.flags.has(Flags::INTERFACE) {
+            return Ok(());
+        }
+        if !self.hierarchy.trivially_initialised(self.program, place) {
             return Ok(());
         }
         let under = self.under(alloc, place)?;

@@ -10,6 +10,7 @@ ghost use Rattle.loose_methods.specs.Mentioned.{value_methods, element_methods, 
 
 use crate::candidates::Judged;
 use crate::table::turn;
+use hierarchy::method_at;
 use program_model::{Class, Element, EncValue, Field, Mark, Method, MethodAt, Note, Program};
 use seq::Seq;
 use std::alloc::{AllocError, Global};
@@ -162,8 +163,9 @@ pub(crate) fn bar(marks: &mut [bool], number: Option<u32>)
     ensures long { length marks.new ≡ length marks.old }
     ensures are { (n : ℕ) → is_on marks.new n ≡ (is_on marks.old n && not (is_this n number)) }
 {
-    if let Some(number) = number {
-        turn(marks, number, false);
+    match number {
+        Some(number) => turn(marks, number, false),
+        None => {}
     }
 }
 
@@ -172,11 +174,8 @@ impl Judged<'_> {
     pub(crate) fn number_at(&self, at: MethodAt) -> Option<u32>
         ensures { result ≡ number_at self.now.program.now at }
     {
-        match self.program.classes.as_slice().get(at.class as usize) {
-            Some(class) => match class.methods.as_slice().get(at.place as usize) {
-                Some(method) => Some(method.name),
-                None => None,
-            },
+        match method_at(self.program, at) {
+            Some(method) => Some(method.name),
             None => None,
         }
     }

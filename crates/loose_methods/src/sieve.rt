@@ -25,7 +25,8 @@ fn sieve<'a>(
 {
     let mut loose = judged.candidates(alloc, outside)?;
     judged.bar_mentioned(alloc, loose.as_mut_slice())?;
-    sift(alloc, judged, facts, admitted, loose)
+    let marks = sift(alloc, judged, facts, admitted, loose)?;
+    Ok(marks)
 }
 
 /// Marks by number the methods of a well-formed program that may be static as far as the tables have room. The hierarchy is that of

@@ -1,13 +1,13 @@
 -- The tables with one method more.
 use Rattle.std.proofs.Common.{◌≡◌, ◌⊎◌, inl, inr, ℕ, zero, suc, ◌+◌, ◌<◌, ◌≤◌, ◌^◌, Bool, true, false, true≢false, nat_eq, List, [], ◌∷◌, ◌++◌, map, length, get_or, take, Option, Some, None, refl, sym, ap, ◌∙◌, subst, arith}
-use Rattle.std.specs.Prelude.{◌&&◌, ◌||◌, not, cond, is_some, nat_le, nat_lt, position, replicate, slice_get, slice_set, sum_by, Vec}
+use Rattle.std.specs.Prelude.{◌&&◌, ◌||◌, not, cond, is_some, nat_le, nat_lt, position, replicate, IfSome, Unit, slice_get, slice_set, sum_by, Vec}
 use Rattle.std.specs.List.{list_any}
 use Rattle.std.specs.Option.{option_map}
 use Rattle.std.specs.declared.alloc.Global.{Global}
 use Rattle.std.specs.Cmp.Lexicographic.{pointwise}
 use Rattle.std.proofs.lemmas.List.{append_assoc, take_more}
 use Rattle.lemmas.proofs.Bools.{and_left, and_right, or_cases}
-use Rattle.lemmas.proofs.Lists.{map_append}
+use Rattle.lemmas.proofs.Lists.{map_append, got_short}
 use Rattle.program_model.specs.declared.pools.Proto.{Proto}
 use Rattle.program_model.specs.declared.program.Class.{Class}
 use Rattle.program_model.specs.declared.program.Method.{Method}
@@ -16,6 +16,7 @@ use Rattle.program_model.specs.Cells.{capped}
 use Rattle.program_model.specs.Distinct.{proto_key}
 use Rattle.program_model.specs.Items.{items_of}
 use Rattle.program_model.specs.ProgramRules.{is_well_formed}
+use Rattle.static_protos.proofs.Behind.{placed}
 use Rattle.static_protos.proofs.Formed.{few_units, few_items, few_strings, few_protos}
 use Rattle.class_defs.proofs.Positions.{position_step}
 use Rattle.class_defs.proofs.WellFormed.{below}
@@ -108,6 +109,27 @@ room_is true true false d e = refl
 room_is true false c d e = refl
 room_is false b c d e = refl
 
+-- what has a place stands below 2 ^ 32
+pub proto_short : (p : Program) (t : Tables) (a : Additions) (w : Wanted) (o : Option ℕ) → IsGrown p t a → o ≡ proto_at t w → IfSome o (λ i. i < 2 ^ 32)
+proto_short p t a w o g e = subst (λ x. IfSome x (λ i. i < 2 ^ 32)) (sym e) (by (proto_at t w) refl)
+  where
+    few : (i : ℕ) → i < length t.protos → i < 2 ^ 32
+    few i lt = let l = g.few_protos in omega (arith, l, lt)
+
+    by : (x : Option ℕ) → proto_at t w ≡ x → IfSome x (λ i. i < 2 ^ 32)
+    by None f = tt
+    by (Some i) f = let r = placed (is_proto w.result w.parameters) t.protos i f in few i (got_short t.protos i r.item r.there)
+
+pub text_short : (p : Program) (t : Tables) (a : Additions) (w : Wanted) (o : Option ℕ) → IsGrown p t a → o ≡ text_at t w → IfSome o (λ i. i < 2 ^ 32)
+text_short p t a w o g e = subst (λ x. IfSome x (λ i. i < 2 ^ 32)) (sym e) (by (text_at t w) refl)
+  where
+    few : (i : ℕ) → i < length t.strings → i < 2 ^ 32
+    few i lt = let l = g.few_strings in omega (arith, l, lt)
+
+    by : (x : Option ℕ) → text_at t w ≡ x → IfSome x (λ i. i < 2 ^ 32)
+    by None f = tt
+    by (Some i) f = let r = placed (same_text w.text) t.strings i f in few i (got_short t.strings i r.item r.there)
+
 -- ---- what is appended
 
 sum_end : (xs : List (List ℕ)) (x : List ℕ) → sum_by length (xs ++ x ∷ []) ≡ sum_by length xs + length x
@@ -199,6 +221,72 @@ module _ (p : Program) (t : Tables) (w : Wanted) (old new : Additions) (g : IsGr
     few_strings = texts_few t.strings w.text (text_at t w) g.few_strings tests.0;
     few_protos = protos_few t.protos (proto_of t w) (proto_at t w) g.few_protos tests.1.0;
   }
+
+-- the limits, as they are tested
+pub limits_are : (p : Program) (t : Tables) (a : Additions) (w : Wanted) → IsGrown p t a → (text proto : Option ℕ) → text ≡ text_at t w → proto ≡ proto_at t w → (units items : Bool) (more_units more_items : ℕ)
+    → more_units ≡ units_more w text → more_items ≡ capped (items_more w proto) → units ≡ nat_le (a.units + more_units) 16777216 → items ≡ nat_le (a.items + more_items) 16777216
+    → (units && items) ≡ (nat_le (sum_by length (strings_with t w)) 16777216 && nat_le (items_with t w) 16777216)
+limits_are p t a w g text proto e f units items more_units more_items x y u v =
+    ap (λ b. b && items) (u ∙ ap (λ n. nat_le n 16777216) units_same) ∙ ap (λ b. nat_le (sum_by length (strings_with t w)) 16777216 && b) (v ∙ ap (λ n. nat_le (a.items + n) 16777216) y ∙ cut (items_more w proto) ∙ ap (λ n. nat_le n 16777216) items_same)
+  where
+    units_same : a.units + more_units ≡ sum_by length (strings_with t w)
+    units_same = ap (λ n. a.units + n) (x ∙ ap (units_more w) e) ∙ ap (λ n. n + units_more w (text_at t w)) g.units ∙ ap (λ n. sum_by length t.strings + n) (sym (more_same w (text_at t w))) ∙ sym (units_are t.strings w.text (text_at t w))
+
+    items_same : a.items + items_more w proto ≡ items_with t w
+    items_same = ap (λ n. n + items_more w proto) g.items ∙ ap (λ o. t.items + items_more w o) f
+
+    cut : (n : ℕ) → nat_le (a.items + capped n) 16777216 ≡ nat_le (a.items + n) 16777216
+    cut n = grind arith
+
+-- ---- one method, step by step
+
+module _ (p : Program) (t : Tables) (w : Wanted) (a0 a1 a2 a3 a4 : Additions) (g : IsGrown p t a0) (room : has_room p t w ≡ true) (text proto : Option ℕ) (is_text : text ≡ text_at t w) (is_proto : proto ≡ proto_at t w) where
+  pub appended : (shorty number : ℕ) (units : List ℕ) (new : Proto) → shorty ≡ place_or (length t.strings) text → number ≡ place_or (length t.protos) proto → units ≡ w.text
+      → new ≡ record { shorty = shorty; result = w.result; parameters = w.parameters }
+      → a1.units ≡ a0.units + units_more w text → a1.items ≡ a0.items + items_more w proto → a1 ≡ record a0 { units = a1.units; items = a1.items }
+      → a2.given.items ≡ slice_set a1.given.items w.number (Some number) → a2 ≡ record a1 { given = a2.given }
+      → a3.new_strings.items ≡ texts_with a2.new_strings.items units text → texts_in a3 ≡ texts_with (texts_in a2) units text → a3 ≡ record a2 { new_strings = a3.new_strings; texts = a3.texts }
+      → a4.new_protos.items ≡ protos_with a3.new_protos.items new proto → keys_in a4 ≡ texts_with (keys_in a3) (proto_key new) proto → a4 ≡ record a3 { new_protos = a4.new_protos; keys = a4.keys }
+      → IsGrown p (with_new t w) a4
+  appended shorty number units new is_shorty is_number is_units is_new count_units count_items count_rest give_given give_rest strings texts text_rest protos keys proto_rest =
+      grown_new p t w a0 a4 g room
+      (ap (λ (x : Additions). x.new_strings.items) proto_rest ∙ (strings ∙ (ap (λ xs. texts_with xs units text) (ap (λ (x : Additions). x.new_strings.items) give_rest ∙ ap (λ (x : Additions). x.new_strings.items) count_rest)
+      ∙ (ap (λ u. texts_with a0.new_strings.items u text) is_units ∙ ap (texts_with a0.new_strings.items w.text) is_text))))
+      (ap (λ (x : Additions). texts_in x) proto_rest ∙ (texts ∙ (ap (λ xs. texts_with xs units text) (ap (λ (x : Additions). texts_in x) give_rest ∙ ap (λ (x : Additions). texts_in x) count_rest)
+      ∙ (ap (λ u. texts_with (texts_in a0) u text) is_units ∙ ap (texts_with (texts_in a0) w.text) is_text))))
+      (protos ∙ (ap (λ xs. protos_with xs new proto) (ap (λ (x : Additions). x.new_protos.items) text_rest ∙ (ap (λ (x : Additions). x.new_protos.items) give_rest ∙ ap (λ (x : Additions). x.new_protos.items) count_rest))
+      ∙ (ap (λ y. protos_with a0.new_protos.items y proto) the_proto ∙ ap (protos_with a0.new_protos.items (proto_of t w)) is_proto)))
+      (keys ∙ (ap (λ xs. texts_with xs (proto_key new) proto) (ap (λ (x : Additions). keys_in x) text_rest ∙ (ap (λ (x : Additions). keys_in x) give_rest ∙ ap (λ (x : Additions). keys_in x) count_rest))
+      ∙ (ap (λ y. texts_with (keys_in a0) (proto_key y) proto) the_proto ∙ ap (texts_with (keys_in a0) (proto_key (proto_of t w))) is_proto)))
+      (ap (λ (x : Additions). x.given.items) proto_rest ∙ (ap (λ (x : Additions). x.given.items) text_rest ∙ (give_given ∙ (ap (λ (x : Additions). slice_set x.given.items w.number (Some number)) count_rest
+      ∙ ap (λ n. slice_set a0.given.items w.number (Some n)) (is_number ∙ ap (place_or (length t.protos)) is_proto)))))
+      (ap (λ (x : Additions). x.names) proto_rest ∙ (ap (λ (x : Additions). x.names) text_rest ∙ (ap (λ (x : Additions). x.names) give_rest ∙ ap (λ (x : Additions). x.names) count_rest)))
+      (ap (λ (x : Additions). x.units) proto_rest ∙ (ap (λ (x : Additions). x.units) text_rest ∙ (ap (λ (x : Additions). x.units) give_rest ∙ (count_units ∙ ap (λ o. a0.units + units_more w o) is_text))))
+      (ap (λ (x : Additions). x.items) proto_rest ∙ (ap (λ (x : Additions). x.items) text_rest ∙ (ap (λ (x : Additions). x.items) give_rest ∙ (count_items ∙ ap (λ o. a0.items + items_more w o) is_proto))))
+    where
+      the_proto : new ≡ proto_of t w
+      the_proto = is_new ∙ ap (λ (n : ℕ). record { shorty = n; result = w.result; parameters = w.parameters }) (is_shorty ∙ ap (place_or (length t.strings)) is_text)
+
+  -- where the text and the proto are looked for
+  pub place_text : (units : List ℕ) → units ≡ w.text → a1 ≡ record a0 { units = a1.units; items = a1.items } → a2 ≡ record a1 { given = a2.given } → text ≡ text_place (texts_in a2) units
+  place_text units is_units count_rest give_rest =
+      is_text ∙ (ap (λ xs. text_place xs w.text) (sym g.texts) ∙ (ap (λ (x : Additions). text_place (texts_in x) w.text) (sym count_rest)
+      ∙ (ap (λ (x : Additions). text_place (texts_in x) w.text) (sym give_rest) ∙ ap (text_place (texts_in a2)) (sym is_units))))
+
+  pub place_key : (new : Proto) → new.result ≡ w.result → new.parameters ≡ w.parameters → a1 ≡ record a0 { units = a1.units; items = a1.items } → a2 ≡ record a1 { given = a2.given } → a3 ≡ record a2 { new_strings = a3.new_strings; texts = a3.texts }
+      → proto ≡ position (pointwise nat_eq (proto_key new)) (keys_in a3)
+  place_key new result parameters count_rest give_rest text_rest =
+      is_proto ∙ (sym (position_map proto_key (pointwise nat_eq (w.result ∷ w.parameters)) t.protos) ∙ (ap (position (pointwise nat_eq (w.result ∷ w.parameters))) (sym g.keys ∙ (ap keys_in (sym count_rest) ∙ (ap keys_in (sym give_rest) ∙ ap keys_in (sym text_rest))))
+      ∙ (ap (λ r. position (pointwise nat_eq (r ∷ w.parameters)) (keys_in a3)) (sym result) ∙ ap (λ ps. position (pointwise nat_eq (new.result ∷ ps)) (keys_in a3)) (sym parameters))))
+
+  -- the counts don't pass 64 bits
+  pub counts_fit : (a0.units + units_more w text < 2 ^ 64) × (a0.items + items_more w proto < 2 ^ 64)
+  counts_fit =
+      let u = ap (λ o. a0.units + units_more w o) is_text ∙ units_fit p t w a0 a4 g room in
+      let i = ap (λ o. a0.items + items_more w o) is_proto ∙ items_fit p t w a0 a4 g room in
+      let ul = units_few p t w a0 a4 g room in
+      let il = items_few p t w a0 a4 g room in
+      (omega (arith, u, ul), omega (arith, i, il))
 
 -- ---- methods and classes in turn
 

@@ -137,16 +137,31 @@ fn count_units(strings: &[Text]) -> u64
 pub(crate) fn no_additions(alloc: Global, program: &Program) -> Result<Additions, AllocError>
     ensures { is_well_formed program.now ≡ true → IfOk result (IsGrown program.now (tables_of program.now)) }
 {
+    let new_strings = Vec::new(alloc);
+    let new_protos = Vec::new(alloc);
+    let given = vec![in alloc; None; program.methods.len()]?;
+    let texts = texts_of(alloc, program.strings.as_slice())?;
+    let keys = keys_of(alloc, program.protos.as_slice())?;
+    let names = names_of(alloc, program.methods.as_slice())?;
+    let units = count_units(program.strings.as_slice());
+    let items = count_items(program);
     Ok(Additions {
-        new_strings: Vec::new(alloc),
-        new_protos: Vec::new(alloc),
-        given: vec![in alloc; None; program.methods.len()]?,
-        texts: texts_of(alloc, program.strings.as_slice())?,
-        keys: keys_of(alloc, program.protos.as_slice())?,
-        names: names_of(alloc, program.methods.as_slice())?,
-        units: count_units(program.strings.as_slice()),
-        items: count_items(program),
+        new_strings,
+        new_protos,
+        given,
+        texts,
+        keys,
+        names,
+        units,
+        items,
     })
+}
+
+/// Whether a count with more keeps the limit of units and of items.
+fn is_within(count: u64, more: u64) -> bool
+    ensures { result ≡ nat_le (count + more) 16777216 }
+{
+    count.saturating_add(more) <= 16_777_216
 }
 
 /// What stands at a place, or past the end where it stands nowhere, as a number.
@@ -184,15 +199,13 @@ impl Wanted {
 
 impl Additions {
     /// Where the short form and the proto of a method stand.
-    #[tactic(auto, using(crate::proofs::Grown::text_room, crate::proofs::Grown::proto_room))]
     fn room(&self, alloc: Global, wanted: &Wanted) -> Result<Room, AllocError>
         ensures { (p : Program) (t : Tables) → IsGrown p t self.now → IfOk result (λ room. (room.text ≡ text_at t wanted.now) × (room.proto ≡ proto_at t wanted.now)) }
     {
         let key = key(alloc, wanted.result, wanted.parameters.as_slice())?;
-        Ok(Room {
-            text: self.texts.get_index_of(wanted.text.as_slice()),
-            proto: self.keys.get_index_of(key.as_slice()),
-        })
+        let text = self.texts.get_index_of(wanted.text.as_slice());
+        let proto = self.keys.get_index_of(key.as_slice());
+        Ok(Room { text, proto })
     }
 
     /// Whether a method of the program has this name and the proto at this place.
@@ -206,12 +219,14 @@ impl Additions {
     }
 
     /// Whether the tables have places for what is appended.
+    #[tactic(auto, using(crate::proofs::Grown::texts_long, crate::proofs::Grown::keys_long))]
     fn has_places(&self, room: Room) -> bool
         ensures { (p : Program) (t : Tables) → IsGrown p t self.now
             → result ≡ ((is_some room.text || nat_lt (length t.strings) 65536) && (is_some room.proto || nat_lt (length t.protos) 65535)) }
     {
-        (room.text.is_some() || self.texts.len() < 65_536)
-            && (room.proto.is_some() || self.keys.len() < 65_535)
+        let texts = self.texts.len();
+        let keys = self.keys.len();
+        (room.text.is_some() || texts < 65_536) && (room.proto.is_some() || keys < 65_535)
     }
 
     /// Whether what is appended keeps the limits.
@@ -219,17 +234,19 @@ impl Additions {
         ensures { (p : Program) (t : Tables) → IsGrown p t self.now → room.text ≡ text_at t wanted.now → room.proto ≡ proto_at t wanted.now
             → result ≡ (nat_le (sum_by length (strings_with t wanted.now)) 16777216 && nat_le (items_with t wanted.now) 16777216) }
     {
-        self.units.saturating_add(wanted.more_units(room)) <= 16_777_216
-            && self.items.saturating_add(wanted.more_items(room)) <= 16_777_216
+        let units = is_within(self.units, wanted.more_units(room));
+        let items = is_within(self.items, wanted.more_items(room));
+        units && items
     }
 
     /// Whether a method may get its proto.
     fn has_room(&self, wanted: &Wanted, room: Room) -> bool
         ensures { (p : Program) (t : Tables) → IsGrown p t self.now → room.text ≡ text_at t wanted.now → room.proto ≡ proto_at t wanted.now → result ≡ has_room p t wanted.now }
     {
-        !self.is_taken(wanted.name, room.proto)
-            && self.has_places(room)
-            && self.keeps_limits(wanted, room)
+        let taken = self.is_taken(wanted.name, room.proto);
+        let places = self.has_places(room);
+        let limits = self.keeps_limits(wanted, room);
+        !taken && places && limits
     }
 
     /// Counts what a method appends.
@@ -295,8 +312,10 @@ impl Additions {
         ensures { (p : Program) (t : Tables) → IsGrown p t self.old → room.text ≡ text_at t wanted → room.proto ≡ proto_at t wanted → has_room p t wanted ≡ true
             → OnOk result (IsGrown p (with_new t wanted) self.new) }
     {
-        let shorty = place_or(self.texts.len(), room.text);
-        let number = place_or(self.keys.len(), room.proto);
+        let texts = self.texts.len();
+        let keys = self.keys.len();
+        let shorty = place_or(texts, room.text);
+        let number = place_or(keys, room.proto);
         self.count(&wanted, room);
         self.give(wanted.number, number);
         self.keep_text(alloc, wanted.text.as_slice(), room.text)?;
@@ -305,7 +324,8 @@ impl Additions {
             result: wanted.result,
             parameters: wanted.parameters,
         };
-        self.keep_proto(alloc, proto, room.proto)
+        self.keep_proto(alloc, proto, room.proto)?;
+        Ok(())
     }
 
     /// Gives a method its proto, if there is room for it.

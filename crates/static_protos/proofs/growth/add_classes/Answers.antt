@@ -13,7 +13,7 @@ loop-class-preserved c = λ t g.
     let k = c.class-item.result in
     let before = grown_classes p c.args.marked.now t (take i c.args.classes.now) in
     classes_grown p c.args.marked.now t c.args.classes.now i k c.add_methods.new.additions c.loop-class-test.true c.class-item.is
-    (subst (λ ms. IsGrown p (grown_methods p c.args.marked.now before k ms) c.add_methods.new.additions) c.as_slice.ensures.value (c.in_ok-add_methods.ensures before (c.loop-class.invariant t g)))
+    (subst (λ ms. IsGrown p (grown_methods p c.args.marked.now before k ms) c.add_methods.new.additions) c.as_slice.ensures (c.in_ok-add_methods.ensures before (c.loop-class.invariant t g)))
 
 pub returns : goal.returns
 returns c = λ t g. subst (λ ks. IsGrown c.args.program.now (grown_classes c.args.program.now c.args.marked.now t ks) c.loop-class.additions) (take_all c.loop-class.class-index c.args.classes.now c.loop-class-test.false) (c.loop-class.invariant t g)

@@ -20,10 +20,10 @@ loop-class-preserved c = λ o j s few short.
     let x = c.one-item.result in
     let word : c.word.result ≡ i = c.word.ensures (omega (arith, lt, few)) in
     let was = c.loop-class.invariant o j s few short in
-    let codes : AreShortCodes c.as_slice.result.now = subst AreShortCodes (sym c.as_slice.ensures.value) (short i x (got ks i x lt c.one-item.is)) in
+    let codes : AreShortCodes c.as_slice.result.now = subst AreShortCodes (sym c.as_slice.ensures) (short i x (got ks i x lt c.one-item.is)) in
     let step = c.in_ok-judge_methods.ensures o j was.sifted codes in
     let step2 : Sifts p o (λ n. methods_allow p facts admitted n i x.methods) c.loop-class.marks c.judge_methods.new.marks =
-    subst (λ k. Sifts p o (λ n. methods_allow p facts admitted n k x.methods) c.loop-class.marks c.judge_methods.new.marks) word (subst (λ ms. Sifts p o (λ n. methods_allow p facts admitted n c.word.result ms) c.loop-class.marks c.judge_methods.new.marks) c.as_slice.ensures.value step) in
+    subst (λ k. Sifts p o (λ n. methods_allow p facts admitted n k x.methods) c.loop-class.marks c.judge_methods.new.marks) word (subst (λ ms. Sifts p o (λ n. methods_allow p facts admitted n c.word.result ms) c.loop-class.marks c.judge_methods.new.marks) c.as_slice.ensures step) in
     sifts_then p o (λ n. classes_allow p facts admitted n 0 (take i ks)) (λ n. methods_allow p facts admitted n i x.methods) (λ n. classes_allow p facts admitted n 0 (take (i + 1) ks)) c.args.marks.now c.loop-class.marks c.judge_methods.new.marks s was step2
     (λ n m. classes_more p facts admitted n ks i x lt c.one-item.is)
 

@@ -7,3 +7,5 @@ pub mod Called
 pub mod Falls
 pub mod Fresh
 pub mod Limits
+pub mod Whole
+pub mod Targeted

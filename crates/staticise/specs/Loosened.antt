@@ -1,6 +1,6 @@
 -- Programs in which methods are made static, by number (Dalvik executable format, "access_flags Definitions"; Dalvik bytecode,
 -- "invoke-kind").
-use Rattle.std.specs.Prelude.{◌≡◌, ℕ, ◌<◌, ◌≤◌, Bool, true, false, List, [], ◌∷◌, map, length, Option, Some, None, is_some, slice_get, slice_index_or, bit_or, cond}
+use Rattle.std.specs.Prelude.{◌≡◌, ℕ, ◌<◌, ◌≤◌, Bool, true, false, List, [], ◌∷◌, ◌++◌, map, length, Option, Some, None, is_some, slice_get, slice_index_or, bit_or, cond}
 use Rattle.std.specs.List.{list_all, count_by}
 use Rattle.std.specs.List.Sorted.{IsPermutation}
 use Rattle.insn_set.specs.declared.ops.InvokeKind.TheVariants as call
@@ -9,6 +9,7 @@ use Rattle.insn_set.specs.declared.form.Insn.TheVariants as insn
 use Rattle.program_model.specs.declared.value.Mark.{Mark}
 use Rattle.program_model.specs.declared.flags.Flags.{Flags}
 use Rattle.program_model.specs.declared.pools.MethodName.{MethodName}
+use Rattle.program_model.specs.declared.pools.Proto.{Proto}
 use Rattle.program_model.specs.declared.body.Body.{Body}
 use Rattle.program_model.specs.declared.program.Method.{Method}
 use Rattle.program_model.specs.declared.program.MethodAt.{MethodAt}
@@ -104,6 +105,9 @@ names_with (o ∷ os) [] = []
 names_with (o ∷ os) (q ∷ qs) = name_with q o ∷ names_with os qs
 
 -- the strings and the protos with what is appended, and methods with their new protos
+abbrev pub extended_so : List (List ℕ) → List Proto → List (Option ℕ) → Program → Program
+extended_so strings protos given p = record p { strings = p.strings ++ strings; protos = p.protos ++ protos; methods = names_with given p.methods }
+
 abbrev pub extended : Tables → Program → Program
 extended t p = record p { strings = t.strings; protos = t.protos; methods = names_with t.given p.methods }
 

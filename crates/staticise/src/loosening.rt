@@ -164,7 +164,8 @@ impl Loosening<'_> {
         ensures { (p : Program) → AreTargets p self.now.given.now self.now.targets.now → IsOf p self.now.hierarchy.now → AreOwn class.old.methods
             → OnOk result (IsLoosenedClass p self.now.given.now class.old class.new) }
     {
-        self.loosen_all(alloc, class.methods.items.as_mut_slice())
+        self.loosen_all(alloc, class.methods.items.as_mut_slice())?;
+        Ok(())
     }
 
     /// Makes methods of classes static, and all their calls.
@@ -184,7 +185,8 @@ impl Loosening<'_> {
         ensures classes { is_well_formed program.old ≡ true → AreTargets program.old self.now.given.now self.now.targets.now → IsOf program.old self.now.hierarchy.now
             → OnOk result (AreEach (IsLoosenedClass program.old self.now.given.now) program.old.classes program.new.classes) }
     {
-        self.loosen_classes(alloc, program.classes.items.as_mut_slice())
+        self.loosen_classes(alloc, program.classes.items.as_mut_slice())?;
+        Ok(())
     }
 }
 

@@ -1,6 +1,6 @@
 //! The pass.
 
-ghost use Rattle.std.specs.Prelude.{◌≡◌, ◌<◌, ◌≤◌, ◌+◌, true, None, is_some, min, slice_index_or, IfOk, IfSome, OnOk};
+ghost use Rattle.std.specs.Prelude.{◌≡◌, ◌<◌, ◌≤◌, ◌+◌, true, None, is_some, min, nat_eq, slice_index_or, IfOk, IfSome, OnOk};
 ghost use Rattle.std.specs.List.{count_by};
 ghost use Rattle.program_model.specs.ProgramRules.{is_well_formed};
 ghost use Rattle.program_model.specs.declared.program.Program.{Program};
@@ -9,7 +9,7 @@ ghost use Rattle.staticise.specs.Ordering.{AreTargets};
 ghost use Rattle.static_protos.specs.Growing.{IsGrowth};
 ghost use Rattle.static_protos.specs.Tables.{Tables};
 ghost use Rattle.staticise.specs.Left.{NoneLeft, receivers_in};
-ghost use Rattle.staticise.specs.Loosened.{name_with, names_with, extended, IsLoosenedBy, IsStaticisedBy};
+ghost use Rattle.staticise.specs.Loosened.{name_with, names_with, extended_so, IsLoosenedBy, IsStaticisedBy};
 ghost use Rattle.loose_methods.specs.Sieved.{IsSieved};
 ghost use Rattle.staticise.specs.Planned.{IsPlanned};
 
@@ -29,6 +29,13 @@ fn count_given(given: &[Option<u32>]) -> u64
     given.iter().filter(|proto| proto.is_some()).count() as u64
 }
 
+/// Whether no method is made static.
+fn is_none_given(given: &[Option<u32>]) -> bool
+    ensures { result ≡ nat_eq (count_by is_some given.now) 0 }
+{
+    count_given(given) == 0
+}
+
 /// What the tables get for the methods of a program that are made static, none where there are none.
 fn plan<'a>(
     alloc: Global,
@@ -41,12 +48,13 @@ fn plan<'a>(
     ensures planned { is_well_formed program.now ≡ true → IsResolved program.now hierarchy.now → IfOk result (IsPlanned program.now facts.now outside.now admitted.now.methods.items) }
     ensures some { IfOk result (λ found. IfSome found (λ g. 0 < count_by is_some g.given.items)) }
 {
-    if !outside.optimise {
+    let optimise = outside.optimise;
+    if !optimise {
         return Ok(None);
     }
     let loose = find(alloc, program, hierarchy, facts, outside, admitted)?;
     let growth = grow(alloc, program, loose.as_slice())?;
-    if count_given(growth.given.as_slice()) == 0 {
+    if is_none_given(growth.given.as_slice()) {
         return Ok(None);
     }
     Ok(Some(growth))
@@ -80,9 +88,9 @@ fn give_protos(names: &mut [MethodName], protos: &[Option<u32>])
     }
 }
 
-/// Appends what the tables get.
+/// Appends what the tables get, and gives method numbers their new protos.
 fn append(program: &mut Program, growth: Growth) -> Result<(), AllocError>
-    ensures { (p : Program) (t : Tables) → IsGrowth p t growth → program.old.strings ≡ p.strings → program.old.protos ≡ p.protos → OnOk result (program.new ≡ extended t program.old) }
+    ensures { OnOk result (program.new ≡ extended_so growth.strings.items growth.protos.items growth.given.items program.old) }
 {
     give_protos(
         program.methods.items.as_mut_slice(),
@@ -114,7 +122,8 @@ fn write(
         targets: targets.as_slice(),
     };
     loosening.loosen(alloc, program)?;
-    append(program, growth)
+    append(program, growth)?;
+    Ok(())
 }
 
 /// Makes the loose methods of a program static, and their calls, in place. The hierarchy is that of the program's classes, the
@@ -133,11 +142,13 @@ pub fn apply(
     ensures none_left { is_well_formed program ≡ true → IsResolved program hierarchy.now
         → IfOk result (λ c. c.count ≡ 0 → NoneLeft program facts.now outside.now admitted.now.methods.items) }
     ensures same { IfOk result (λ changed. changed.count ≡ 0 → changed.program ≡ program) }
+    ensures changes { is_well_formed program ≡ true → IsResolved program hierarchy.now → IfOk result (λ c. c.program ≡ program → c.count ≡ 0) }
     ensures falls { is_well_formed program ≡ true → IsResolved program hierarchy.now → IfOk result (λ c. receivers_in c.program + min c.count 1 ≤ receivers_in program) }
 {
     let mut program = program;
     let origins = Seq::new(alloc);
-    match plan(alloc, &program, hierarchy, facts, outside, admitted)? {
+    let planned = plan(alloc, &program, hierarchy, facts, outside, admitted)?;
+    match planned {
         Some(growth) => {
             let count = count_given(growth.given.as_slice());
             write(alloc, &mut program, hierarchy, growth)?;

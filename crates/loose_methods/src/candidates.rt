@@ -248,9 +248,10 @@ impl<'a> Judged<'a> {
         ensures { let p = self.now.program.now in (q : MethodName) → IsJudged self.now → slice_get p.methods method.now.name ≡ Some q → AreUnder p place.now.class place.now.under.now
             → place.now.outward ≡ has_outward p place.now.class → marks.new ≡ cond (tested p kept.now place.now.class q method.now) (slice_set marks.old method.now.name true) marks.old }
     {
-        if self.is_candidate(kept, place, method) {
-            turn(marks, method.name, true);
+        if !self.is_candidate(kept, place, method) {
+            return;
         }
+        turn(marks, method.name, true);
     }
 
     /// Marks the methods of a class that may be static as far as other methods go.

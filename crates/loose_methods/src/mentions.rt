@@ -3,6 +3,8 @@
 ghost use Rattle.std.specs.Prelude.{◌≡◌, ◌++◌, ◌&&◌, not, ℕ, flat_map, length, IfOk, OnOk};
 ghost use Rattle.loose_methods.specs.Asked.{IsJudged};
 ghost use Rattle.std.specs.List.{list_any};
+ghost use Rattle.std.specs.Option.{option_copied};
+ghost use Rattle.program_model.specs.Lookups.{method_at};
 ghost use Rattle.loose_methods.specs.Loose.{number_at, named_by, names_it, is_this};
 ghost use Rattle.class_defs.specs.Finding.{resolves_method};
 ghost use Rattle.loose_methods.specs.Marking.{is_on};
@@ -10,7 +12,6 @@ ghost use Rattle.loose_methods.specs.Mentioned.{value_methods, element_methods, 
 
 use crate::candidates::Judged;
 use crate::table::turn;
-use hierarchy::method_at;
 use program_model::{Class, Element, EncValue, Field, Mark, Method, MethodAt, Note, Program};
 use seq::Seq;
 use std::alloc::{AllocError, Global};
@@ -156,6 +157,16 @@ fn mentioned(alloc: Global, program: &Program) -> Result<Vec<u32>, AllocError>
         add_class(&mut out, class)?;
     }
     Ok(out)
+}
+
+/// The method at a place.
+fn method_at(program: &Program, at: MethodAt) -> Option<&Method>
+    ensures { option_copied result ≡ method_at program.now at }
+{
+    match program.classes.as_slice().get(at.class as usize) {
+        Some(class) => class.methods.as_slice().get(at.place as usize),
+        None => None,
+    }
 }
 
 /// Takes the mark of a method number, if there is one.

@@ -72,7 +72,7 @@ nothing_more [] = refl
 nothing_more (x ∷ xs) = ap (λ l. x ∷ l) (nothing_more xs)
 
 few_capped : (n : ℕ) → n ≤ 16777216 → capped n ≡ n
-few_capped n le = omega (arith, le)
+few_capped n le = grind arith
 
 pub grown_first : (p : Program) (a : Additions) → is_well_formed p ≡ true → a.new_strings.items ≡ [] → a.new_protos.items ≡ [] → a.given.items ≡ replicate (length p.methods) None → texts_in a ≡ p.strings → keys_in a ≡ map proto_key p.protos
     → ((name proto : ℕ) → contains_by (same_pair (name, proto)) a.names ≡ list_any (is_pair name proto) p.methods) → a.units ≡ capped (sum_by length p.strings) → a.items ≡ capped (items_of p) → IsGrown p (tables_of p) a

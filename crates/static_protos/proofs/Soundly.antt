@@ -1,6 +1,6 @@
 -- The tables keep the limits of files, have no entry twice, and have the short form of each proto, behind each method too.
 use Rattle.std.proofs.Common.{◌≡◌, ◌⊎◌, inl, inr, ℕ, zero, suc, ◌+◌, ◌<◌, ◌≤◌, ◌^◌, Bool, true, false, true≢false, nat_eq, List, [], ◌∷◌, ◌++◌, map, length, Option, Some, None, refl, sym, ap, ◌∙◌, subst, arith}
-use Rattle.std.specs.Prelude.{◌&&◌, ◌||◌, ◌==◌, cond, is_some, not, nat_le, nat_lt, position, slice_get, sum_by, if◌then◌else◌}
+use Rattle.std.specs.Prelude.{◌&&◌, ◌||◌, ◌==◌, cond, is_some, not, nat_le, nat_lt, position, slice_get, slice_index_or, sum_by, if◌then◌else◌}
 use Rattle.std.specs.List.{list_all, list_any, zip}
 use Rattle.std.specs.Option.{option_map}
 use Rattle.std.specs.Cmp.Lexicographic.{pointwise, bytes_decides, nat_list_eq_equiv}
@@ -64,14 +64,14 @@ length_end (y ∷ xs) x = let z = length_end xs x in omega (arith, z)
 -- ---- the short form of a proto
 
 module _ (p : Program) where
+  letter_by : (unit l : ℕ) (a b : Bool) → nat_eq l 76 ≡ a → nat_eq l 91 ≡ b → (if b then nat_eq unit 76 else nat_eq unit l) ≡ true → unit ≡ (if (a || b) then 76 else l)
+  letter_by unit l true true e f g = number_of unit 76 g
+  letter_by unit l false true e f g = number_of unit 76 g
+  letter_by unit l true false e f g = number_of unit l g ∙ number_of l 76 e
+  letter_by unit l false false e f g = number_of unit l g
+
   letter_is : (unit kind : ℕ) → stands_for unit (letter_of p kind) ≡ true → unit ≡ letter_at p kind
-  letter_is unit kind e = by (letter_of p kind) e
-    where
-      by : (l : ℕ) → (if l == 91 then unit == 76 else unit == l) ≡ true → unit ≡ (if is_reference l then 76 else l)
-      by l f = test (nat_eq l 91) (nat_eq l 76) refl refl f
-        where
-          test : (a b : Bool) → nat_eq l 91 ≡ a → nat_eq l 76 ≡ b → (if l == 91 then unit == 76 else unit == l) ≡ true → unit ≡ (if is_reference l then 76 else l)
-          test a b g h f = grind arith
+  letter_is unit kind e = letter_by unit (letter_of p kind) (nat_eq (letter_of p kind) 76) (nat_eq (letter_of p kind) 91) refl refl e
 
   letters_are : (units kinds : List ℕ) → (nat_eq (length units) (length kinds) && list_all (stands_for_parameter p) (zip units kinds)) ≡ true → units ≡ map (letter_at p) kinds
   letters_are [] [] e = refl
@@ -91,11 +91,13 @@ module _ (p : Program) where
       let rest = letters_are us parameters (and_right (stands_for u (letter_of p result)) (nat_eq (length us) (length parameters) && list_all (stands_for_parameter p) (zip us parameters)) e) in
       ap (λ x. x ∷ us) first ∙ ap (λ xs. letter_at p result ∷ xs) rest
 
+  text_of : (xs : List (List ℕ)) (n : ℕ) (x : List ℕ) → slice_get xs n ≡ Some x → x ≡ slice_index_or xs n []
+  text_of [] n x e = none_some x e
+  text_of (y ∷ xs) zero x e = sym (some_same y x e)
+  text_of (y ∷ xs) (suc n) x e = text_of xs n x e
+
   text_there : (n : ℕ) → has_string p n ≡ true → slice_get p.strings n ≡ Some (string_text p n)
-  text_there n e = let s = get_there p.strings n (below n (length p.strings) e) in s.1 ∙ ap (λ z. Some z) (sym (text_of n s.0 s.1))
-    where
-      text_of : (n : ℕ) (x : List ℕ) → slice_get p.strings n ≡ Some x → string_text p n ≡ x
-      text_of n x e = ap (λ (o : Option (List ℕ)). elim o as (λ o. List ℕ) [ Some y ↦ y | None ↦ [] ]) e
+  text_there n e = let s = get_there p.strings n (below n (length p.strings) e) in s.1 ∙ ap (λ z. Some z) (text_of p.strings n s.0 s.1)
 
   old_shorty : is_well_formed p ≡ true → (n : ℕ) (x : Proto) → slice_get p.protos n ≡ Some x → slice_get p.strings x.shorty ≡ Some (shorty p x.result x.parameters)
   old_shorty wf n x e =

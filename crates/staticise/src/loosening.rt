@@ -2,6 +2,8 @@
 
 ghost use Rattle.std.specs.Prelude.{◌≡◌, ◌<◌, ◌^◌, ℕ, Some, None, true, cond, map, slice_get, IfOk, OnOk};
 ghost use Rattle.std.specs.List.Sorted.{IsPermutation};
+ghost use Rattle.std.specs.Option.{option_copied};
+ghost use Rattle.program_model.specs.Lookups.{method_at};
 ghost use Rattle.program_model.specs.ProgramRules.{is_well_formed};
 ghost use Rattle.program_model.specs.declared.program.Class.{Class};
 ghost use Rattle.hierarchy.specs.Shapes.{IsOf, IsResolved};
@@ -9,7 +11,7 @@ ghost use Rattle.program_model.specs.declared.program.Program.{Program};
 ghost use Rattle.staticise.specs.Loosened.{is_given, given_at, target_at, target_of, insn_loosened, body_loosened, self_loosened, method_loosened, IsLoosenedClass, AreEach};
 ghost use Rattle.staticise.specs.Ordering.{order_of, AreTargets, IsOrdered, AreOwn};
 
-use hierarchy::{Hierarchy, method_at};
+use hierarchy::Hierarchy;
 use insn_set::{Insn, InvokeKind};
 use program_model::{Body, Class, Flags, Method, MethodAt, Program};
 use seq::Seq;
@@ -187,6 +189,16 @@ impl Loosening<'_> {
     {
         self.loosen_classes(alloc, program.classes.items.as_mut_slice())?;
         Ok(())
+    }
+}
+
+/// The method at a place.
+fn method_at(program: &Program, at: MethodAt) -> Option<&Method>
+    ensures { option_copied result ≡ method_at program.now at }
+{
+    match program.classes.as_slice().get(at.class as usize) {
+        Some(class) => class.methods.as_slice().get(at.place as usize),
+        None => None,
     }
 }
 

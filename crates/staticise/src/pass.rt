@@ -3,14 +3,11 @@
 ghost use Rattle.std.specs.Prelude.{◌≡◌, ◌<◌, ◌≤◌, ◌+◌, true, None, is_some, min, nat_eq, slice_index_or, IfOk, IfSome, OnOk};
 ghost use Rattle.std.specs.List.{count_by};
 ghost use Rattle.program_model.specs.ProgramRules.{is_well_formed};
-ghost use Rattle.program_model.specs.declared.program.Program.{Program};
 ghost use Rattle.hierarchy.specs.Shapes.{IsResolved};
-ghost use Rattle.staticise.specs.Ordering.{AreTargets};
 ghost use Rattle.static_protos.specs.Growing.{IsGrowth};
 ghost use Rattle.static_protos.specs.Tables.{Tables};
 ghost use Rattle.staticise.specs.Left.{NoneLeft, receivers_in};
 ghost use Rattle.staticise.specs.Loosened.{name_with, names_with, extended_so, IsLoosenedBy, IsStaticisedBy};
-ghost use Rattle.loose_methods.specs.Sieved.{IsSieved};
 ghost use Rattle.staticise.specs.Planned.{IsPlanned};
 
 use crate::loosening::{Loosening, targets};

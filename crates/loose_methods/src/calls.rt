@@ -753,10 +753,12 @@ pub(crate) fn sift<'a>(
         facts,
         admitted: admitted.methods.as_slice(),
     };
+    let virtual_calls = no_marks(alloc, count)?;
+    let interface_calls = no_marks(alloc, count)?;
     let mut marks = Marks {
         loose,
-        virtual_calls: no_marks(alloc, count)?,
-        interface_calls: no_marks(alloc, count)?,
+        virtual_calls,
+        interface_calls,
     };
     sifter.judge_classes(alloc, &mut marks, judged.program.classes.as_slice())?;
     Ok(marks.loose)

@@ -6,5 +6,8 @@ use Rattle.loose_methods.specs.Marking.{is_on}
 use Rattle.loose_methods.proofs.candidates.Judged.bar_mentioned.Goals as goal
 
 pub returns : goal.returns
-returns c = λ j. (c.bar_named.ensures.long, λ n.
-    c.bar_named.ensures.are j n ∙ ap (λ xs. is_on c.args.marks.now n && not (list_any (names_it c.args.self.now.program.now n) xs)) (c.as_slice.ensures.value ∙ c.in_ok-numbers.ensures))
+returns c = λ j. (
+  c.bar_named.ensures.long,
+  λ n.
+      c.bar_named.ensures.are j n ∙ ap (λ xs. is_on c.args.marks.now n && not (list_any (names_it c.args.self.now.program.now n) xs)) (c.as_slice.ensures.value ∙ c.in_ok-numbers.ensures),
+)

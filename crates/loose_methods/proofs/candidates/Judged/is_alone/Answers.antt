@@ -6,9 +6,6 @@ use Rattle.loose_methods.specs.Loose.{has_outward, has_rival, is_in_interface}
 use Rattle.loose_methods.proofs.Under.{alone_is, kept_is, kept_of, definers_short}
 use Rattle.loose_methods.proofs.candidates.Judged.is_alone.Goals as goal
 
-
-
-
 none_common : (a c : Bool) → (not a && not true && not c) ≡ false
 none_common true c = refl
 none_common false c = refl

@@ -8,7 +8,7 @@ use Rattle.insn_set.specs.declared.ops.InvokeKind.{InvokeKind}
 use Rattle.insn_set.specs.declared.form.Insn.{Insn}
 use Rattle.insn_set.specs.declared.form.Insn.TheVariants as insn
 use Rattle.insn_set.specs.declared.ops.InvokeKind.TheVariants as call
-use Rattle.program_model.specs.Lookups.{method_at}
+use Rattle.program_model.specs.Lookups.{class_place, method_at}
 use Rattle.program_model.specs.declared.body.Body.{Body}
 use Rattle.program_model.specs.declared.pass.Outside.{Outside}
 use Rattle.program_model.specs.declared.pools.MethodName.{MethodName}
@@ -16,7 +16,9 @@ use Rattle.program_model.specs.declared.program.Class.{Class}
 use Rattle.program_model.specs.declared.program.Method.{Method}
 use Rattle.program_model.specs.declared.program.MethodAt.{MethodAt}
 use Rattle.program_model.specs.declared.program.Program.{Program}
-use Rattle.class_defs.specs.Finding.{resolves_method}
+use Rattle.std.specs.Option.{option_map}
+use Rattle.class_defs.specs.Finding.{by_entry, first_among, resolution_of, resolves_method}
+use Rattle.class_defs.specs.Members.{own_method}
 use Rattle.class_defs.proofs.Positions.{number_test}
 use Rattle.facts.specs.declared.facts.Facts.{Facts}
 use Rattle.static_protos.specs.Tables.{Tables, wanted, has_room}
@@ -100,7 +102,7 @@ module _ (p : Program) (facts : Facts) (o : Outside) (admitted : List Bool) wher
       given : List (Option ℕ)
       given = (judged p facts o admitted).given
 
-      by_method : (x : Option Method) → target_method given x ≡ Some n → (is_this n (elim x as (λ y. Option ℕ) [ Some m ↦ Some m.name | None ↦ None ]) ≡ true) × (is_given given n ≡ true)
+      by_method : (x : Option Method) → target_method given x ≡ Some n → (is_this n (option_map (λ (m : Method). m.name) x) ≡ true) × (is_given given n ≡ true)
       by_method None f = none_some n f
       by_method (Some m) f = test (is_given given m.name) refl f
         where
@@ -108,21 +110,12 @@ module _ (p : Program) (facts : Facts) (o : Outside) (admitted : List Bool) wher
           test true g f = (number_test m.name n (some_same m.name n f), ap (is_given given) (sym (some_same m.name n f)) ∙ g)
           test false g f = none_some n f
 
-      number_is : (at : MethodAt) → elim (method_at p at) as (λ y. Option ℕ) [ Some m ↦ Some m.name | None ↦ None ] ≡ number_at p at
-      number_is at = same (method_at p at)
-        where
-          same : (x : Option Method) → elim x as (λ y. Option ℕ) [ Some m ↦ Some m.name | None ↦ None ] ≡ elim x as (λ y. Option ℕ) [ Some m ↦ Some m.name | None ↦ None ]
-          same x = refl
-
       by_found : (x : Option MethodAt) → target_at p given x ≡ Some n → (is_this n (named_by p called x) ≡ true) × (is_given given n ≡ true)
       by_found None f = none_some n f
-      by_found (Some at) f = let r = by_method (method_at p at) f in (sym (ap (is_this n) (number_is at)) ∙ r.0, r.1)
+      by_found (Some at) f = by_method (method_at p at) f
 
       by : (x : Option MethodName) → slice_get p.methods called ≡ x → Named called n
-      by None f = none_some n (let z : target_of p given called ≡ None = none_found f in sym z ∙ e)
-        where
-          none_found : slice_get p.methods called ≡ None → target_of p given called ≡ None
-          none_found g = rw g refl
+      by None f = none_some n (sym (ap (λ o. target_at p given (by_entry (λ q. first_among (own_method p q.name q.proto) (resolution_of p (class_place p q.class))) o)) f) ∙ e)
       by (Some q) f = let r = by_found (resolves_method p called) e in record { entry = q; there = f; names = r.0; given = r.1 }
 
   none_in : (place at position : ℕ) (k : Class) (m : Method) (b : Body) (i : Insn) → slice_get p.classes place ≡ Some k → slice_get k.methods at ≡ Some m → slice_index_or admitted m.name false ≡ false → m.body ≡ Some b → slice_get b.insns position ≡ Some i

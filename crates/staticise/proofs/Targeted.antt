@@ -5,7 +5,10 @@ use Rattle.std.proofs.lemmas.Bool.{cases_lt}
 use Rattle.std.proofs.lemmas.Option.{slice_get_past}
 use Rattle.program_model.specs.declared.program.Method.{Method}
 use Rattle.program_model.specs.declared.program.Program.{Program}
-use Rattle.staticise.specs.Loosened.{code_loosened, flags_loosened, is_given, marks_loosened, method_loosened, target_of}
+use Rattle.program_model.specs.Lookups.{class_place}
+use Rattle.class_defs.specs.Finding.{by_entry, first_among, resolution_of}
+use Rattle.class_defs.specs.Members.{own_method}
+use Rattle.staticise.specs.Loosened.{code_loosened, flags_loosened, is_given, marks_loosened, method_loosened, target_at, target_of}
 use Rattle.staticise.specs.Ordering.{AreTargets, TargetsTo}
 
 last_is : (xs : List (Option ℕ)) (x : Option ℕ) (n : ℕ) → n ≡ length xs → slice_index_or (xs ++ x ∷ []) n None ≡ x
@@ -46,7 +49,7 @@ module _ (p : Program) (given : List (Option ℕ)) where
   all_targeted done targets le a = record { are = λ n. by n (cases_lt n done) }
     where
       beyond : (n : ℕ) → slice_get p.methods n ≡ None → target_of p given n ≡ None
-      beyond n e = rw e refl
+      beyond n e = ap (λ o. target_at p given (by_entry (λ q. first_among (own_method p q.name q.proto) (resolution_of p (class_place p q.class))) o)) e
 
       by : (n : ℕ) → (n < done) ⊎ (done ≤ n) → slice_index_or targets n None ≡ target_of p given n
       by n (inl l) = a.are n l

@@ -34,14 +34,14 @@ pub record PlaceOf {X : Type 0} (t : X → Bool) (xs : List X) (i : ℕ) : Type 
 
 pub placed : {X : Type 0} (t : X → Bool) (xs : List X) (i : ℕ) → position t xs ≡ Some i → PlaceOf t xs i
 placed t [] i e = absurd (cc)
-placed t (x ∷ xs) i e = by (t x) refl i e
+placed t (x ∷ xs) i e = by (t x) refl (λ j f. placed t xs j f) i e
   where
-    by : (b : Bool) → t x ≡ b → (i : ℕ) → position t (x ∷ xs) ≡ Some i → PlaceOf t (x ∷ xs) i
-    by true f zero g = record { item = x; there = refl; passes = f }
-    by true f (suc i) g = absurd (let z : Some 0 ≡ Some (suc i) = sym (position_step t x xs ∙ ap (λ b. cond b (Some 0) (option_map suc (position t xs))) f) ∙ g in let w : 0 ≡ suc i = some_same 0 (suc i) z in cc)
-    by false f i g =
+    by : (b : Bool) → t x ≡ b → ((j : ℕ) → position t xs ≡ Some j → PlaceOf t xs j) → (i : ℕ) → position t (x ∷ xs) ≡ Some i → PlaceOf t (x ∷ xs) i
+    by true f more zero g = record { item = x; there = refl; passes = f }
+    by true f more (suc i) g = absurd (let z : Some 0 ≡ Some (suc i) = sym (position_step t x xs ∙ ap (λ b. cond b (Some 0) (option_map suc (position t xs))) f) ∙ g in let w : 0 ≡ suc i = some_same 0 (suc i) z in cc)
+    by false f more i g =
         let b = before_map suc (position t xs) i (sym (position_step t x xs ∙ ap (λ b. cond b (Some 0) (option_map suc (position t xs))) f) ∙ g) in
-        next b.0 i b.1.1 (placed t xs b.0 b.1.0)
+        next b.0 i b.1.1 (more b.0 b.1.0)
       where
         next : (j i : ℕ) → suc j ≡ i → PlaceOf t xs j → PlaceOf t (x ∷ xs) i
         next j zero s r = absurd (cc)

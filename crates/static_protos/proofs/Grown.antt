@@ -1,6 +1,6 @@
 -- The tables with one method more.
 use Rattle.std.proofs.Common.{◌≡◌, ◌⊎◌, inl, inr, ℕ, zero, suc, ◌+◌, ◌<◌, ◌≤◌, ◌^◌, Bool, true, false, true≢false, nat_eq, List, [], ◌∷◌, ◌++◌, map, length, get_or, take, Option, Some, None, refl, sym, ap, ◌∙◌, subst, arith}
-use Rattle.std.specs.Prelude.{◌&&◌, ◌||◌, not, cond, is_some, nat_le, nat_lt, position, replicate, IfSome, Unit, slice_get, slice_set, sum_by, Vec}
+use Rattle.std.specs.Prelude.{◌&&◌, ◌||◌, not, cond, is_some, nat_le, nat_lt, position, replicate, IfSome, slice_get, slice_set, sum_by, if◌then◌else◌, Vec}
 use Rattle.std.specs.List.{list_any}
 use Rattle.std.specs.Option.{option_map}
 use Rattle.std.specs.declared.alloc.Global.{Global}
@@ -34,7 +34,7 @@ one_more xs i x lt e = take_more xs i x lt ∙ ap (λ y. take i xs ++ y ∷ []) 
 
 pub position_map : {X Y : Type 0} (f : X → Y) (t : Y → Bool) (xs : List X) → position t (map f xs) ≡ position (λ x. t (f x)) xs
 position_map f t [] = refl
-position_map f t (x ∷ xs) = by (t (f x)) (position_map f t xs)
+position_map f t (x ∷ xs) = position_step t (f x) (map f xs) ∙ (by (t (f x)) (position_map f t xs) ∙ sym (position_step (λ y. t (f y)) x xs))
   where
     by : (b : Bool) → position t (map f xs) ≡ position (λ y. t (f y)) xs → cond b (Some 0) (option_map suc (position t (map f xs))) ≡ cond b (Some 0) (option_map suc (position (λ y. t (f y)) xs))
     by true e = refl
@@ -43,15 +43,15 @@ position_map f t (x ∷ xs) = by (t (f x)) (position_map f t xs)
 -- nothing passes a test that has no place
 pub place_none : {X : Type 0} (t : X → Bool) (xs : List X) → position t xs ≡ None → list_any t xs ≡ false
 place_none t [] e = refl
-place_none t (x ∷ xs) e = by (t x) refl e
+place_none t (x ∷ xs) e = by (t x) refl e (λ f. place_none t xs f)
   where
     none : (o : Option ℕ) → option_map suc o ≡ None → o ≡ None
     none None f = refl
     none (Some i) f = absurd (cc)
 
-    by : (b : Bool) → t x ≡ b → position t (x ∷ xs) ≡ None → (t x || list_any t xs) ≡ false
-    by true f g = absurd (let z : Some 0 ≡ None = sym (position_step t x xs ∙ ap (λ b. cond b (Some 0) (option_map suc (position t xs))) f) ∙ g in cc)
-    by false f g = ap (λ b. b || list_any t xs) f ∙ place_none t xs (none (position t xs) (sym (position_step t x xs ∙ ap (λ b. cond b (Some 0) (option_map suc (position t xs))) f) ∙ g))
+    by : (b : Bool) → t x ≡ b → position t (x ∷ xs) ≡ None → (position t xs ≡ None → list_any t xs ≡ false) → (t x || list_any t xs) ≡ false
+    by true f g more = absurd (let z : Some 0 ≡ None = sym (position_step t x xs ∙ ap (λ b. cond b (Some 0) (option_map suc (position t xs))) f) ∙ g in cc)
+    by false f g more = ap (λ b. b || list_any t xs) f ∙ more (none (position t xs) (sym (position_step t x xs ∙ ap (λ b. cond b (Some 0) (option_map suc (position t xs))) f) ∙ g))
 
 module _ (p : Program) (t : Tables) (a : Additions) (g : IsGrown p t a) (w : Wanted) where
   pub text_room : position (λ (v : Vec ℕ Global). pointwise nat_eq w.text v.items) a.texts.keys ≡ text_at t w
@@ -60,6 +60,19 @@ module _ (p : Program) (t : Tables) (a : Additions) (g : IsGrown p t a) (w : Wan
   pub proto_room : position (λ (v : Vec ℕ Global). pointwise nat_eq (w.result ∷ w.parameters) v.items) a.keys.keys ≡ proto_at t w
   proto_room = sym (position_map (λ (v : Vec ℕ Global). v.items) (pointwise nat_eq (w.result ∷ w.parameters)) a.keys.keys)
       ∙ ap (position (pointwise nat_eq (w.result ∷ w.parameters))) g.keys ∙ position_map proto_key (pointwise nat_eq (w.result ∷ w.parameters)) t.protos
+
+-- a vector that stands nowhere is appended
+pub inserted : (old new : List (Vec ℕ Global)) (v : Vec ℕ Global) (text : List ℕ) (place : Option ℕ) → v.items ≡ text → place ≡ None → place ≡ position (pointwise nat_eq text) (map (λ v. v.items) old)
+    → new ≡ (if list_any (λ w. pointwise nat_eq v.items w.items) old then old else old ++ v ∷ []) → map (λ v. v.items) new ≡ texts_with (map (λ v. v.items) old) text place
+inserted old new v text place same none is e =
+    ap (map (λ v. v.items)) (e ∙ ap (λ b. if b then old else old ++ v ∷ []) absent) ∙ (map_append (λ (v : Vec ℕ Global). v.items) old (v ∷ []) ∙ (ap (λ t. map (λ v. v.items) old ++ t ∷ []) same ∙ sym (ap (texts_with (map (λ v. v.items) old) text) none)))
+  where
+    any_units : (x : List ℕ) (vs : List (Vec ℕ Global)) → list_any (λ v. pointwise nat_eq x v.items) vs ≡ list_any (pointwise nat_eq x) (map (λ v. v.items) vs)
+    any_units x [] = refl
+    any_units x (w ∷ vs) = ap (λ b. pointwise nat_eq x w.items || b) (any_units x vs)
+
+    absent : list_any (λ w. pointwise nat_eq v.items w.items) old ≡ false
+    absent = any_units v.items old ∙ (ap (λ t. list_any (pointwise nat_eq t) (map (λ v. v.items) old)) same ∙ place_none (pointwise nat_eq text) (map (λ v. v.items) old) (sym is ∙ none))
 
 -- ---- nothing is appended yet
 
@@ -134,7 +147,7 @@ text_short p t a w o g e = subst (λ x. IfSome x (λ i. i < 2 ^ 32)) (sym e) (by
 
 sum_end : (xs : List (List ℕ)) (x : List ℕ) → sum_by length (xs ++ x ∷ []) ≡ sum_by length xs + length x
 sum_end [] x = omega arith
-sum_end (y ∷ xs) x = let z = sum_end xs x in omega (arith, z)
+sum_end (y ∷ xs) x = let z = sum_end xs x in let a : sum_by length (y ∷ (xs ++ x ∷ [])) ≡ length y + sum_by length (xs ++ x ∷ []) = refl in let b : sum_by length (y ∷ xs) ≡ length y + sum_by length xs = refl in a ∙ (ap (λ n. length y + n) z ∙ omega (arith, b))
 
 length_end : {X : Type 0} (xs : List X) (x : X) → length (xs ++ x ∷ []) ≡ length xs + 1
 length_end [] x = refl

@@ -15,7 +15,7 @@ use Rattle.program_model.specs.TableRules.{proto_fits, is_shorty, stands_for, st
 use Rattle.program_model.specs.Texts.{has_string, has_type, is_reference, is_void, letter_of, string_text}
 use Rattle.program_model.specs.declared.pools.Proto.{Proto}
 use Rattle.program_model.specs.declared.program.Program.{Program}
-use Rattle.class_defs.proofs.Positions.{number_of}
+use Rattle.class_defs.proofs.Positions.{number_of, number_test}
 use Rattle.class_defs.proofs.WellFormed.{below, sound}
 use Rattle.static_protos.specs.declared.tables.Wanted.{Wanted}
 use Rattle.static_protos.specs.Growing.{AreBehind, AreSound}
@@ -75,11 +75,13 @@ module _ (p : Program) where
 
   letters_are : (units kinds : List ℕ) → (nat_eq (length units) (length kinds) && list_all (stands_for_parameter p) (zip units kinds)) ≡ true → units ≡ map (letter_at p) kinds
   letters_are [] [] e = refl
-  letters_are [] (k ∷ ks) e = absurd (true≢false (sym e))
-  letters_are (u ∷ us) [] e = absurd (true≢false (sym e))
+  letters_are [] (k ∷ ks) e = absurd (let z : 0 ≡ suc (length ks) = number_of 0 (suc (length ks)) (and_left (nat_eq 0 (suc (length ks))) true e) in cc)
+  letters_are (u ∷ us) [] e = absurd (let z : suc (length us) ≡ 0 = number_of (suc (length us)) 0 (and_left (nat_eq (suc (length us)) 0) true e) in cc)
   letters_are (u ∷ us) (k ∷ ks) e =
-      let long = and_left (nat_eq (length us) (length ks)) (stands_for_parameter p (u, k) && list_all (stands_for_parameter p) (zip us ks)) e in
-      let both = and_right (nat_eq (length us) (length ks)) (stands_for_parameter p (u, k) && list_all (stands_for_parameter p) (zip us ks)) e in
+      let more : suc (length us) ≡ suc (length ks) = number_of (suc (length us)) (suc (length ks)) (and_left (nat_eq (suc (length us)) (suc (length ks))) (stands_for_parameter p (u, k) && list_all (stands_for_parameter p) (zip us ks)) e) in
+      let same : length us ≡ length ks = cc in
+      let long = number_test (length us) (length ks) same in
+      let both = and_right (nat_eq (suc (length us)) (suc (length ks))) (stands_for_parameter p (u, k) && list_all (stands_for_parameter p) (zip us ks)) e in
       let first = letter_is u k (and_left (stands_for u (letter_of p k)) (not (is_void (letter_of p k))) (and_left (stands_for_parameter p (u, k)) (list_all (stands_for_parameter p) (zip us ks)) both)) in
       let rest = letters_are us ks (ap (λ b. b && list_all (stands_for_parameter p) (zip us ks)) long ∙ and_right (stands_for_parameter p (u, k)) (list_all (stands_for_parameter p) (zip us ks)) both) in
       ap (λ x. x ∷ us) first ∙ ap (λ xs. letter_at p k ∷ xs) rest

@@ -3,7 +3,7 @@
 ghost use Rattle.std.specs.Prelude.{◌≡◌, slice_index_or, true, false, IfOk, OnOk};
 ghost use Rattle.program_model.specs.ProgramRules.{is_well_formed};
 ghost use Rattle.static_protos.specs.Tables.{Tables, wanted};
-ghost use Rattle.static_protos.specs.Growing.{IsGrown, IsGrowth, grown, room_named, room_for, grown_method, grown_methods, grown_classes};
+ghost use Rattle.static_protos.specs.Growing.{IsGrown, IsGrowth, grown, room_with, room_named, room_for, grown_method, grown_methods, grown_classes};
 
 use crate::tables::{Additions, Wanted, key, no_additions, short_form};
 use dex_base::Text;
@@ -52,6 +52,22 @@ fn wanted(
     })
 }
 
+/// Gives a method of a class its proto, if there is room for it, where it has this entry of the table of methods and this proto.
+fn add_with(
+    alloc: Global,
+    program: &Program,
+    additions: &mut Additions,
+    class: &Class,
+    method: &Method,
+    name: &MethodName,
+    proto: &Proto,
+) -> Result<(), AllocError>
+    ensures { let p = program.now in (t : Tables) → IsGrown p t additions.old → OnOk result (IsGrown p (room_with p t (wanted p class.now method.now name.now proto.now)) additions.new) }
+{
+    let wanted = wanted(alloc, program, class, method, name, proto)?;
+    additions.add(alloc, wanted)
+}
+
 /// Gives a method of a class its proto, if there is room for it, where it has this entry of the table of methods.
 fn add_named(
     alloc: Global,
@@ -64,10 +80,7 @@ fn add_named(
     ensures { let p = program.now in (t : Tables) → IsGrown p t additions.old → OnOk result (IsGrown p (room_named p t class.now method.now name.now) additions.new) }
 {
     match program.protos.as_slice().get(name.proto as usize) {
-        Some(proto) => {
-            let wanted = wanted(alloc, program, class, method, name, proto)?;
-            additions.add(alloc, wanted)
-        }
+        Some(proto) => add_with(alloc, program, additions, class, method, name, proto),
         None => Ok(()),
     }
 }

@@ -1,6 +1,6 @@
 //! The tables as they grow: what is appended for a method that is made static.
 
-ghost use Rattle.std.specs.Prelude.{◌≡◌, ℕ, ◌∷◌, ◌&&◌, ◌||◌, ◌<◌, ◌+◌, ◌^◌, Some, true, cond, is_some, map, nat_eq, nat_le, nat_lt, length, position, sum_by, slice_set, IfOk, IfSome, OnOk};
+ghost use Rattle.std.specs.Prelude.{◌≡◌, ℕ, ◌∷◌, ◌&&◌, ◌||◌, ◌<◌, ◌+◌, ◌^◌, None, Some, replicate, true, cond, is_some, map, nat_eq, nat_le, nat_lt, length, position, sum_by, slice_set, IfOk, IfSome, OnOk};
 ghost use Rattle.std.specs.List.{list_any};
 ghost use Rattle.std.specs.Cmp.Lexicographic.{pointwise};
 ghost use Rattle.std.specs.HashSet.{contains_by};
@@ -139,7 +139,7 @@ pub(crate) fn no_additions(alloc: Global, program: &Program) -> Result<Additions
 {
     let new_strings = Vec::new(alloc);
     let new_protos = Vec::new(alloc);
-    let given = vec![in alloc; None; program.methods.len()]?;
+    let given = no_protos(alloc, program.methods.len())?;
     let texts = texts_of(alloc, program.strings.as_slice())?;
     let keys = keys_of(alloc, program.protos.as_slice())?;
     let names = names_of(alloc, program.methods.as_slice())?;
@@ -155,6 +155,20 @@ pub(crate) fn no_additions(alloc: Global, program: &Program) -> Result<Additions
         units,
         items,
     })
+}
+
+/// Whether both hold.
+fn both(first: bool, second: bool) -> bool
+    ensures { result ≡ (first && second) }
+{
+    first && second
+}
+
+/// So many methods without a new proto.
+fn no_protos(alloc: Global, count: usize) -> Result<Vec<Option<u32>>, AllocError>
+    ensures { IfOk result (λ given. given.items ≡ replicate count None) }
+{
+    vec![in alloc; None; count]
 }
 
 /// Whether a count with more keeps the limit of units and of items.
@@ -236,7 +250,7 @@ impl Additions {
     {
         let units = is_within(self.units, wanted.more_units(room));
         let items = is_within(self.items, wanted.more_items(room));
-        units && items
+        both(units, items)
     }
 
     /// Whether a method may get its proto.
@@ -246,7 +260,8 @@ impl Additions {
         let taken = self.is_taken(wanted.name, room.proto);
         let places = self.has_places(room);
         let limits = self.keeps_limits(wanted, room);
-        !taken && places && limits
+        let free = both(!taken, places);
+        both(free, limits)
     }
 
     /// Counts what a method appends.
@@ -270,11 +285,14 @@ impl Additions {
         ensures texts { place ≡ text_place (texts_in self.old) text.now → OnOk result (texts_in self.new ≡ texts_with (texts_in self.old) text.now place) }
         ensures rest { OnOk result (self.new ≡ record self.old { new_strings = self.new.new_strings; texts = self.new.texts }) }
     {
-        if place.is_none() {
-            self.new_strings.push(Text::from_units(alloc, text)?)?;
-            self.texts.insert(Vec::from_slice(alloc, text)?)?;
+        match place {
+            Some(_) => Ok(()),
+            None => {
+                self.new_strings.push(Text::from_units(alloc, text)?)?;
+                self.texts.insert(Vec::from_slice(alloc, text)?)?;
+                Ok(())
+            }
         }
-        Ok(())
     }
 
     /// Appends a proto, unless it stands at a place of the table.
@@ -288,12 +306,15 @@ impl Additions {
         ensures keys { place ≡ position (pointwise nat_eq (proto_key proto)) (keys_in self.old) → OnOk result (keys_in self.new ≡ texts_with (keys_in self.old) (proto_key proto) place) }
         ensures rest { OnOk result (self.new ≡ record self.old { new_protos = self.new.new_protos; keys = self.new.keys }) }
     {
-        if place.is_none() {
-            self.keys
-                .insert(key(alloc, proto.result, proto.parameters.as_slice())?)?;
-            self.new_protos.push(proto)?;
+        match place {
+            Some(_) => Ok(()),
+            None => {
+                self.keys
+                    .insert(key(alloc, proto.result, proto.parameters.as_slice())?)?;
+                self.new_protos.push(proto)?;
+                Ok(())
+            }
         }
-        Ok(())
     }
 
     /// Notes the new proto of a method.

@@ -1,6 +1,7 @@
-use Rattle.std.proofs.Common.{◌≡◌, ◌∙◌, ℕ, ap, true, sym, take_all}
+use Rattle.std.proofs.Common.{◌≡◌, ◌∙◌, ℕ, ap, get_or, true, sym, take_all}
 use Rattle.std.specs.Prelude.{◌&&◌, nat_eq}
 use Rattle.std.specs.List.{list_any}
+use Rattle.std.proofs.lemmas.List.{get_or_default}
 use Rattle.class_defs.proofs.Positions.{number_of}
 use Rattle.lemmas.proofs.Bools.{and_left, and_right}
 use Rattle.program_model.specs.declared.pools.MethodName.{MethodName}
@@ -16,8 +17,9 @@ same_of a b e =
 
 pub loop-method-preserved : goal.loop-method-preserved
 loop-method-preserved c = λ name proto.
-    pairs_more (same_pair (name, proto)) same_pair (λ (m : MethodName). (m.name, m.proto)) c.args.methods.now c.loop-method.method-index c.method-item.result c.loop-method.names.keys c.insert.new.self.keys
-    (λ a b e. ap (same_pair (name, proto)) (sym (same_of a b e))) c.loop-method-test.true c.method-item.is (c.loop-method.invariant name proto) c.in_ok-insert.ensures.keys
+    let x : MethodName = get_or c.args.methods.now c.loop-method.method-index (record { class = 0; proto = 0; name = 0 }) in
+    pairs_more (same_pair (name, proto)) same_pair (λ (m : MethodName). (m.name, m.proto)) c.args.methods.now c.loop-method.method-index x c.loop-method.names.keys c.insert.new.self.keys
+    (λ a b e. ap (same_pair (name, proto)) (sym (same_of a b e))) c.loop-method-test.true (get_or_default c.args.methods.now c.loop-method.method-index (record { class = 0; proto = 0; name = 0 }) x c.loop-method-test.true) (c.loop-method.invariant name proto) c.in_ok-insert.ensures.keys
 
 pub returns : goal.returns
 returns c = λ name proto.

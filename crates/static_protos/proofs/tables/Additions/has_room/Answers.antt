@@ -15,7 +15,7 @@ returns c = λ p t g e f.
     let limits = c.keeps_limits-limits.ensures p t g e f in
     let units = nat_le (sum_by length (strings_with t w)) 16777216 in
     let items = nat_le (items_with t w) 16777216 in
-    ap (λ b. not b && c.has_places-places.result && c.keeps_limits-limits.result) (taken ∙ ap (is_taken p w.name) f)
+    c.both.ensures ∙ (ap (λ b. b && c.keeps_limits-limits.result) c.both-free.ensures ∙ (ap (λ b. not b && c.has_places-places.result && c.keeps_limits-limits.result) (taken ∙ ap (is_taken p w.name) f)
     ∙ (ap (λ b. not (is_taken p w.name (proto_at t w)) && b && c.keeps_limits-limits.result) (places ∙ (ap (λ o. (is_some o || nat_lt (length t.strings) 65536) && (is_some proto || nat_lt (length t.protos) 65535)) e ∙ ap (λ o. (is_some (text_at t w) || nat_lt (length t.strings) 65536) && (is_some o || nat_lt (length t.protos) 65535)) f))
     ∙ (ap (λ b. not (is_taken p w.name (proto_at t w)) && ((is_some (text_at t w) || nat_lt (length t.strings) 65536) && (is_some (proto_at t w) || nat_lt (length t.protos) 65535)) && b) limits
-    ∙ room_is (not (is_taken p w.name (proto_at t w))) (is_some (text_at t w) || nat_lt (length t.strings) 65536) (is_some (proto_at t w) || nat_lt (length t.protos) 65535) units items))
+    ∙ room_is (not (is_taken p w.name (proto_at t w))) (is_some (text_at t w) || nat_lt (length t.strings) 65536) (is_some (proto_at t w) || nat_lt (length t.protos) 65535) units items))))

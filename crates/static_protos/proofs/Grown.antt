@@ -6,6 +6,7 @@ use Rattle.std.specs.Option.{option_map}
 use Rattle.std.specs.declared.alloc.Global.{Global}
 use Rattle.std.specs.Cmp.Lexicographic.{pointwise}
 use Rattle.std.proofs.lemmas.List.{append_assoc, take_more}
+use Rattle.std.proofs.lemmas.List.Sums.{sum_by-cons}
 use Rattle.lemmas.proofs.Bools.{and_left, and_right, or_cases}
 use Rattle.lemmas.proofs.Lists.{map_append, got_short}
 use Rattle.program_model.specs.declared.pools.Proto.{Proto}
@@ -147,7 +148,7 @@ text_short p t a w o g e = subst (λ x. IfSome x (λ i. i < 2 ^ 32)) (sym e) (by
 
 sum_end : (xs : List (List ℕ)) (x : List ℕ) → sum_by length (xs ++ x ∷ []) ≡ sum_by length xs + length x
 sum_end [] x = omega arith
-sum_end (y ∷ xs) x = let z = sum_end xs x in let a : sum_by length (y ∷ (xs ++ x ∷ [])) ≡ length y + sum_by length (xs ++ x ∷ []) = refl in let b : sum_by length (y ∷ xs) ≡ length y + sum_by length xs = refl in a ∙ (ap (λ n. length y + n) z ∙ omega (arith, b))
+sum_end (y ∷ xs) x = let z = sum_end xs x in let a = sum_by-cons length y (xs ++ x ∷ []) in let b = sum_by-cons length y xs in a ∙ (ap (λ n. length y + n) z ∙ omega (arith, b))
 
 length_end : {X : Type 0} (xs : List X) (x : X) → length (xs ++ x ∷ []) ≡ length xs + 1
 length_end [] x = refl

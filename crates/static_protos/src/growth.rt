@@ -147,7 +147,14 @@ fn add_classes(
     ensures { let p = program.now in (t : Tables) → IsGrown p t additions.old → OnOk result (IsGrown p (grown_classes p marked.now t classes.now) additions.new) }
 {
     for class in classes {
-        add_methods(alloc, program, additions, class, class.methods.as_slice(), marked)?;
+        add_methods(
+            alloc,
+            program,
+            additions,
+            class,
+            class.methods.as_slice(),
+            marked,
+        )?;
     }
     Ok(())
 }

@@ -360,4 +360,3 @@ impl Additions {
         self.append(alloc, wanted, room)
     }
 }
-

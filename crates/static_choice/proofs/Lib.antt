@@ -1,1 +1,10 @@
-pub mod Grown
+mod Apart
+mod Calls
+pub mod Coded
+pub mod Edited
+pub mod Made
+pub mod May
+mod Mentions
+pub mod Own
+pub mod Planned
+mod Walks

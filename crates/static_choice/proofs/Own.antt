@@ -25,10 +25,10 @@ use Rattle.name_bridge.proofs.Above.{own_place}
 use Rattle.name_bridge.proofs.Tables.{same_number}
 use Rattle.stuck_bridge.proofs.Listed.{methods_differ}
 use Rattle.facts.specs.declared.facts.Facts.{Facts}
-use Rattle.staticise.specs.Loose.{calls_allow, is_alone, is_this, named_by, names_it, number_at}
-use Rattle.staticise.specs.Mentioned.{is_mentioned}
-use Rattle.staticise.specs.Judging.{is_candidate, is_kept, is_plain_class, may_be_static, takes_receiver}
-use Rattle.static_choice.specs.Chosen.{IsMethod}
+use Rattle.loose_methods.specs.Loose.{calls_allow, is_alone, is_this, named_by, names_it, number_at}
+use Rattle.loose_methods.specs.Mentioned.{is_mentioned}
+use Rattle.loose_methods.specs.Candidates.{is_candidate, is_kept, is_plain_class, may_be_static, takes_receiver}
+use Rattle.static_choice.proofs.Made.{IsMethod}
 
 -- ---- tests
 

@@ -23,11 +23,13 @@ use Rattle.loosened_bridge.specs.Edited.{IsOwn, IsPlanned, LetsClass, target_of}
 use Rattle.loosened_bridge.proofs.Classes.{contains_at}
 use Rattle.loosened_bridge.proofs.Programs.{in_from}
 use Rattle.loosened_bridge.proofs.Targets.{targets_planned}
-use Rattle.staticise.specs.Judging.{Tables, is_kept, judged}
-use Rattle.staticise.specs.Mentioned.{class_methods, is_mentioned, mentioned}
-use Rattle.staticise.specs.Loose.{names_it}
+use Rattle.loose_methods.specs.Candidates.{is_kept}
+use Rattle.static_protos.specs.Tables.{Tables}
+use Rattle.staticise.specs.Judging.{judged}
+use Rattle.loose_methods.specs.Mentioned.{class_methods, is_mentioned, mentioned}
+use Rattle.loose_methods.specs.Loose.{names_it}
 use Rattle.static_choice.specs.Choice.{given_by}
-use Rattle.static_choice.specs.Chosen.{AreChosen, IsChosen, IsMethod}
+use Rattle.static_choice.proofs.Made.{AreChosen, IsChosen, IsMethod}
 use Rattle.static_choice.proofs.Mentions.{class_marks, each_in, each_in_all, field_marks, method_marks}
 use Rattle.static_choice.proofs.Own.{MayBe, may_be, names_itself, same_method}
 

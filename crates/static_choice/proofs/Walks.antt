@@ -107,7 +107,7 @@ module _ (p : Program) (w : is_well_formed p ≡ true) (once : (class : ℕ) →
   of_types (k ∷ ks) t (here ts) = record { kind = k; is_in = here ks; is = refl }
   of_types (k ∷ ks) t (there u ts i) = let x = of_types ks t i in record { kind = x.kind; is_in = there k ks x.is_in; is = x.is }
 
-  above_short : (j : ℕ) (d : Class) (k : ℕ) → slice_get p.classes j ≡ Some d → In k (d.superclass ∷ d.interfaces) → k < length p.types
+  pub above_short : (j : ℕ) (d : Class) (k : ℕ) → slice_get p.classes j ≡ Some d → In k (d.superclass ∷ d.interfaces) → k < length p.types
   above_short j d k e i = by (d.superclass ∷ d.interfaces) i (and_both (has_type p d.superclass) (list_all (has_type p) d.interfaces) (lt-ltb d.superclass (length p.types) (class_parts p s j d e).superclass) (class_parts p s j d e).interfaces)
     where
       by : (ks : List ℕ) → In k ks → list_all (has_type p) ks ≡ true → k < length p.types

@@ -300,7 +300,7 @@ module _ (p : Program) (w : is_well_formed p ≡ true) (once : (class : ℕ) →
         flagged c d e true f g = ap is_interface e ∙ (interface_flag d.flags ∙ f)
         flagged c d e false f g = clash false g refl
 
-        abbrev by_class : Option NamedClass → Bool
+        by_class : Option NamedClass → Bool
         by_class o = is_some (elim o as (λ o. Option NamedClass) [ Some c ↦ elim (flags.is_interface c.flags) as (λ b. Option NamedClass) [ true ↦ Some c | false ↦ None ] | None ↦ None ])
 
         by : (o : Option ℕ) → class_place p q.class ≡ o → by_class (class_named (named p) (type_at p q.class)) ≡ true → (c : ℕ) × ((class_place p q.class ≡ Some c) × (interface_at p c ≡ true))
@@ -394,7 +394,7 @@ module _ (p : Program) (w : is_well_formed p ≡ true) (once : (class : ℕ) →
         resolves_named : resolves_to p n called ≡ true → loose.resolves_to (named p) (method_at p n) k ≡ true
         resolves_named h = by (resolves_method p called) refl h
           where
-            abbrev so : Option Found → Bool
+            so : Option Found → Bool
             so o = elim o as (λ o. Bool) [ Some g ↦ method_eq g.key (method_at p n) | None ↦ false ]
 
             by : (o : Option MethodAt) → resolves_method p called ≡ o → is_this n (number_found p o) ≡ true → loose.resolves_to (named p) (method_at p n) k ≡ true
@@ -481,7 +481,10 @@ module _ (p : Program) (w : is_well_formed p ≡ true) (once : (class : ℕ) →
         stays_named : (kind : InvokeKind) → list_all (is_it p n) (may_find p caller kind called q) ≡ true → may_leave p caller kind called q ≡ false → leaves.may_leave (named p) class kind k ≡ false
         stays_named kind a e = untrue (leaves.may_leave (named p) class kind k) (λ h. by (or_cases (not (defines (named p) k.class) || leaves.misses (named p) class kind k) (list_any (λ (g : Found). not g.coded) (by_name.may_find (named p) class kind k)) h))
           where
+            first : ((not (is_some (class_place p q.class)) || misses p caller kind called q) ≡ false) × (list_any (λ at. not (has_code (look.method_at p at))) (may_find p caller kind called q) ≡ false)
             first = neither_of (not (is_some (class_place p q.class)) || misses p caller kind called q) (list_any (λ at. not (has_code (look.method_at p at))) (may_find p caller kind called q)) e
+
+            both : (not (is_some (class_place p q.class)) ≡ false) × (misses p caller kind called q ≡ false)
             both = neither_of (not (is_some (class_place p q.class))) (misses p caller kind called q) first.0
 
             there : is_some (class_place p q.class) ≡ true

@@ -38,10 +38,10 @@ in_at : {A : Type 0} (xs : List A) (n : ℕ) (x : A) → slice_get xs n ≡ Some
 in_at xs n x e = in_from xs x (contains_at xs n x e)
 
 module _ (p : Program) (facts : Facts) (o : Outside) (admitted : List Bool) (s : Sound p) (twice : (class : ℕ) → IsTwice p class → ⊥) (chosen : AreChosen p facts o admitted (judged p facts o admitted)) where
-  abbrev given : ℕ → Option ℕ
+  abbrev pub given : ℕ → Option ℕ
   given n = given_by p facts o admitted n
 
-  abbrev Chosen : ℕ → ℕ → Type 0
+  abbrev pub Chosen : ℕ → ℕ → Type 0
   Chosen n k = IsChosen p facts o admitted (judged p facts o admitted) n k
 
   -- a number that is given a proto
@@ -107,7 +107,7 @@ module _ (p : Program) (facts : Facts) (o : Outside) (admitted : List Bool) (s :
 
   -- ---- candidates
 
-  pub candidate : (n k : ℕ) → given n ≡ Some k → IsCandidate p o n
+  abbrev pub candidate : (n k : ℕ) → given n ≡ Some k → IsCandidate p o n
   candidate n k e =
       let c : Chosen n k = chosen.given n k e in
       let m : IsMethod p n = c.stands in

@@ -32,8 +32,8 @@ use Rattle.dalvik_defs.specs.declared.tables.Framework.{Framework}
 use Rattle.domains.specs.Datum.{Datum, Plain, Single, is_zero}
 use Rattle.domains.specs.Nulls.{Allows}
 use Rattle.domains.specs.Values.{Parts, value_holds}
-use Rattle.domains.specs.declared.nullness.Nullness.{Nullness}
-use Rattle.domains.specs.declared.nullness.Nullness.TheVariants as null
+use Rattle.domains.specs.declared.nulls.Nullness.{Nullness}
+use Rattle.domains.specs.declared.nulls.Nullness.TheVariants as null
 use Rattle.dom_frame.specs.Registers.{value_at}
 use Rattle.dom_frame.specs.declared.frames.Frame.{Frame}
 use Rattle.facts.specs.Lent.{frame_at}

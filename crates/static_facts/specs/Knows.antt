@@ -7,8 +7,8 @@ use Rattle.program_model.specs.declared.program.Program.{Program}
 use Rattle.dalvik_defs.specs.Naming.{named_class, named_method}
 use Rattle.dalvik_defs.specs.Silence.{key_in}
 use Rattle.dalvik_defs.specs.declared.names.MethodKey.{MethodKey}
-use Rattle.domains.specs.declared.nullness.Nullness.{Nullness}
-use Rattle.domains.specs.declared.nullness.Nullness.TheVariants as null
+use Rattle.domains.specs.declared.nulls.Nullness.{Nullness}
+use Rattle.domains.specs.declared.nulls.Nullness.TheVariants as null
 use Rattle.dom_frame.specs.Registers.{value_at}
 use Rattle.dom_frame.specs.declared.frames.Frame.{Frame}
 use Rattle.facts.specs.Lent.{frame_at}

@@ -175,9 +175,11 @@ module _ (p : Program) (w : is_well_formed p ≡ true) (once : (class : ℕ) →
         by (Some at) f = ap is_some f
         by None f = clash false (sym (ap is_some ((virtual_answers p s q.name q.proto (method_name p s n q m.is_entry) (method_proto p s n q m.is_entry)).same j ∙ ap (option_and_then (found_at p)) f)) ∙ some_there) refl
 
+    abbrev inner : NamedClass → NamedClass → Bool
+    inner c u = not (text_eq u.name k.class) && is_own_under (named p) c.name u.name && loose.has_virtual k u
+
     rival_number : loose.has_rival (named p) k ≡ true → has_rival p q m.place ≡ true
     rival_number h =
-        let inner = λ (c u : NamedClass). not (text_eq u.name k.class) && is_own_under (named p) c.name u.name && loose.has_virtual k u in
         let x = any_where (λ (c : NamedClass). list_any (inner c) (named p).classes) (loose.classes_under (named p) k.class) h in
         let b : IsBelow x.0 = below x.0 x.1.0 in
         let y = any_where (inner x.0) (named p).classes x.1.1 in

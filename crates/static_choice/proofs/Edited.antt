@@ -96,7 +96,7 @@ module _ (p : Program) (g : List (Option ℕ)) where
   name_same n m None = refl
   name_same n m (Some k) = refl
 
-names_at : (os : List (Option ℕ)) (qs : List MethodName) (n : ℕ) → slice_get (names_with os qs) n ≡ option_map (λ m. name_with m (slice_index_or os n None)) (slice_get qs n)
+pub names_at : (os : List (Option ℕ)) (qs : List MethodName) (n : ℕ) → slice_get (names_with os qs) n ≡ option_map (λ m. name_with m (slice_index_or os n None)) (slice_get qs n)
 names_at [] qs n = by (slice_get qs n)
   where
     by : (o : Option MethodName) → o ≡ option_map (λ m. name_with m None) o

@@ -7,4 +7,5 @@ pub mod May
 mod Mentions
 pub mod Own
 pub mod Planned
+pub mod Staying
 mod Walks

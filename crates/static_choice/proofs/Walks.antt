@@ -2,6 +2,7 @@
 use Rattle.std.proofs.Common.{◌≡◌, ◌⊎◌, inl, inr, ℕ, zero, suc, ◌+◌, ◌<◌, Bool, true, false, true≢false, nat_eq, List, [], ◌∷◌, length, map, Option, Some, None, refl, sym, ap, ◌∙◌, subst, arith, lt-ltb}
 use Rattle.std.specs.Prelude.{◌&&◌, ◌||◌, slice_get, if◌then◌else◌}
 use Rattle.std.specs.List.{list_all, list_any, range_with_len}
+use Rattle.std.specs.Option.{option_and_then}
 use Rattle.lemmas.proofs.Bools.{and_both, clash, or_left, or_right}
 use Rattle.lemmas.proofs.Lists.{all_at, got_short}
 use Rattle.lemmas.proofs.Options.{none_some, some_same}
@@ -175,7 +176,7 @@ module _ (p : Program) (w : is_well_formed p ≡ true) (once : (class : ℕ) →
                 more i c.class c.is (subst (λ k. is_own_under (named p) (type_at p start.name) (type_at p k) ≡ true) (sym c.named) on)
                 (subst (λ k. name.walks (own_above (named p)) n (type_at p k) (type_at p kind) ≡ true) (sym c.named) walk)
             next None g =
-                let undefined : class_named (named p) (type_at p v.kind) ≡ None = class_by_number p s v.kind (above_short j d v.kind e v.is_in) ∙ ap (λ o. elim o as (λ o. Option NamedClass) [ Some c ↦ class_at p c | None ↦ None ]) g in
+                let undefined : class_named (named p) (type_at p v.kind) ≡ None = class_by_number p s v.kind (above_short j d v.kind e v.is_in) ∙ ap (option_and_then (class_at p)) g in
                 lists_in j d e u (subst (λ k. In k (d.superclass ∷ d.interfaces)) (type_once p s v.kind kind (above_short j d v.kind e v.is_in) short (text_sound (type_at p v.kind) (type_at p kind) (outer undefined n walk))) v.is_in)
 
     pub under_lists : is_own_under (named p) (type_at p start.name) (type_at p kind) ≡ true → lists_above p low kind ≡ true

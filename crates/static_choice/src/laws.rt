@@ -12,9 +12,11 @@ ghost use Rattle.invariant_law.specs.Holds.{Each};
 ghost use Rattle.pass_defs.specs.Numbered.{tables_of};
 ghost use Rattle.static_names.specs.Static.{MayAllBeStatic};
 ghost use Rattle.loosened_bridge.specs.Edited.{IsEdited, IsPlanned, loose_in, target_of};
+ghost use Rattle.staticise.specs.Called.{IsUntouched};
 ghost use Rattle.staticise.specs.Judging.{judged};
 ghost use Rattle.staticise.specs.Loosened.{IsLoosenedBy};
 ghost use Rattle.static_choice.specs.Choice.{IsPlan, given_by};
+ghost use Rattle.static_choice.specs.Stays.{StaysBut};
 
 /// What is left of a program by a plan is the program in which its methods are static, and so are their calls.
 pub fn edited_law()
@@ -34,4 +36,11 @@ pub fn planned_law()
 pub fn may_law()
     ensures { (p : Program) (facts : Facts) (o : Outside) (admitted : List Bool) → is_well_formed p ≡ true → ((class : ℕ) → IsTwice p class → ⊥) → ((class : ℕ) → IsAncestor p class class → ⊥)
         → IsPlan p facts o admitted → MayAllBeStatic (named p) (outer_of p o) (tables_of p).methods (loose_in p (given_by p facts o admitted)) }
+{}
+
+/// What of a program stays once the methods of a plan are static: the code of a method that isn't admitted, and all but flags,
+/// parameters' annotations and code of every other.
+pub fn stays_law()
+    ensures { (p q : Program) (facts : Facts) (o : Outside) (admitted : List Bool) → IsPlan p facts o admitted → IsUntouched p admitted (judged p facts o admitted)
+        → IsLoosenedBy p (judged p facts o admitted) q → StaysBut (given_by p facts o admitted) admitted p q }
 {}

@@ -123,8 +123,8 @@ module _ (p : Program) (s : Sound p) where
             is_body = d.1.0;
             is_call = z.1.0 ∙ ap Some v.is;
             key = same (class_name (named p) caller.class c i) (text_sound m.name caller.name (and_left (text_eq m.name caller.name) (signature_eq m.signature caller.signature) found.passes))
-            (signature_sound m.signature caller.signature (and_right (text_eq m.name caller.name) (signature_eq m.signature caller.signature) found.passes))
-            ∙ (ap (λ (m : NamedMethod). key_in c m) (sym y.is) ∙ ap (λ (c : NamedClass). key_in c (named_method p y.entry)) (sym x.is));
+                (signature_sound m.signature caller.signature (and_right (text_eq m.name caller.name) (signature_eq m.signature caller.signature) found.passes))
+                ∙ (ap (λ (m : NamedMethod). key_in c m) (sym y.is) ∙ ap (λ (c : NamedClass). key_in c (named_method p y.entry)) (sym x.is));
             names = v.names;
             is_entry = entry.1;
           }

@@ -89,11 +89,10 @@ module _ (p : Program) (facts : Facts) (o : Outside) (admitted : List Bool) (w :
   calls_so n v g caller b i kind k args e f h =
       let c : IsChosen p facts o admitted (judged p facts o admitted) n v = (chosen p facts o admitted plan).given n v g in
       let r : KnownCall n caller i kind k args = call_known n v g caller b i kind k args e f h in
-      let x : CallAt p caller i kind k args = r.stands in
-      (
+      let x : CallAt p caller i kind k args = r.stands in (
         receiver_known facts x.method.name i kind args r.receiver,
         subst (λ t. is_plain_call (named p) (method_at p n) t kind k ≡ true) (sym (class_of caller i kind k args x)) (subst (λ z. is_plain_call (named p) (method_at p n) (type_at p x.class.name) kind z ≡ true) x.names
-        (plain_named p w twice ancestor x.called x.entry x.is_entry x.place x.class x.is_class n c.stands kind r.plain)),
+            (plain_named p w twice ancestor x.called x.entry x.is_entry x.place x.class x.is_class n c.stands kind r.plain)),
       )
 
   pub own_class : (n : ℕ) (m : IsMethod p n) → (method_at p n).class ≡ type_at p m.class.name

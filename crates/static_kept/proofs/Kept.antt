@@ -1,6 +1,7 @@
 -- What staticise leaves of a program is kept for the outside of its facts.
-use Rattle.std.proofs.Common.{◌≡◌, ℕ, Bool, true, List, Option, Some, None, refl, sym, ap, ◌∙◌, subst}
+use Rattle.std.proofs.Common.{◌≡◌, ℕ, zero, suc, Bool, true, List, Option, Some, None, refl, sym, ap, ◌∙◌, subst, arith}
 use Rattle.program_model.specs.ProgramRules.{is_well_formed}
+use Rattle.program_model.specs.declared.pass.Changed.{Changed}
 use Rattle.program_model.specs.declared.pass.Outside.{Outside}
 use Rattle.program_model.specs.declared.program.Program.{Program}
 use Rattle.class_defs.specs.ClassGraph.{IsTwice}
@@ -21,6 +22,7 @@ use Rattle.dalvik_defs.specs.declared.names.MethodKey.{MethodKey}
 use Rattle.dalvik_defs.specs.declared.script.Move.{Move}
 use Rattle.dalvik_defs.specs.declared.tables.Floats.{Floats}
 use Rattle.dalvik_defs.specs.declared.tables.Framework.{Framework}
+use Rattle.dalvik_defs.proofs.Same.{same_shown_refl}
 use Rattle.facts.specs.declared.facts.Facts.{Facts}
 use Rattle.closed_facts.specs.Closed.{AreClosed}
 use Rattle.premises.specs.Makers.{MakersAreOwn}
@@ -46,7 +48,7 @@ use Rattle.removal_bridge.proofs.Formed as upright
 use Rattle.loosened_bridge.specs.Edited.{IsEdited, IsPlanned, loose_in, target_of}
 use Rattle.loosened_bridge.proofs.Premises.{described, in_tables, names_described}
 use Rattle.staticise.specs.Judging.{judged}
-use Rattle.staticise.specs.Loosened.{IsLoosenedBy}
+use Rattle.staticise.specs.Loosened.{IsLoosenedBy, IsStaticisedBy}
 use Rattle.static_choice.specs.Choice.{IsPlan, given_by}
 use Rattle.static_choice.proofs.Edited.{edited_by}
 use Rattle.static_choice.proofs.Made.{chosen}
@@ -60,6 +62,7 @@ use Rattle.static_facts.specs.Knows.{KnowsNotNull}
 use Rattle.static_facts.proofs.NoNull.{hold_no_null}
 use Rattle.static_kept.specs.Kept.{IsKeptStatic}
 use Rattle.static_kept.proofs.Known.{knows_receivers}
+use Rattle.static_kept.proofs.Virtuals.{virtuals_stay}
 
 module _ (p q : Program) (h : Hierarchy) (o : Outside) (w : is_well_formed p ≡ true) (r : IsResolved p h) (acyclic : IsAcyclic p) (whole : NoSplit p) (typed : IsTyped (named p)) (words : AllHaveWords p)
     (own : MakersAreOwn p o) (live : LiveSet) (targets : Targets) (facts : Facts) (fits : Fits p live) (marks : IsClosedSet p o live) (exact : IsTargeted p o live targets) (closed : AreClosed p o live targets facts)
@@ -116,6 +119,7 @@ module _ (p q : Program) (h : Hierarchy) (o : Outside) (w : is_well_formed p ≡
   kept_static = record {
     typed = typed_now given target p q w twice acyclic typed edited planned o given_so;
     fewer = λ t d. sym (ap (λ (f : Text → Bool). f t) (defines_now given target p q w twice acyclic typed edited planned o given_so)) ∙ d;
+    virtuals = virtuals_stay given target p q s twice edited planned sound_so tells;
     once = still_once given target p q s edited twice;
     grounded = still_grounded given target p q s edited acyclic;
     whole = still_whole given target p q s edited whole;
@@ -125,3 +129,30 @@ module _ (p q : Program) (h : Hierarchy) (o : Outside) (w : is_well_formed p ≡
     holds = shuts_still given target p q s edited planned o given_so (upright.regular_program p w twice acyclic) twice tabled_so (names_once (named p) regular) tells
         (static_told (named p) loose sound_so (defines_once (named p) regular) (described p s) (names_described p s)) (free p facts o admitted s twice (chosen p facts o admitted plan)) alike;
   }
+
+-- ---- what the pass answers
+
+-- a program is kept for every outside
+itself : (p : Program) (o : Outside) → ((class : ℕ) → IsTwice p class → ⊥) → IsAcyclic p → NoSplit p → IsTyped (named p) → IsKeptStatic o p p
+itself p o twice acyclic whole typed = record {
+  typed = typed;
+  fewer = λ t d. d;
+  virtuals = λ t c m e i v. record { type = t; class = c; method = m; named = e; is_in = i; virtual = v; key = refl };
+  once = twice;
+  grounded = acyclic;
+  whole = whole;
+  outer = refl;
+  shuts = λ t c m e i v. refl;
+  shown = λ shuts. same_shown_refl (named p) (outer_of p o);
+  holds = λ shuts. shuts;
+}
+
+module _ (p : Program) (h : Hierarchy) (o : Outside) (w : is_well_formed p ≡ true) (r : IsResolved p h) (acyclic : IsAcyclic p) (whole : NoSplit p) (typed : IsTyped (named p)) (words : AllHaveWords p)
+    (own : MakersAreOwn p o) (live : LiveSet) (targets : Targets) (facts : Facts) (fits : Fits p live) (marks : IsClosedSet p o live) (exact : IsTargeted p o live targets) (closed : AreClosed p o live targets facts)
+    (names : AreNamed p (outer_of p o) facts (named_facts p facts)) (admitted : List Bool) (plan : IsPlan p facts o admitted) where
+  pub staticised_kept : (c : Changed) → IsStaticisedBy p facts o admitted c → IsKeptStatic o p c.program
+  staticised_kept c x = by c.count refl
+    where
+      by : (n : ℕ) → c.count ≡ n → IsKeptStatic o p c.program
+      by zero e = subst (IsKeptStatic o p) (sym (x.same e)) (itself p o r.of.once acyclic whole typed)
+      by (suc n) e = kept_static p c.program h o w r acyclic whole typed words own live targets facts fits marks exact closed names admitted plan (x.loosened (omega (arith, e)))

@@ -1,2 +1,3 @@
 pub mod Kept
 mod Known
+mod Virtuals

@@ -2,6 +2,7 @@
 
 ghost use Rattle.std.specs.Prelude.{◌≡◌, ℕ, Bool, true, List};
 ghost use Rattle.program_model.specs.ProgramRules.{is_well_formed};
+ghost use Rattle.program_model.specs.declared.pass.Changed.{Changed};
 ghost use Rattle.program_model.specs.declared.pass.Outside.{Outside};
 ghost use Rattle.program_model.specs.declared.program.Program.{Program};
 ghost use Rattle.class_defs.specs.ClassGraph.{IsAncestor, IsTwice};
@@ -24,8 +25,7 @@ ghost use Rattle.closed_bridge.specs.Names.{named_facts};
 ghost use Rattle.fold_bridge.specs.Folds.{AreNamed};
 ghost use Rattle.static_names.specs.Receiving.{KnowsReceivers};
 ghost use Rattle.loosened_bridge.specs.Edited.{loose_in};
-ghost use Rattle.staticise.specs.Judging.{judged};
-ghost use Rattle.staticise.specs.Loosened.{IsLoosenedBy};
+ghost use Rattle.staticise.specs.Loosened.{IsStaticisedBy};
 ghost use Rattle.static_choice.specs.Choice.{IsPlan, given_by};
 ghost use Rattle.static_facts.specs.Knows.{KnowsNotNull};
 ghost use Rattle.static_kept.specs.Kept.{IsKeptStatic};
@@ -36,12 +36,12 @@ pub fn known_receivers_law()
         → IsPlan p facts o admitted → KnowsReceivers (named p) (loose_in p (given_by p facts o admitted)) (KnowsNotNull p facts) }
 {}
 
-/// What is left of a well-formed and typed program without a fault in its class graph, once the methods of a plan are static, is kept
-/// for an outside by whose facts they are, which are certified for it. Beside what certifies the facts stand what the law of coverage
-/// asks of a program and of the kept constructors, and that the facts by number say what their names say (fold_kept).
+/// What staticise leaves of a well-formed and typed program without a fault in its class graph is kept for the outside of its facts,
+/// which are certified for it. Beside what certifies the facts stand what the law of coverage asks of a program and of the kept
+/// constructors, and that the facts by number say what their names say (fold_kept).
 pub fn static_kept_law()
-    ensures { (p q : Program) (h : Hierarchy) (o : Outside) (live : LiveSet) (targets : Targets) (facts : Facts) (admitted : List Bool) → is_well_formed p ≡ true
+    ensures { (p : Program) (h : Hierarchy) (o : Outside) (live : LiveSet) (targets : Targets) (facts : Facts) (admitted : List Bool) (c : Changed) → is_well_formed p ≡ true
         → IsResolved p h → IsAcyclic p → NoSplit p → IsTyped (named p) → AllHaveWords p → MakersAreOwn p o → Fits p live → IsClosedSet p o live → IsTargeted p o live targets
-        → AreClosed p o live targets facts → AreNamed p (outer_of p o) facts (named_facts p facts) → IsPlan p facts o admitted → IsLoosenedBy p (judged p facts o admitted) q
-        → IsKeptStatic o p q }
+        → AreClosed p o live targets facts → AreNamed p (outer_of p o) facts (named_facts p facts) → IsPlan p facts o admitted → IsStaticisedBy p facts o admitted c
+        → IsKeptStatic o p c.program }
 {}

@@ -1,1 +1,4 @@
+mod Found
 mod Dropped
+mod Plans
+mod Lighter

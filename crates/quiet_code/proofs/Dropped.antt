@@ -3,7 +3,9 @@ use Rattle.std.proofs.Common.{◌≡◌, ◌↔◌, ℕ, zero, suc, ◌+◌, ◌
 use Rattle.std.specs.Prelude.{All, slice_get}
 use Rattle.std.proofs.lemmas.Bool.{false≢true}
 use Rattle.std.proofs.lemmas.List.{append-nil}
-use Rattle.std.proofs.lemmas.List.Elements.{All-push}
+use Rattle.std.proofs.Common.{Result, Ok, Err}
+use Rattle.std.specs.Prelude.{IfOk}
+use Rattle.std.proofs.lemmas.List.Elements.{All-nil, All-push}
 use Rattle.lemmas.proofs.Bools.{clash}
 use Rattle.insn_set.specs.declared.form.Insn.{Insn}
 use Rattle.insn_set.specs.declared.form.Insn.TheVariants.{Nop}
@@ -53,3 +55,11 @@ nops_none p quiet frames m b es large e = record {
   are_idle = λ n i at. ((λ h. absurd (false≢true h)), (λ x. clash (is_small b) x.small large));
   edits = e ∙ sym (none_upto (length b.insns));
 }
+
+pub none_dropped : (b : Body) (es : List Edit) → es ≡ [] → AreDropped b es
+none_dropped b es e = subst (AreDropped b) (sym e) (All-nil (IsDropped b))
+
+-- two facts about what was answered, of which one has a condition
+pub both_ok : {T E : Type 0} (r : Result T E) (P Q S : T → Type 0) (B : Type 0) → ((v : T) → P v → (B → Q v) → S v) → IfOk r P → (B → IfOk r Q) → IfOk r S
+both_ok (Ok v) P Q S B h p q = h v p q
+both_ok (Err e) P Q S B h p q = tt

@@ -1,3 +1,4 @@
+mod Few
 mod Found
 mod Dropped
 mod Plans

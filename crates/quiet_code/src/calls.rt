@@ -1,7 +1,6 @@
 //! Which calls do nothing.
 
-ghost use Rattle.std.specs.Prelude.{◌≡◌, ◌<◌, true, nat_eq, codes, length, slice_get, slice_index_or, false};
-ghost use Rattle.std.specs.Cmp.Lexicographic.{pointwise};
+ghost use Rattle.std.specs.Prelude.{◌≡◌, ◌<◌, true, Some, length, slice_get};
 ghost use Rattle.std.specs.List.{list_any};
 ghost use Rattle.std.specs.Option.{option_copied};
 ghost use Rattle.program_model.specs.declared.pools.MethodName.{MethodName};
@@ -18,7 +17,7 @@ use dom_frame::Frame;
 use domains::Nullness;
 use hierarchy::Hierarchy;
 use insn_set::InvokeKind;
-use program_model::{Class, Flags, Method, MethodAt, MethodName, Program};
+use program_model::{Flags, Method, MethodAt, MethodName, Program};
 use seq::Words;
 
 /// What the search for idle calls asks: the program, the hierarchy of its classes, and which methods are quiet, by number.

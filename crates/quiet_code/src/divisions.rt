@@ -8,7 +8,7 @@ ghost use Rattle.value_ops.specs.Left.{is_nothing};
 ghost use Rattle.insn_set.specs.Flow.{divides};
 ghost use Rattle.live_regs.specs.Live.{is_live};
 ghost use Rattle.quiet_methods.specs.Forms.{is_other_than_zero, is_no_zero};
-ghost use Rattle.quiet_code.specs.Idle.{divides_well, is_live_after, unread_by, unread_at, division_at};
+ghost use Rattle.quiet_code.specs.Idle.{divides_well, unread_by, unread_at, division_at};
 
 use dom_frame::Frame;
 use domains::{Nullness, Value};

@@ -1,7 +1,8 @@
 //! The pass.
 
-ghost use Rattle.std.specs.Prelude.{◌≡◌, ◌+◌, ◌<◌, ◌^◌, ◌++◌, true, length, slice_get, IfOk, OnOk};
+ghost use Rattle.std.specs.Prelude.{⊤, ◌≡◌, ◌+◌, ◌<◌, ◌^◌, ◌++◌, true, length, slice_get, IfOk, OnOk};
 ghost use Rattle.std.specs.List.{list_any};
+ghost use Rattle.insn_set.specs.declared.form.Insn.TheVariants as forms;
 ghost use Rattle.program_model.specs.ProgramRules.{is_well_formed};
 ghost use Rattle.hierarchy.specs.Shapes.{IsResolved};
 ghost use Rattle.facts.specs.Lent.{frame_at};
@@ -24,7 +25,7 @@ use seq::{Seq, Words};
 use std::alloc::{AllocError, Global};
 
 /// What the pass asks.
-#[derive(Drop)]
+#[derive(Clone, Copy)]
 struct Dropping<'a> {
     search: Search<'a>,
     facts: &'a Facts,
@@ -73,7 +74,7 @@ impl Dropping<'_> {
     fn is_idle_call(&self, code: &Code<'_>, position: u32, call: Call, args: &Words) -> bool
         ensures may { result ≡ true → is_direct_call call.kind ≡ true }
         ensures is { let s = self.now.search in IsResolved s.program.now s.hierarchy.now
-            → result ≡ does_nothing s.program.now s.quiet.now (frame_at self.now.facts.now.frames.items code.now.method position) code.now.live.now code.now.body.now position (Insn.Invoke call.kind call.method args.now) }
+            → result ≡ does_nothing s.program.now s.quiet.now (frame_at self.now.facts.now.frames.items code.now.method position) code.now.live.now code.now.body.now position (forms.Invoke call.kind call.method args.now) }
     {
         !takes_result(code.body.insns.as_slice(), position as usize + 1)
             && self
@@ -164,14 +165,15 @@ fn live_if(alloc: Global, body: &Body) -> Result<Option<Live>, AllocError>
 
 /// Whether 32 bits number all positions and regions of a body.
 fn is_small(body: &Body) -> bool
-    ensures { result ≡ is_small body.now }
+    ensures is { result ≡ is_small body.now }
+    ensures few { result ≡ true → length body.now.insns + length body.now.regions < 2 ^ 32 }
 {
     let positions = body.insns.len();
     positions <= u32::MAX as usize && body.regions.len() <= u32::MAX as usize - positions
 }
 
 impl Rewriting for Dropping<'_> {
-    ghost ready = { λ s. Unit {0} };
+    ghost ready = { λ s. ⊤ };
 
     ghost writes = { λ s at m b es. NopsWell s.search.program.now s.search.hierarchy.now s.search.quiet.now s.facts.now.frames.items m b es };
 
@@ -226,7 +228,7 @@ fn plan(
     admitted: &Admitted,
 ) -> Result<Seq<Seq<Seq<Edit>>>, AllocError>
     ensures dropped { IfOk result (IsPlan (λ at m b es. AreDropped b es) admitted.now.methods.items program.now.classes) }
-    ensures quiet { is_well_formed program.now ≡ true → IsResolved program.now hierarchy.now → IfOk result (IsQuietPlan program.now facts.now admitted.now.methods.items) }
+    ensures quieted { is_well_formed program.now ≡ true → IsResolved program.now hierarchy.now → IfOk result (IsQuietPlan program.now facts.now admitted.now.methods.items) }
 {
     let quiet = quiet_methods(alloc, program, hierarchy, &facts.frames)?;
     plan_with(alloc, program, hierarchy, facts, &quiet, admitted)

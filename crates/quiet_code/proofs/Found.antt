@@ -101,7 +101,6 @@ module _ (b : Body) (live : Live) (is : LiveIn b (Some live)) (n : ℕ) where
 
 -- ---- instructions
 
-
 module _ (p : Program) (quiet : List Bool) (o : Option Frame) (b : Body) (n : ℕ) where
   division_is : (live : Option Live) → LiveIn b live → (op : BinaryOp) (to x y : ℕ) → slice_get b.insns n ≡ Some (insn.Binary op to x y)
       → (division_at o live b n op to y ≡ true) ↔ DoesNothing p quiet o b n (insn.Binary op to x y)
@@ -111,11 +110,11 @@ module _ (p : Program) (quiet : List Bool) (o : Option Frame) (b : Body) (n : �
   )
   division_is (Some live) is op to x y at = (
     (λ h.
-      (let outer = and_parts (divides op && divides_well o op y) (unread_by (is_live_after live b n) b.registers (binary_is_wide op) to) h in
-      let inner = and_parts (divides op) (divides_well o op y) outer.0 in
-      (inner.0, inner.1, (unread_is b live is n (binary_is_wide op) to).0 outer.1))),
+        (let outer = and_parts (divides op && divides_well o op y) (unread_by (is_live_after live b n) b.registers (binary_is_wide op) to) h in
+        let inner = and_parts (divides op) (divides_well o op y) outer.0 in
+        (inner.0, inner.1, (unread_is b live is n (binary_is_wide op) to).0 outer.1))),
     (λ w. and_from (divides op && divides_well o op y) (unread_by (is_live_after live b n) b.registers (binary_is_wide op) to) (and_from (divides op) (divides_well o op y) w.0 w.1)
-      ((unread_is b live is n (binary_is_wide op) to).1 w.2)),
+        ((unread_is b live is n (binary_is_wide op) to).1 w.2)),
   )
 
   other_is : (false ≡ true) ↔ ⊥
@@ -124,8 +123,8 @@ module _ (p : Program) (quiet : List Bool) (o : Option Frame) (b : Body) (n : �
   pub nothing_is : (live : Option Live) → LiveIn b live → (i : Insn) → slice_get b.insns n ≡ Some i → (does_nothing p quiet o live b n i ≡ true) ↔ DoesNothing p quiet o b n i
   nothing_is live is (insn.Invoke kind method args) at = (
     (λ h.
-      (let w = and_parts (not (takes_result (slice_get b.insns (n + 1)))) (is_idle_call p quiet o kind method args) h in
-      (not-true (takes_result (slice_get b.insns (n + 1))) w.0, w.1))),
+        (let w = and_parts (not (takes_result (slice_get b.insns (n + 1)))) (is_idle_call p quiet o kind method args) h in
+        (not-true (takes_result (slice_get b.insns (n + 1))) w.0, w.1))),
     (λ w. and_from (not (takes_result (slice_get b.insns (n + 1)))) (is_idle_call p quiet o kind method args) (not_from_false (takes_result (slice_get b.insns (n + 1))) w.0) w.1),
   )
   nothing_is live is (insn.Binary op to x y) at = division_is live is op to x y at

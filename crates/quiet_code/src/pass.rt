@@ -77,9 +77,12 @@ impl Dropping<'_> {
             → result ≡ does_nothing s.program.now s.quiet.now (frame_at self.now.facts.now.frames.items code.now.method position) code.now.live.now code.now.body.now position (forms.Invoke call.kind call.method args.now) }
     {
         !takes_result(code.body.insns.as_slice(), position as usize + 1)
-            && self
-                .search
-                .is_idle_call(self.facts.at(code.method, position), call.kind, call.method, args)
+            && self.search.is_idle_call(
+                self.facts.at(code.method, position),
+                call.kind,
+                call.method,
+                args,
+            )
     }
 
     /// Whether an instruction at a position does nothing.

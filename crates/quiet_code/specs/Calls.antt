@@ -41,14 +41,9 @@ abbrev pub is_quiet_target : Program → List Bool → Bool → ℕ → Option M
 is_quiet_target p quiet static class (Some m) = is_called_so static m && is_quiet_at p quiet class m
 is_quiet_target p quiet static class None = false
 
--- a call on an object names no constructor, which would initialise it; a static call may have any name
-abbrev pub is_named_so : Program → Bool → MethodName → Bool
-is_named_so p true q = true
-is_named_so p false q = not (is_constructor p q)
-
--- what is found by a name is such a method, static or not as the call wants it
+-- what is found by a name is such a method, static or not as the call wants it, and no constructor
 abbrev pub is_quiet_found : Program → List Bool → Bool → MethodName → Option MethodAt → Bool
-is_quiet_found p quiet static q (Some at) = is_named_so p static q && is_quiet_target p quiet static at.class (method_at p at)
+is_quiet_found p quiet static q (Some at) = not (is_constructor p q) && is_quiet_target p quiet static at.class (method_at p at)
 is_quiet_found p quiet static q None = false
 
 -- what a static or direct call of a method number finds

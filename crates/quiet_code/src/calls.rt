@@ -10,7 +10,7 @@ ghost use Rattle.hierarchy.specs.Shapes.{IsResolved};
 ghost use Rattle.receivers.specs.Receiving.{interface_at, overrides, is_overridden, AreShort};
 ghost use Rattle.quiet_methods.specs.Forms.{starts_quietly};
 ghost use Rattle.quiet_methods.specs.Quiet.{is_on};
-ghost use Rattle.quiet_code.specs.Calls.{is_init, is_constructor, is_named_so, is_called_so, is_quiet_at, is_quiet_target, is_quiet_found, is_quiet_named, is_quiet_for_all, is_quiet_under, is_quiet_virtual, is_no_null, holds_object, has_object, is_idle_call};
+ghost use Rattle.quiet_code.specs.Calls.{is_init, is_constructor, is_called_so, is_quiet_at, is_quiet_target, is_quiet_found, is_quiet_named, is_quiet_for_all, is_quiet_under, is_quiet_virtual, is_no_null, holds_object, has_object, is_idle_call};
 ghost use Rattle.quiet_code.specs.Quiet.{is_direct_call};
 
 use dom_frame::Frame;
@@ -78,17 +78,6 @@ impl Search<'_> {
         }
     }
 
-    /// Whether a call has a name that it may have: one on an object names no constructor.
-    fn is_named_so(&self, to_static: bool, name: &MethodName) -> bool
-        ensures { result ≡ is_named_so self.now.program.now to_static name.now }
-    {
-        if to_static {
-            true
-        } else {
-            !self.is_constructor(name)
-        }
-    }
-
     /// Whether a class is one of the program, and initialising it runs no code.
     fn starts_quietly(&self, class: u32) -> bool
         ensures { IsResolved self.now.program.now self.now.hierarchy.now → result ≡ starts_quietly self.now.program.now class }
@@ -122,7 +111,7 @@ impl Search<'_> {
     {
         match found {
             Some(at) => {
-                self.is_named_so(to_static, name)
+                !self.is_constructor(name)
                     && self.is_quiet_target(to_static, at.class, method_in(self.program, at))
             }
             None => false,

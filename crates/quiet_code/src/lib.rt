@@ -4,8 +4,8 @@
 //! the method's class runs no code, no instruction takes its result, and its receiver, if it has one, is known not to be null.
 //! A virtual call is such a one where all objects of the class that it names find one quiet method. A division or a remainder
 //! does nothing where its divisor is known other than 0 and no walk onward reads its result before that is written again
-//! (Dalvik bytecode, "binop"). Both become nops, which a later pass takes out. A call of a constructor on an object stays,
-//! because its object would stay uninitialised.
+//! (Dalvik bytecode, "binop"). Both become nops, which a later pass takes out. A call of a constructor stays, because its
+//! object would stay uninitialised.
 //!
 //! Which methods are quiet the pass asks of `quiet_methods`, by the registers that the facts know at each position.
 //!

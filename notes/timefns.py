@@ -35,10 +35,11 @@ for line in p.stdout:
     now = cpu() or last
     m = re.match(r'checked (.*), (\d+) of (\d+)', line)
     if m:
-        rows.append((now - last, m.group(1)))
+        rows.append((now - last, m.group(1))); open(f'/tmp/live-{crate}','a').write(f'{now - last:.2f} {m.group(1)}\n')
         last = now
     else: other.append(line.rstrip())
 p.wait()
+open(f'/tmp/order-{crate}','w').write('\n'.join(f'{t:.2f} {n}' for t,n in rows))
 print('total', round(last, 1), 'functions', len(rows))
 for t, n in sorted(rows, reverse=True)[:int(os.environ.get('TOP', '60'))]: print(f'{t:8.2f} {n}')
 print('\n'.join(o for o in other if 'warning' not in o)[-1500:])

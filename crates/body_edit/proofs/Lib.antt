@@ -1,5 +1,0 @@
-mod Each
-mod Left
-mod Placing
-mod Swapped
-mod Tracing

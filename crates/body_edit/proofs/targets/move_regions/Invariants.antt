@@ -1,7 +1,0 @@
-use Rattle.std.proofs.Common.{◌≡◌, map, take, drop, ◌++◌}
-use Rattle.pass_defs.specs.Thinned.{region_moved}
-use Rattle.body_edit.specs.Places.{place_in}
-use Rattle.body_edit.proofs.targets.move_regions.Given as goal
-
-abbrev pub invariant-loop-region : goal.invariant-loop-region
-invariant-loop-region l = l.regions ≡ map (region_moved (place_in l.places)) (take l.region-index l.initial.regions) ++ drop l.region-index l.initial.regions

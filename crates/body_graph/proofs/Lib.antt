@@ -1,4 +1,0 @@
-mod Covers
-pub mod Links
-pub mod Members
-mod Reaching

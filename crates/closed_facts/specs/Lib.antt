@@ -1,8 +1,0 @@
-pub mod Tables
-pub mod Found
-pub mod Edges
-pub mod Entries
-pub mod Fields
-pub mod Flows
-pub mod Calls
-pub mod Closed

@@ -1,4 +1,0 @@
-pub mod Formats
-pub mod SortLemmas
-pub mod Known
-pub mod Standing

@@ -1,4 +1,0 @@
-pub mod Stale
-pub mod Searches
-pub mod Rereading
-pub mod Propagated

@@ -1,5 +1,0 @@
-pub mod Known
-pub mod Coverable
-pub mod States
-pub mod Apart
-pub mod Sound

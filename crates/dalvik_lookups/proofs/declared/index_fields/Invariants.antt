@@ -1,6 +1,0 @@
-use Rattle.std.proofs.Common.{◌≡◌, ℕ, map, take}
-use Rattle.dalvik_lookups.specs.Declaring.{Key, AreFew, found_in, place_in_rows, field_row}
-use Rattle.dalvik_lookups.proofs.declared.index_fields.Given as goal
-
-abbrev pub invariant-loop-place : goal.invariant-loop-place
-invariant-loop-place l = AreFew (λ k. k.fields) l.program.classes → (c : ℕ) (k : Key) → found_in l.index c k ≡ place_in_rows (map (field_row l.program l.strings l.kinds) (take l.place l.program.classes)) c k

@@ -1,6 +1,0 @@
-use Rattle.std.proofs.Common.{ap, ◌∙◌}
-use Rattle.dalvik_defs.specs.declared.script.Given.TheVariants as given
-use Rattle.dalvik_lookups.proofs.plays.class_of.Goals as goal
-
-pub returns-clause-is : goal.returns-clause-is
-returns-clause-is c = λ r. let k = c.in_ok-number.ensures.is r in record { is = ap (λ u. given.Class u) (k.text ∙ c.units.ensures); stands = k.below }

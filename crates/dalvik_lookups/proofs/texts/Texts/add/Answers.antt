@@ -1,8 +1,0 @@
-use Rattle.std.proofs.Common.{refl}
-use Rattle.dalvik_lookups.proofs.Interned.{added_text}
-use Rattle.dalvik_lookups.proofs.texts.Texts.add.Goals as goal
-
-pub returns : goal.returns
-returns c = λ k.
-    let a = added_text (λ u. u.now) _ (λ a b. refl) c.args.self.now.numbers.keys c.insert_full.new.self.keys c.args.units c.in_ok-number.number k.once c.in_ok-number.ensures.keys c.in_ok-number.ensures.index in
-    record { are = record { once = a.once }; stays = a.stays; there = a.there }

@@ -1,4 +1,0 @@
-mod Beginning
-mod Dying
-mod Left
-mod Quieted

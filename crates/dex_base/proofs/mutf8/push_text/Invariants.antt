@@ -1,7 +1,0 @@
-use Rattle.std.proofs.Common.{◌≡◌, ◌++◌, take}
-use Rattle.std.specs.List.{flat_map}
-use Rattle.dex_base.specs.Mutf8.{unit_bytes}
-use Rattle.dex_base.proofs.mutf8.push_text.Given as goal
-
-abbrev pub invariant-loop-unit : goal.invariant-loop-unit
-invariant-loop-unit l = l.out.items ≡ l.fn.out.items ++ flat_map unit_bytes (take l.unit-index l.unit-items)

@@ -1,7 +1,0 @@
-use Rattle.dex_pools.specs.Numbering.{names_of_type}
-use Rattle.dex_pools.proofs.Names.{walks_at}
-use Rattle.dex_pools.proofs.close.mark_types.Goals as goal
-
-pub loop-number-preserved : goal.loop-number-preserved
-loop-number-preserved c =
-    walks_at (names_of_type c.args.types.now) c.args.used.now c.loop-number.used c.mark_type.new.used c.args.numbers.now c.loop-number.number-index 0 c.loop-number.invariant c.loop-number-test.true c.mark_type.ensures

@@ -1,8 +1,0 @@
-use Rattle.std.proofs.Common.{◌++◌}
-use Rattle.dex_read.specs.Directory.{mark_parameters}
-use Rattle.dex_read.specs.Steps.{steps}
-use Rattle.dex_read.proofs.Steps.{Goes}
-use Rattle.dex_read.proofs.directory.mark_all_parameters.Given as goal
-
-abbrev pub invariant-loop-i : goal.invariant-loop-i
-invariant-loop-i l = Goes (mark_parameters l.source.bytes.now l.source.program.now l.class (l.listed.directs ++ l.listed.virtuals) l.at) l.count l.i (l.methods.items, (l.before, l.left)) (steps (mark_parameters l.source.bytes.now l.source.program.now l.class (l.listed.directs ++ l.listed.virtuals) l.at) 0 l.count (l.fn.methods.items, (0, l.fn.left)))

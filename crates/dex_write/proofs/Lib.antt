@@ -1,9 +1,0 @@
-pub mod Sealed
-pub mod Files
-pub mod OnlyLemmas
-pub mod MarkLemmas
-pub mod SetLemmas
-pub mod CodeLemmas
-pub mod ListLemmas
-pub mod OrderLemmas
-pub mod TakeLemmas

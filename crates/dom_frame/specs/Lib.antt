@@ -1,3 +1,0 @@
-pub mod Registers
-pub mod Classes
-pub mod Steps

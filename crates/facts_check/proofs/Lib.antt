@@ -1,9 +1,0 @@
-pub mod Orders
-pub mod Loops
-pub mod Bound
-pub mod Words
-pub mod Landings
-pub mod Placing
-pub mod Filling
-pub mod Tabling
-pub mod Closing

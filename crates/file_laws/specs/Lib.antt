@@ -1,4 +1,0 @@
-pub mod Header
-pub mod Tables
-pub mod ClassData
-pub mod Class

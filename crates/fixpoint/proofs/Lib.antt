@@ -1,4 +1,0 @@
-pub mod Patience
-pub mod Queue
-pub mod Rows
-pub mod Tables

@@ -1,4 +1,0 @@
-pub mod Listed
-pub mod Marked
-pub mod Nested
-pub mod Ordered

@@ -1,9 +1,0 @@
-use Rattle.std.proofs.Common.{◌≡◌, drop}
-use Rattle.flow_cfg.specs.Walks.{handlers_at}
-use Rattle.flow_cfg.proofs.walks.add_covering.Given as goal
-
-abbrev pub invariant-loop-region : goal.invariant-loop-region
-invariant-loop-region l = record {
-  same : l.found ≡ l.initial.found;
-  rest : handlers_at (drop l.region-index l.regions) l.position ≡ handlers_at l.regions l.position;
-}

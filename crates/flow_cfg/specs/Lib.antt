@@ -1,4 +1,0 @@
-pub mod Listing
-pub mod Parts
-pub mod Starts
-pub mod Walks

@@ -1,5 +1,0 @@
-use Rattle.headline.proofs.Joined.{joined}
-use Rattle.headline.proofs.laws.headline.Goals as goal
-
-pub returns : goal.returns
-returns c = λ words held output summary by. joined words held output summary by

@@ -1,6 +1,0 @@
-pub mod Inlining
-pub mod Accepted
-pub mod Entered
-pub mod Programs
-pub mod Sound
-pub mod Examples

@@ -1,2 +1,0 @@
-pub mod Remade
-pub mod Wides

@@ -1,5 +1,0 @@
-pub mod Widths
-pub mod Registers
-pub mod Flow
-pub mod Formats
-pub mod Spelling

@@ -1,8 +1,0 @@
-pub mod AccessLemmas
-pub mod EachLemmas
-pub mod FitLemmas
-pub mod MarkLemmas
-pub mod MemberLemmas
-pub mod NumberLemmas
-pub mod OwnLemmas
-pub mod RuleLemmas

@@ -1,4 +1,0 @@
-pub mod Bools
-pub mod Options
-pub mod Lists
-pub mod Numbers

@@ -1,5 +1,0 @@
-mod Tests
-mod Numbers
-mod Owned
-mod Same
-mod Narrowing

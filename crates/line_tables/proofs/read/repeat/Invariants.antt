@@ -1,5 +1,0 @@
-use Rattle.std.proofs.Common.{◌≡◌, ◌++◌, replicate}
-use Rattle.line_tables.proofs.read.repeat.Given as goal
-
-abbrev pub invariant-loop : goal.invariant-loop
-invariant-loop l = l.lines.items ≡ l.fn.lines.items ++ replicate l.counter l.line

@@ -1,4 +1,0 @@
-pub mod Item
-pub mod Seen
-pub mod Text
-pub mod Entries

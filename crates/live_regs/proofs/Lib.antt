@@ -1,2 +1,0 @@
-mod Operands
-mod Seen

@@ -1,3 +1,0 @@
-pub mod Paths
-pub mod Measure
-pub mod Example

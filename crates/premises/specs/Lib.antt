@@ -1,4 +1,0 @@
-pub mod Makers
-pub mod Numbers
-pub mod Owning
-pub mod Plain

@@ -1,7 +1,0 @@
-use Rattle.std.proofs.Common.{◌≡◌, take, sum_by}
-use Rattle.program_model.specs.Cells.{capped}
-use Rattle.program_model.specs.Items.{method_items}
-use Rattle.program_model.proofs.items.count_methods.Given as goal
-
-abbrev pub invariant-loop-method : goal.invariant-loop-method
-invariant-loop-method l = l.total ≡ capped (sum_by method_items (take l.method-index l.methods))

@@ -1,4 +1,0 @@
-pub mod Ranking
-pub mod Judging
-pub mod Collecting
-pub mod Falling

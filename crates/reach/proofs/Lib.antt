@@ -1,5 +1,0 @@
-pub mod Each
-pub mod Formed
-pub mod Sizes
-pub mod Sublists
-pub mod Tables

@@ -1,3 +1,0 @@
-mod Finding
-mod Calls
-pub mod Named

@@ -1,9 +1,0 @@
-pub mod Rebinding
-pub mod Listed
-pub mod Receiving
-pub mod ByClass
-pub mod ByFacts
-pub mod Retyping
-pub mod Middle
-pub mod Others
-pub mod Places

@@ -1,3 +1,0 @@
-pub mod Rebinding
-pub mod Receivers
-pub mod Retyping

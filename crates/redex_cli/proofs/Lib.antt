@@ -1,9 +1,0 @@
-pub mod AcceptedLemmas
-pub mod CommandLemmas
-pub mod FetchLemmas
-pub mod FinishedLemmas
-pub mod RunLemmas
-pub mod SaidLemmas
-pub mod ScriptLemmas
-pub mod Traced
-pub mod WordsLemmas

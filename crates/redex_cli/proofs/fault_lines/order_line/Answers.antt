@@ -1,6 +1,0 @@
-use Rattle.std.proofs.Common.{◌∙◌, append_assoc}
-use Rattle.std.proofs.lemmas.Result.{IfOk-weaker}
-use Rattle.redex_cli.proofs.fault_lines.order_line.Goals as goal
-
-pub returns : goal.returns
-returns c = IfOk-weaker c.format.result _ _ (λ s e. e ∙ simp (append_assoc, c.table_name-name.ensures)) c.format.ensures.ok

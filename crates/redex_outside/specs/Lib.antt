@@ -1,9 +1,0 @@
-pub mod Counts
-pub mod Held
-pub mod Names
-pub mod Fails
-pub mod Turns
-pub mod Voices
-pub mod Panels
-pub mod Budgets
-pub mod Prefixes

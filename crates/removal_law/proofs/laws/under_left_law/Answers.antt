@@ -1,5 +1,0 @@
-use Rattle.removal_law.proofs.Under.{under_same}
-use Rattle.removal_law.proofs.laws.under_left_law.Goals as goal
-
-pub returns : goal.returns
-returns c = under_same

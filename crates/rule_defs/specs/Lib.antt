@@ -1,4 +1,0 @@
-pub mod Examples
-pub mod Kept
-pub mod Members
-pub mod Patterns

@@ -1,2 +1,0 @@
-pub mod GlobLemmas
-pub mod RowLemmas

@@ -1,7 +1,0 @@
-use Rattle.rule_text.specs.Spelling.{is_long, setting_word}
-use Rattle.rule_text.specs.Steps.{words_at, first_word}
-use Rattle.rule_text.proofs.HaltLemmas.{no_among}
-use Rattle.rule_text.proofs.parse_file.read_long.Goals as goal
-
-pub returns-in-None-clause-none : goal.returns-in-None-clause-none
-returns-in-None-clause-none c = no_among is_long setting_word c.word_at.result.now (first_word (words_at c.args.tokens.now c.args.at.now)) c.long_setting.result c.long_setting.ensures c.in-None.is c.word_at.ensures

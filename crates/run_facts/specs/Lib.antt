@@ -1,4 +1,0 @@
-pub mod Closed
-pub mod Covered
-pub mod ValueAnalysis
-pub mod Examples

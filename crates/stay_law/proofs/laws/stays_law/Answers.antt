@@ -1,8 +1,0 @@
-use Rattle.stay_law.proofs.Staying.{stays_same, stays_on}
-use Rattle.stay_law.proofs.laws.stays_law.Goals as goal
-
-pub returns-clause-same : goal.returns-clause-same
-returns-clause-same c = stays_same
-
-pub returns-clause-twice : goal.returns-clause-twice
-returns-clause-twice c = stays_on

@@ -1,3 +1,0 @@
-pub mod Wishing
-pub mod Weights
-pub mod Plans

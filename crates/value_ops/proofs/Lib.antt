@@ -1,5 +1,0 @@
-pub mod Lefts
-pub mod Answers
-pub mod Asked
-pub mod Keys
-pub mod Kept

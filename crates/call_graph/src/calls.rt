@@ -11,7 +11,7 @@ use program_model::{Insn, InvokeKind, MethodAt, Program, Version};
 use std::alloc::{AllocError, Global};
 
 /// A call at a position, and a method that it may find.
-#[derive(Clone, PartialEq, Eq, Debug, Drop)]
+#[derive(Clone, Drop)]
 pub struct Edge {
     pub position: u32,
     pub target: MethodAt,

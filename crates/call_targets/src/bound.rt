@@ -23,7 +23,7 @@ use std::alloc::{AllocError, Global};
 
 /// What a call finds: one method of the program, none, so that the call belongs to the framework, or several default
 /// methods that clash, so that it throws.
-#[derive(Clone, Copy, PartialEq, Eq, Debug, Drop)]
+#[derive(Clone, Copy, PartialEq, Eq, Drop)]
 pub enum Target {
     One(MethodAt),
     Nothing,

@@ -8,7 +8,7 @@ ghost use Rattle.call_targets.specs.declared.table.Link.{Link};
 use std::alloc::{AllocError, Global};
 
 /// A call by its number, and the number of a method with code that it may find.
-#[derive(Clone, Copy, PartialEq, Eq, PartialOrd, Ord, Debug, Drop)]
+#[derive(Clone, Copy, PartialEq, Eq, PartialOrd, Ord, Drop)]
 pub struct Link {
     pub call: u32,
     pub method: u32,
@@ -20,7 +20,7 @@ pub struct Link {
 /// whether a call may leave the program's code. `entered` says by method number whether the framework may enter the
 /// method, and `begun` by the place of a class whether the framework may need it, as it makes an object of it or enters
 /// a static method of it.
-#[derive(PartialEq, Eq, Debug, Drop)]
+#[derive(Drop)]
 pub struct Targets {
     pub links: Vec<Link>,
     pub leaves: Vec<bool>,

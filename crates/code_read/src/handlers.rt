@@ -14,7 +14,7 @@ use seq::Seq;
 use std::alloc::{AllocError, Global};
 
 /// The handlers of a region, and its catch-all.
-#[derive(Debug, Drop)]
+#[derive(Drop)]
 pub(crate) struct Caught {
     pub handlers: Seq<Handler>,
     pub rest: Option<u32>,

@@ -6,7 +6,7 @@ use seq::Seq;
 
 /// A value in an event: null, a word, a wide, an object by its place, with its type where it is printed for the first
 /// time, a text, or a class.
-#[derive(PartialEq, Eq, Debug, Drop)]
+#[derive(Drop)]
 pub enum Shown {
     Null,
     Word(u32),
@@ -19,7 +19,7 @@ pub enum Shown {
 
 /// What the framework sees: a call of it, an object made, a field of it read or written, a monitor entered or left, the
 /// end of a method that it entered, and the answer to a read of its own.
-#[derive(PartialEq, Eq, Debug, Drop)]
+#[derive(Drop)]
 pub enum Event {
     Call {
         kind: InvokeKind,

@@ -5,7 +5,7 @@ use seq::Seq;
 
 /// A value that the framework gives: null, a word, a wide, an object that was exposed, by its place, a new object of
 /// a framework type, a new array by its item type, a text, or a class.
-#[derive(PartialEq, Eq, Debug, Drop)]
+#[derive(Debug, Drop)]
 pub enum Given {
     Null,
     Word(u32),
@@ -19,7 +19,7 @@ pub enum Given {
 
 /// A move of the framework: it enters a method, makes an object, answers the innermost open call or field read, reads
 /// or writes a kept field, or reads, writes or measures an exposed array.
-#[derive(PartialEq, Eq, Debug, Drop)]
+#[derive(Debug, Drop)]
 pub enum Move {
     Enter {
         class: Text,

@@ -22,7 +22,7 @@ use program_model::{MethodAt, Version};
 use std::alloc::{AllocError, Global};
 
 /// What a look-up answers: none, several methods that clash, or one.
-#[derive(Clone, Copy, PartialEq, Eq, Debug, Drop)]
+#[derive(Clone, Copy, PartialEq, Eq, Drop)]
 pub enum Search {
     Nothing,
     Clash,

@@ -12,14 +12,14 @@ use program_model::MethodAt;
 use std::alloc::{AllocError, Global};
 
 /// What a call of a method number found last, and in which class.
-#[derive(Clone, Copy, PartialEq, Eq, Debug, Drop)]
+#[derive(Clone, Copy, PartialEq, Eq, Drop)]
 struct Recent {
     class: Option<u32>,
     found: Search,
 }
 
 /// Whether a type is under another one: the lower type that was asked about last, and the answer.
-#[derive(Clone, Copy, PartialEq, Eq, Debug, Drop)]
+#[derive(Clone, Copy, PartialEq, Eq, Drop)]
 pub struct Asked {
     lower: usize,
     answer: bool,

@@ -21,7 +21,7 @@ use seq::Seq;
 use std::alloc::{AllocError, Global};
 
 /// A value that the framework gives.
-#[derive(Clone, Copy, PartialEq, Eq, Debug, Drop)]
+#[derive(Clone, Copy, PartialEq, Eq, Drop)]
 pub enum Gift {
     Null,
     Word(u32),
@@ -34,7 +34,7 @@ pub enum Gift {
 }
 
 /// A field of a class by the places of both, and its type.
-#[derive(Clone, Copy, PartialEq, Eq, Debug, Drop)]
+#[derive(Clone, Copy, PartialEq, Eq, Drop)]
 pub struct FieldAt {
     pub class: u32,
     pub place: u32,

@@ -55,7 +55,7 @@ pub(crate) fn defaults(
 }
 
 /// What a walk over interfaces still has to do with a class: to go up from it, or to list it.
-#[derive(Clone, Copy, PartialEq, Eq, Debug, Drop)]
+#[derive(Clone, Copy, PartialEq, Eq, Drop)]
 enum Visit {
     Above(u32),
     Itself(u32),

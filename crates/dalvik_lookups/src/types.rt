@@ -12,7 +12,7 @@ use insn_set::Item;
 use std::alloc::{AllocError, Global};
 
 /// What the first unit of a descriptor says of its values.
-#[derive(Clone, Copy, PartialEq, Eq, Debug, Drop)]
+#[derive(Clone, Copy, PartialEq, Eq, Drop)]
 pub enum Sort {
     Class,
     Wide,
@@ -28,7 +28,7 @@ pub enum Sort {
 }
 
 /// A type: the number of its descriptor without brackets, and how many brackets there are.
-#[derive(Clone, Copy, PartialEq, Eq, Debug, Drop)]
+#[derive(Clone, Copy, PartialEq, Eq, Drop)]
 pub struct Kind {
     pub depth: usize,
     pub base: usize,

@@ -8,7 +8,7 @@ use std::hash::Hash;
 /// A word, half of a wide, or a reference to an object by its number, to a text or to a class by the number of its text.
 /// Each half of a wide keeps the whole number, and the low half stands for it where one place holds a wide. Null is the
 /// word 0.
-#[derive(Clone, Copy, PartialEq, Eq, Hash, Debug, Drop)]
+#[derive(Clone, Copy, PartialEq, Eq, Hash, Drop)]
 pub enum Datum {
     Word(u32),
     Low(u64),

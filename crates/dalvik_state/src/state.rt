@@ -37,7 +37,7 @@ impl<'a> Tables<'a> {
 }
 
 /// How far the initialisation of a class is.
-#[derive(Clone, Copy, PartialEq, Eq, Debug, Drop)]
+#[derive(Clone, Copy, PartialEq, Eq, Drop)]
 pub enum Status {
     New,
     Running,

@@ -100,7 +100,7 @@ fn mark_printed(exposed: &mut Vec<Exposed>, place: usize)
 }
 
 /// An object that was exposed, and whether it has been printed.
-#[derive(Clone, Copy, PartialEq, Eq, Debug, Drop)]
+#[derive(Clone, Copy, PartialEq, Eq, Drop)]
 pub struct Exposed {
     pub number: u64,
     pub printed: bool,

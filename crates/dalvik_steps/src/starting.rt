@@ -27,7 +27,7 @@ use dalvik_state::{Frame, State, Status, Tables, Waiting};
 use std::alloc::{AllocError, Global};
 
 /// Whether a class that is needed is no hindrance, has to be initialised first, or has failed.
-#[derive(Clone, Copy, PartialEq, Eq, Debug, Drop)]
+#[derive(Clone, Copy, PartialEq, Eq, Drop)]
 pub enum Need {
     Ready,
     Fresh,

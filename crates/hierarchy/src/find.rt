@@ -31,7 +31,7 @@ use std::alloc::{AllocError, Global};
 
 /// What the candidates of interfaces give: no method with code, just one that stands in no interface above another
 /// candidate's, or several, which clash.
-#[derive(Clone, Copy, PartialEq, Eq, Debug, Drop)]
+#[derive(Clone, Copy, PartialEq, Eq, Drop)]
 pub enum Given {
     Nothing,
     One(MethodAt),

@@ -11,7 +11,7 @@ use crate::table::{is_on, read, turn, word};
 use std::alloc::{AllocError, Global};
 
 /// What a walk has to do yet: to come to a class, or to leave one when all that stand above it are done.
-#[derive(Clone, Copy, PartialEq, Eq, Debug, Drop)]
+#[derive(Clone, Copy, PartialEq, Eq, Drop)]
 pub enum Task {
     Come(u32),
     Leave(u32),

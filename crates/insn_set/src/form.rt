@@ -7,7 +7,7 @@ use seq::{Seq, Words};
 /// position of an instruction in its body. `string`, `kind`, `field` and `method` are numbers of the string, type,
 /// field and method tables; the `kind` of an `Invoke` says how the method is found. `items` of a `FillArray` are the
 /// items' bits, each of `width` bytes.
-#[derive(PartialEq, Eq, Debug, Drop)]
+#[derive(PartialEq, Eq, Drop)]
 pub enum Insn {
     Nop,
     Move {

@@ -5,7 +5,7 @@ ghost use Rattle.insn_set.specs.Formats.{format_units};
 
 /// How the fields of an instruction lie in its units: the number of units, the number of registers, and what else there
 /// is, as the format's own name says.
-#[derive(Clone, Copy, PartialEq, Eq, Debug, Drop)]
+#[derive(Clone, Copy, PartialEq, Eq, Drop)]
 pub enum Format {
     F10x,
     F12x,

@@ -1,7 +1,7 @@
 //! The small enums of the forms: what differs between the opcodes of one form.
 
 /// What a register or a pair of registers holds: a word, a pair of words, or a reference.
-#[derive(Clone, Copy, PartialEq, Eq, Debug, Drop)]
+#[derive(Clone, Copy, PartialEq, Eq, Drop)]
 pub enum Slot {
     Word,
     Wide,
@@ -9,7 +9,7 @@ pub enum Slot {
 }
 
 /// How an item of an array or a field is read and written.
-#[derive(Clone, Copy, PartialEq, Eq, Debug, Drop)]
+#[derive(Clone, Copy, PartialEq, Eq, Drop)]
 pub enum Item {
     Plain,
     Wide,
@@ -21,7 +21,7 @@ pub enum Item {
 }
 
 /// The comparisons that answer -1, 0 or 1.
-#[derive(Clone, Copy, PartialEq, Eq, Debug, Drop)]
+#[derive(Clone, Copy, PartialEq, Eq, Drop)]
 pub enum CmpOp {
     CmplFloat,
     CmpgFloat,
@@ -31,7 +31,7 @@ pub enum CmpOp {
 }
 
 /// The tests of the conditional branches.
-#[derive(Clone, Copy, PartialEq, Eq, Debug, Drop)]
+#[derive(Clone, Copy, PartialEq, Eq, Drop)]
 pub enum Test {
     Eq,
     Ne,
@@ -52,7 +52,7 @@ pub enum InvokeKind {
 }
 
 /// The operations on one register.
-#[derive(Clone, Copy, PartialEq, Eq, Debug, Drop)]
+#[derive(Clone, Copy, PartialEq, Eq, Drop)]
 pub enum UnaryOp {
     NegInt,
     NotInt,
@@ -78,7 +78,7 @@ pub enum UnaryOp {
 }
 
 /// The operations on two registers.
-#[derive(Clone, Copy, PartialEq, Eq, Debug, Drop)]
+#[derive(Clone, Copy, PartialEq, Eq, Drop)]
 pub enum BinaryOp {
     AddInt,
     SubInt,
@@ -115,7 +115,7 @@ pub enum BinaryOp {
 }
 
 /// The operations on a register and a literal. `RsubInt` subtracts the register from the literal.
-#[derive(Clone, Copy, PartialEq, Eq, Debug, Drop)]
+#[derive(Clone, Copy, PartialEq, Eq, Drop)]
 pub enum LiteralOp {
     AddInt,
     RsubInt,

@@ -15,7 +15,7 @@ use redex_outside::{Adviser, Ask, Panel};
 use std::alloc::{AllocError, Global};
 
 /// What the advisers said: which methods may be rewritten, and how many of those that were asked about may not.
-#[derive(Debug, Drop)]
+#[derive(Drop)]
 pub struct Advice {
     pub admitted: Admitted,
     pub spared: u32,

@@ -37,7 +37,7 @@ use std::alloc::{AllocError, Global};
 /// instructions went, how many methods some adviser refused, and where the positions come from: for each method number an
 /// origin for each position of the method, and no list at all where no position has moved. The list of a method that is not
 /// defined any more says nothing.
-#[derive(Debug, Drop)]
+#[derive(Drop)]
 pub struct Outcome {
     pub program: Program,
     pub rounds: u32,

@@ -12,7 +12,7 @@ use std::alloc::Global;
 
 /// A program, and where its positions come from: for each method number an origin for each position, and no list at all
 /// where no position has moved.
-#[derive(Debug, Drop)]
+#[derive(Drop)]
 pub struct Traced {
     pub program: Program,
     pub origins: Seq<Seq<Origin>>,
@@ -31,7 +31,7 @@ pub fn unmoved(alloc: Global, program: Program) -> Traced
 /// How much passes took away, over how many instructions they wrote what is known of them, how many calls they let name what
 /// these find, how many instructions they let read originals in place of copies, and in how many bodies they gave registers
 /// other numbers.
-#[derive(Clone, Copy, Debug, Drop)]
+#[derive(Clone, Copy, Drop)]
 pub struct Changes {
     pub removed: u64,
     pub folded: u64,
@@ -117,7 +117,7 @@ impl Changes {
 }
 
 /// What passes left, and what they changed.
-#[derive(Debug, Drop)]
+#[derive(Drop)]
 pub struct Passed {
     pub traced: Traced,
     pub changes: Changes,

@@ -14,13 +14,13 @@ pub struct Renumber {
 }
 
 /// For each method number, whether the method's body may be rewritten.
-#[derive(Debug, Drop)]
+#[derive(Drop)]
 pub struct Admitted {
     pub methods: Vec<bool>,
 }
 
 /// Where an instruction comes from: a position of the body that a method, given by its number, had before.
-#[derive(Clone, PartialEq, Eq, Debug, Drop)]
+#[derive(Clone, PartialEq, Eq, Drop)]
 pub struct Origin {
     pub method: u32,
     pub position: u32,
@@ -34,7 +34,7 @@ impl Exact for Origin {
 
 /// What a pass answers: the program after it, how much it changed (0 exactly where it left the program the same), and
 /// for each method number where each instruction comes from, or the empty list where no positions moved.
-#[derive(Debug, Drop)]
+#[derive(Drop)]
 pub struct Changed {
     pub program: Program,
     pub count: u64,
@@ -42,7 +42,7 @@ pub struct Changed {
 }
 
 /// A class that is kept where its owner is live, both type numbers.
-#[derive(Clone, PartialEq, Eq, Debug, Drop)]
+#[derive(Clone, Drop)]
 pub struct ClassIf {
     pub class: u32,
     pub owner: u32,
@@ -58,7 +58,7 @@ impl Exact for ClassIf {
 /// condition that the member's class, or the class's owner, is live; whether to remove and to rewrite at all; and the
 /// methods whose calls do nothing and those that no framework type declares, by method number. It is closed where the
 /// three conditional lists are empty.
-#[derive(Clone, PartialEq, Eq, Debug, Drop)]
+#[derive(Clone, Drop)]
 pub struct Outside {
     pub classes: Seq<u32>,
     pub methods: Seq<u32>,

@@ -8,7 +8,7 @@ use dex_base::Text;
 use seq::{Exact, Seq};
 
 /// The version of the format, 035 or 037. From 037 on an interface may have methods with code that its classes find.
-#[derive(Clone, Copy, PartialEq, Eq, Debug, Drop)]
+#[derive(Clone, Copy, PartialEq, Eq, Drop)]
 pub enum Version {
     V035,
     V037,
@@ -16,7 +16,7 @@ pub enum Version {
 
 /// A field that a class defines. `name` is a field number. `first` is the first value of a static field, none where it
 /// is zero, false or null.
-#[derive(Clone, PartialEq, Eq, Debug, Drop)]
+#[derive(Clone, PartialEq, Eq, Drop)]
 pub struct Field {
     pub name: u32,
     pub flags: Flags,
@@ -26,7 +26,7 @@ pub struct Field {
 
 /// A method that a class defines. `name` is a method number. `parameter_marks` has a list of annotations for each of
 /// the first parameters, or none. `lines` is empty, or has the source line of each position, 0 where it has none.
-#[derive(Clone, PartialEq, Eq, Debug, Drop)]
+#[derive(Clone, PartialEq, Eq, Drop)]
 pub struct Method {
     pub name: u32,
     pub flags: Flags,
@@ -38,7 +38,7 @@ pub struct Method {
 
 /// A class. `name`, `superclass` and `interfaces` are type numbers, `source` is a string number. Static fields stand
 /// before instance fields, direct methods before virtual ones, and each group by number.
-#[derive(Clone, PartialEq, Eq, Debug, Drop)]
+#[derive(Clone, PartialEq, Eq, Drop)]
 pub struct Class {
     pub name: u32,
     pub flags: Flags,
@@ -51,7 +51,7 @@ pub struct Class {
 }
 
 /// A program. A type is the number of its descriptor in `strings`. `classes` stand in the order of the file.
-#[derive(Clone, PartialEq, Eq, Debug, Drop)]
+#[derive(Clone, PartialEq, Eq, Drop)]
 pub struct Program {
     pub strings: Seq<Text>,
     pub types: Seq<u32>,

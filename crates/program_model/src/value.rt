@@ -42,7 +42,7 @@ pub struct Element {
 }
 
 /// An annotation on a class, a field, a method or a parameter, and who may see it.
-#[derive(Clone, PartialEq, Eq, Debug, Drop)]
+#[derive(Clone, PartialEq, Eq, Drop)]
 pub struct Mark {
     pub visibility: u8,
     pub note: Note,

@@ -3,7 +3,7 @@
 use insn_set::Insn;
 
 /// A position of a body, and the instruction that is written there.
-#[derive(PartialEq, Eq, Debug, Drop)]
+#[derive(Drop)]
 pub struct Edit {
     pub position: u32,
     pub insn: Insn,

@@ -21,7 +21,7 @@ use program_model::{Flags, Method, MethodAt, Program, Version};
 use std::alloc::{AllocError, Global};
 
 /// What a super call finds: no program method, or one of the class with this type number.
-#[derive(Clone, Copy, PartialEq, Eq, Debug, Drop)]
+#[derive(Clone, Copy, PartialEq, Eq, Drop)]
 pub enum Search {
     Nothing,
     Finds { class: u32, is_static: bool },

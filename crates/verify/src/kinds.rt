@@ -12,7 +12,7 @@ ghost use Rattle.verify.specs.Kinds.{same_number, same_kind, is_number, is_initi
 /// many dimensions: `item` is the least type number whose type, without its brackets, is that of the items, and none
 /// stands for `Ljava/lang/Object;` where no type of the program is so. `Reference` is any object on which a constructor
 /// was called. What is `Program`, `Array` or `Reference` may also be null. Nothing may read what is `Undefined`.
-#[derive(Clone, Copy, PartialEq, Eq, Debug, Drop)]
+#[derive(Clone, Copy, PartialEq, Eq, Drop)]
 pub enum Kind {
     Undefined,
     Word,

@@ -10,7 +10,7 @@ use insn_set::Item;
 /// stores it. `Class` is a class type, with the place of the program class that defines it and whether that is no
 /// interface. `Array` has so many dimensions, and `item` is the least type number whose type without its brackets is
 /// that of the items. `Void` is `V`, and whatever is no type.
-#[derive(Clone, Copy, PartialEq, Eq, Debug, Drop)]
+#[derive(Clone, Copy, PartialEq, Eq, Drop)]
 pub enum Shape {
     Void,
     Int,

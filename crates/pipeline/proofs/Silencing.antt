@@ -251,6 +251,11 @@ module _ {A : Type 0} (items : A → List Bool) (silent : List ℕ) (admitted : 
   silent_by (Some m) quiet is = marked_is_silent silent admitted (items m) p q is quiet
   silent_by None fault is = fault_is_silent silent admitted p q is fault
 
+pub by_found : {A : Type 0} (items : A → List Bool) (found : Option A) (m : A) (admitted given seen : List Bool) (p q : Program) → found ≡ Some m → given ≡ admitted → seen ≡ items m → q ≡ silenced (marked seen) given p
+    → MatchOption found (q ≡ p) (λ k. q ≡ silenced (marked (items k)) admitted p)
+by_found items found m admitted given seen p q e f g is =
+    subst (λ o. MatchOption o (q ≡ p) (λ k. q ≡ silenced (marked (items k)) admitted p)) (sym e) (is ∙ ap (λ a. silenced (marked seen) a p) f ∙ ap (λ l. silenced (marked l) admitted p) g)
+
 -- where no method is silent, nothing is silenced
 pub none_is_same : (silent : List ℕ) (admitted : List Bool) (p q : Program) → silent ≡ [] → IsSilent silent admitted p q → q ≡ p
 none_is_same silent admitted p q e (inl is) = is ∙ same_silenced (is_quiet p silent) (marked []) (λ n. ap (λ s. is_quiet p s n) e ∙ sym (none_quiet p n)) admitted p ∙ sym (program_none admitted p)

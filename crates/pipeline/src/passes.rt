@@ -44,7 +44,8 @@ fn refresh_graph(
     if passed.changes.is_none() {
         return Ok(());
     }
-    *graph = hierarchy_of(alloc, &passed.traced.program)?;
+    let found = hierarchy_of(alloc, &passed.traced.program)?;
+    *graph = found;
     Ok(())
 }
 
@@ -202,7 +203,8 @@ fn refresh_facts(
     if passed.changes.is_none() {
         return Ok(());
     }
-    *facts = facts_of(alloc, &passed.traced.program, graph, outside, admitted)?;
+    let found = facts_of(alloc, &passed.traced.program, graph, outside, admitted)?;
+    *facts = found;
     Ok(())
 }
 

@@ -188,15 +188,15 @@ fn marks_by(
     alloc: Global,
     program: &Program,
     graph: &Option<Hierarchy>,
-    silent: &[u32],
+    outside: &Outside,
 ) -> Result<Option<Vec<bool>>, AllocError>
-    ensures part { IfOk result (λ found. IfSome found (λ marks. ArePartOf silent.now marks.items)) }
+    ensures part { IfOk result (λ found. IfSome found (λ marks. ArePartOf outside.now.silent marks.items)) }
     ensures exact { is_well_formed program.now ≡ true → IsGraph program.now graph.now
-        → IfOk result (λ found. MatchOption found (HasGraphFault program.now) (λ marks. AreQuiet program.now silent.now marks.items)) }
+        → IfOk result (λ found. MatchOption found (HasGraphFault program.now) (λ marks. AreQuiet program.now outside.now.silent marks.items)) }
 {
     match graph {
         Some(hierarchy) => {
-            let marks = quiet_methods(alloc, program, hierarchy, silent)?;
+            let marks = quiet_methods(alloc, program, hierarchy, outside.silent.as_slice())?;
             Ok(Some(marks))
         }
         None => Ok(None),
@@ -207,22 +207,22 @@ fn marks_by(
 fn silent_marks(
     alloc: Global,
     program: &Program,
-    silent: &[u32],
+    outside: &Outside,
 ) -> Result<Option<Vec<bool>>, AllocError>
-    ensures part { IfOk result (λ found. IfSome found (λ marks. ArePartOf silent.now marks.items)) }
-    ensures exact { is_well_formed program.now ≡ true → IfOk result (λ found. MatchOption found (HasGraphFault program.now) (λ marks. AreQuiet program.now silent.now marks.items)) }
+    ensures part { IfOk result (λ found. IfSome found (λ marks. ArePartOf outside.now.silent marks.items)) }
+    ensures exact { is_well_formed program.now ≡ true → IfOk result (λ found. MatchOption found (HasGraphFault program.now) (λ marks. AreQuiet program.now outside.now.silent marks.items)) }
 {
     let graph = hierarchy_of(alloc, program)?;
-    marks_by(alloc, program, &graph, silent)
+    marks_by(alloc, program, &graph, outside)
 }
 
 /// The program with each static call of a marked method a nop, where its result isn't taken and its method is admitted; without
 /// marks it is the same.
-fn silence_by(program: Program, marks: &Option<Vec<bool>>, admitted: &[bool]) -> Program
-    ensures { MatchOption marks.now (result ≡ program) (λ marks. result ≡ silenced (marked marks.items) admitted.now program) }
+fn silence_by(program: Program, marks: &Option<Vec<bool>>, admitted: &Admitted) -> Program
+    ensures { MatchOption marks.now (result ≡ program) (λ marks. result ≡ silenced (marked marks.items) admitted.now.methods.items program) }
 {
     match marks {
-        Some(marks) => silence_marked(program, marks.as_slice(), admitted),
+        Some(marks) => silence_marked(program, marks, &admitted.methods),
         None => program,
     }
 }
@@ -244,6 +244,6 @@ pub fn silence(
     if outside.silent.is_empty() {
         return Ok(program);
     }
-    let marks = silent_marks(alloc, &program, outside.silent.as_slice())?;
-    Ok(silence_by(program, &marks, admitted.methods.as_slice()))
+    let marks = silent_marks(alloc, &program, outside)?;
+    Ok(silence_by(program, &marks, admitted))
 }

@@ -10,4 +10,4 @@ returns-then-is_none c =
     λ p graph known same. subst (λ (x : Program). IsAnalysis c.args.outside.now c.args.admitted.now.methods.items x c.args.facts.now) (sym (same none)) known
 
 pub returns : goal.returns
-returns c = λ p graph known same. c.in_ok-facts_of.ensures graph
+returns c = λ p graph known same. c.in_ok-found.ensures graph

@@ -1,5 +1,6 @@
 use Rattle.std.proofs.Common.{Bool}
-use Rattle.std.specs.Prelude.{Global, Vec}
+use Rattle.std.specs.Prelude.{Vec}
+use Rattle.std.specs.declared.alloc.Global.{Global}
 use Rattle.pipeline.specs.Silence.{IsSilenced, marked}
 use Rattle.pipeline.proofs.Formed.{still_formed}
 use Rattle.pipeline.proofs.Silencing.{silenced_by, silent_by}

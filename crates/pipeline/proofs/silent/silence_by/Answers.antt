@@ -1,5 +1,6 @@
 use Rattle.std.proofs.Common.{Bool}
-use Rattle.std.specs.Prelude.{Global, Vec}
+use Rattle.std.specs.Prelude.{Vec}
+use Rattle.std.specs.declared.alloc.Global.{Global}
 use Rattle.pipeline.proofs.Silencing.{by_found}
 use Rattle.pipeline.proofs.silent.silence_by.Goals as goal
 

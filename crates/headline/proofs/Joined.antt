@@ -1,5 +1,5 @@
 -- From what a run gives to what it shows.
-use Rattle.std.proofs.Common.{◌≡◌, ℕ, Bool, true, false, List, Option, None, Some, ◌∙◌, subst}
+use Rattle.std.proofs.Common.{◌≡◌, ℕ, Bool, true, false, List, length, Option, None, Some, ◌⊎◌, inl, inr, ◌∙◌}
 use Rattle.program_model.specs.declared.pass.Outside.{Outside}
 use Rattle.program_model.specs.declared.program.Program.{Program}
 use Rattle.program_model.specs.ProgramRules.{is_well_formed}
@@ -13,13 +13,18 @@ use Rattle.command_line.specs.Spelling.{Spells}
 use Rattle.command_line.specs.declared.command.CommandWords.{CommandWords}
 use Rattle.command_line.specs.declared.command.CommandWords.TheVariants.{Nothing, Optimise, Check, Live, Trace, Workload}
 use Rattle.silence_bridge.proofs.Optimised.{optimised_shows, optimised_sound, optimised_folded, optimised_bound, optimised_skips, optimised_dead, optimised_fresh, optimised_packed, optimised_stays}
+use Rattle.silence_bridge.proofs.Inlined.{inlined_shows, inlined_sound, inlined_folded, inlined_bound, inlined_skips, inlined_dead, inlined_fresh, inlined_packed, inlined_stays}
+use Rattle.pipeline.specs.Advised.{IsAdvised}
+use Rattle.pipeline.specs.Asks.{Verdict}
+use Rattle.pipeline.specs.Prepared.{IsAdvisedBy}
+use Rattle.redex_outside.specs.Turns.{Turn}
 use Rattle.redex_outside.specs.Held.{Held}
 use Rattle.redex_cli.specs.Accepted.{IsAccepted}
-use Rattle.redex_cli.specs.Finished.{Finished, FinishedOf, IsOutputOf, Leaves}
+use Rattle.redex_cli.specs.Finished.{Finished, FinishedOf, IsOutputOf, Leaves, LeavesInlined, LeavesBy}
 use Rattle.redex_cli.specs.Refusals.{OutputBy}
 use Rattle.redex_cli.specs.Tables.{IsTableWith}
 use Rattle.redex_cli.specs.declared.fetching.Inputs.{Inputs}
-use Rattle.headline.specs.Headline.{Headline, InlinesNothing, KeepsMeaning, Shrinks}
+use Rattle.headline.specs.Headline.{Headline, KeepsMeaning, Shrinks}
 
 -- rules alone shut no method, and what a library shuts is shut by the definition
 table_holds : (rules : List ℕ) (library : Option (List ℕ)) (p : Program) (o : Outside) → is_well_formed p ≡ true → ((class : ℕ) → IsTwice p class → ⊥)
@@ -28,8 +33,8 @@ table_holds : (rules : List ℕ) (library : Option (List ℕ)) (p : Program) (o 
 table_holds rules None p o well once table = unshut p o (table.closes.shut ∙ table.table.shut)
 table_holds rules (Some bytes) p o well once table = narrowed_holds p well once table.closed o table.library table.narrowed
 
-pub keeps : (p r : Program) (o : Outside) (rounds spared : ℕ) → IsAccepted p → ShutsHold (named p) (outer_of p o) → Leaves p o r rounds spared → KeepsMeaning p o r
-keeps p r o rounds spared accepted holds leaves =
+keeps_plainly : (p r : Program) (o : Outside) (rounds spared : ℕ) → IsAccepted p → ShutsHold (named p) (outer_of p o) → Leaves p o r rounds spared → KeepsMeaning false p o r
+keeps_plainly p r o rounds spared accepted holds leaves =
     let well = accepted.formed in
     let graph = accepted.graph in
     let done = leaves.optimised in record {
@@ -51,8 +56,40 @@ keeps p r o rounds spared accepted holds leaves =
       stays = optimised_stays p accepted.hierarchy well graph.resolved graph.acyclic graph.unsplit o accepted.types r leaves.origins leaves.advisers spared rounds leaves.before leaves.after done;
     }
 
-shrinks : (inputs : Inputs) (output summary : List ℕ) → Finished false inputs output summary → Shrinks inputs output
-shrinks inputs output summary f =
+-- the advisers were asked about methods first
+was_advised : (o : Outside) (p : Program) (advisers : ℕ) (before after : List Bool) (v : Verdict) (turns : List Turn) → IsAdvisedBy o p advisers before after v turns → IsAdvised o p advisers before after v
+was_advised o p advisers before after v turns (inl asked) = inl asked.asked
+was_advised o p advisers before after v turns (inr none) = inr none.unasked
+
+keeps_inlined : (p r : Program) (o : Outside) (rounds spared : ℕ) → IsAccepted p → ShutsHold (named p) (outer_of p o) → LeavesInlined p o r rounds spared → KeepsMeaning true p o r
+keeps_inlined p r o rounds spared accepted holds leaves =
+    let well = accepted.formed in
+    let graph = accepted.graph in
+    let done = leaves.optimised in record {
+      admitted = done.admitted;
+      advisers = length leaves.olds;
+      before = leaves.before;
+      after = done.middle;
+      spared = spared;
+      advised = was_advised o p (length leaves.olds) leaves.before done.middle (record { admitted = done.admitted; spared = spared }) done.methods done.prepared.advised;
+      shown = inlined_shows p accepted.hierarchy well graph.resolved graph.acyclic graph.unsplit o accepted.types r leaves.origins leaves.olds leaves.news spared rounds leaves.before leaves.after done holds;
+      formed = (inlined_sound p accepted.hierarchy well graph.resolved graph.acyclic graph.unsplit o accepted.types r leaves.origins leaves.olds leaves.news spared rounds leaves.before leaves.after done).formed;
+      typed = (inlined_sound p accepted.hierarchy well graph.resolved graph.acyclic graph.unsplit o accepted.types r leaves.origins leaves.olds leaves.news spared rounds leaves.before leaves.after done).typed;
+      folded = inlined_folded p accepted.hierarchy well graph.resolved graph.acyclic graph.unsplit o accepted.types r leaves.origins leaves.olds leaves.news spared rounds leaves.before leaves.after done;
+      bound = inlined_bound p accepted.hierarchy well graph.resolved graph.acyclic graph.unsplit o accepted.types r leaves.origins leaves.olds leaves.news spared rounds leaves.before leaves.after done;
+      squeezed = inlined_skips p accepted.hierarchy well graph.resolved graph.acyclic graph.unsplit o accepted.types r leaves.origins leaves.olds leaves.news spared rounds leaves.before leaves.after done;
+      cleaned = inlined_dead p accepted.hierarchy well graph.resolved graph.acyclic graph.unsplit o accepted.types r leaves.origins leaves.olds leaves.news spared rounds leaves.before leaves.after done;
+      fresh = inlined_fresh p accepted.hierarchy well graph.resolved graph.acyclic graph.unsplit o accepted.types r leaves.origins leaves.olds leaves.news spared rounds leaves.before leaves.after done;
+      packed = inlined_packed p accepted.hierarchy well graph.resolved graph.acyclic graph.unsplit o accepted.types r leaves.origins leaves.olds leaves.news spared rounds leaves.before leaves.after done;
+      stays = inlined_stays p accepted.hierarchy well graph.resolved graph.acyclic graph.unsplit o accepted.types r leaves.origins leaves.olds leaves.news spared rounds leaves.before leaves.after done;
+    }
+
+pub keeps : (inline : Bool) (p r : Program) (o : Outside) (rounds spared : ℕ) → IsAccepted p → ShutsHold (named p) (outer_of p o) → LeavesBy inline p o r rounds spared → KeepsMeaning inline p o r
+keeps false p r o rounds spared accepted holds leaves = keeps_plainly p r o rounds spared accepted holds leaves
+keeps true p r o rounds spared accepted holds leaves = keeps_inlined p r o rounds spared accepted holds leaves
+
+shrinks : (inline : Bool) (inputs : Inputs) (output summary : List ℕ) → Finished inline inputs output summary → Shrinks inline inputs output
+shrinks inline inputs output summary f =
     let accepted = f.accepted in record {
       program = f.program;
       reads = f.reads;
@@ -60,23 +97,23 @@ shrinks inputs output summary f =
       table = f.table;
       left = f.shrunk.left;
       written = f.shrunk.written;
-      keeps = keeps f.program f.shrunk.left f.outside f.shrunk.rounds f.shrunk.spared accepted (table_holds inputs.rules inputs.library f.program f.outside accepted.formed accepted.graph.once f.table) f.shrunk.leaves;
+      keeps = keeps inline f.program f.shrunk.left f.outside f.shrunk.rounds f.shrunk.spared accepted (table_holds inputs.rules inputs.library f.program f.outside accepted.formed accepted.graph.once f.table) f.shrunk.leaves;
     }
 
-of_command : (words : List (List ℕ)) (held : Held) (output summary : List ℕ) (command : CommandWords) → InlinesNothing words → Spells words command
+of_command : (words : List (List ℕ)) (held : Held) (output summary : List ℕ) (command : CommandWords) → Spells words command
     → IsOutputOf true held command output summary → Headline words held output
-of_command words held output summary (Optimise asked) none spelled f = record {
+of_command words held output summary (Optimise asked) spelled f = record {
   asked = asked;
   spelled = spelled;
   inputs = f.inputs;
   are = f.are;
-  shrinks = shrinks f.inputs output summary (subst (λ (b : Bool). Finished b f.inputs output summary) (none asked spelled) f.finished);
+  shrinks = shrinks asked.inline f.inputs output summary f.finished;
 }
-of_command words held output summary Nothing none spelled f = absurd f
-of_command words held output summary (Check input) none spelled f = absurd f
-of_command words held output summary (Live rules input library) none spelled f = absurd f
-of_command words held output summary (Trace rules input script steps library) none spelled f = absurd f
-of_command words held output summary (Workload count) none spelled f = absurd f
+of_command words held output summary Nothing spelled f = absurd f
+of_command words held output summary (Check input) spelled f = absurd f
+of_command words held output summary (Live rules input library) spelled f = absurd f
+of_command words held output summary (Trace rules input script steps library) spelled f = absurd f
+of_command words held output summary (Workload count) spelled f = absurd f
 
-pub joined : (words : List (List ℕ)) (held : Held) (output summary : List ℕ) → InlinesNothing words → OutputBy words true held output summary → Headline words held output
-joined words held output summary none by = of_command words held output summary by.command none by.spelled by.final
+pub joined : (words : List (List ℕ)) (held : Held) (output summary : List ℕ) → OutputBy words true held output summary → Headline words held output
+joined words held output summary by = of_command words held output summary by.command by.spelled by.final

@@ -19,7 +19,7 @@ use Rattle.copy_bridge.specs.Bridged.{AllFresh}
 use Rattle.pipeline.specs.Advised.{IsAdvised}
 use Rattle.pipeline.specs.Passes.{KeepsForms}
 use Rattle.rounds_bridge.specs.Ended.{NoneKnown, NoneBindable}
-use Rattle.stay_law.specs.Stays.{Stays}
+use Rattle.stay_law.specs.Stays.{Stays, StaysInlined}
 use Rattle.silence_bridge.specs.Admitted.{admitted_in}
 use Rattle.command_line.specs.Spelling.{Spells}
 use Rattle.command_line.specs.declared.command.CommandWords.TheVariants.{Optimise}
@@ -28,6 +28,11 @@ use Rattle.redex_outside.specs.Held.{Held}
 use Rattle.redex_cli.specs.Files.{AreHeld}
 use Rattle.redex_cli.specs.Tables.{IsTableWith}
 use Rattle.redex_cli.specs.declared.fetching.Inputs.{Inputs}
+
+-- what stays of a program, by whether calls are inlined
+abbrev pub StaysFor : Bool → List Bool → Program → Program → Type 0
+StaysFor false admitted program left = Stays admitted program left
+StaysFor true admitted program left = StaysInlined admitted program left
 
 -- What is left of a program shows what the program shows without its silent calls in the admitted methods, to every
 -- framework, under every script and float table that fit, and is well-formed and typed. Some advisers were asked which methods
@@ -38,8 +43,9 @@ use Rattle.redex_cli.specs.declared.fetching.Inputs.{Inputs}
 -- reached, is no goto to the next one and no nop, but where the branch behind it goes to it, and none computes what nobody reads;
 -- and unless the program names a method of a wide type, no read of a copy could be one of the original (`IsStale` of pass_defs; 16
 -- bits number the body's registers), and no register could have a lower number (`IsPacked`). Every class, method
--- and field is one that the program has; a method that isn't admitted stays as it was, and no body has more registers (`Stays`).
-pub record KeepsMeaning (program : Program) (outside : Outside) (left : Program) : Type 0 where
+-- and field is one that the program has; a method that isn't admitted stays as it was, and no body has more registers (`Stays`),
+-- or at most 16 where calls are inlined (`StaysInlined`).
+pub record KeepsMeaning (inline : Bool) (program : Program) (outside : Outside) (left : Program) : Type 0 where
   pub admitted : List Bool
   pub advisers : ℕ
   pub before : List Bool
@@ -55,23 +61,19 @@ pub record KeepsMeaning (program : Program) (outside : Outside) (left : Program)
   pub cleaned : NoneDead (is_quiet_field left) admitted left
   pub fresh : has_narrow_classes left ≡ true → AllFresh admitted left
   pub packed : has_narrow_classes left ≡ true → AllPacked admitted left
-  pub stays : Stays admitted program left
+  pub stays : StaysFor inline admitted program left
 
 -- The file spells a program, the rules that their text spells make a table of it, which is closed, with the methods shut that the
 -- library shuts where there is one, and the output is the file that is written for a program that keeps its meaning. Not said yet:
 -- which conditions of the table are taken for met, and that the written file spells that program and is valid.
-pub record Shrinks (inputs : Inputs) (output : List ℕ) : Type 0 where
+pub record Shrinks (inline : Bool) (inputs : Inputs) (output : List ℕ) : Type 0 where
   pub program : Program
   pub reads : program_at inputs.file ≡ Ok program
   pub outside : Outside
   pub table : IsTableWith inputs.rules inputs.library program outside
   pub left : Program
   pub written : IsWritten left output
-  pub keeps : KeepsMeaning program outside left
-
--- The words don't ask that calls are inlined. Of a program whose calls are inlined no law says yet what it shows.
-abbrev pub InlinesNothing : List (List ℕ) → Type 0
-InlinesNothing words = (asked : OptimiseWords) → Spells words (Optimise asked) → asked.inline ≡ false
+  pub keeps : KeepsMeaning inline program outside left
 
 -- The words spell `optimise`, and the output is such a one of what the names hold.
 pub record Headline (words : List (List ℕ)) (held : Held) (output : List ℕ) : Type 0 where
@@ -79,4 +81,4 @@ pub record Headline (words : List (List ℕ)) (held : Held) (output : List ℕ) 
   pub spelled : Spells words (Optimise asked)
   pub inputs : Inputs
   pub are : AreHeld true held asked.rules asked.input asked.library inputs
-  pub shrinks : Shrinks inputs output
+  pub shrinks : Shrinks asked.inline inputs output

@@ -91,7 +91,7 @@ module _ (o : Outside) where
   -- ---- passes on bodies
 
   -- a pass that keeps a program but for bodies and lines, as this outside sees it, and what a table of shut methods owes
-  kept_for_owes : (p q : Program) → IsSound p → IsKeptFor o p q → (ShutsHold (named p) (outer_of p o) → ShutsHold (named q) (outer_of p o)) → Owes o p q
+  pub kept_for_owes : (p q : Program) → IsSound p → IsKeptFor o p q → (ShutsHold (named p) (outer_of p o) → ShutsHold (named q) (outer_of p o)) → Owes o p q
   kept_for_owes p q sound kept shuts = record {
     sound = record {
       formed = kept.formed;

@@ -17,7 +17,7 @@ abbrev pub total_of : Changes → ℕ
 total_of c = c.removed + c.folded + c.rebound + c.reread + c.renamed
 
 -- How much of a program there is: its classes and members, and its instructions, a nop counting 1 and every other one 2. No pass
--- makes it more, and a pass that takes away makes it less.
+-- makes it more, and a pass that takes away makes it less, or that makes nops of instructions.
 abbrev pub bulk_of : Program → ℕ
 bulk_of p = size_of p + weight_of p
 

@@ -25,6 +25,7 @@ use Rattle.const_prop.specs.Folds.{IsFoldedBy, NoneLeft}
 use Rattle.receivers.specs.Receiving.{is_straight}
 use Rattle.devirt.specs.Left.{NoneLeft as NoneBindable}
 use Rattle.devirt.specs.Rebound.{IsReboundBy}
+use Rattle.quiet_code.specs.Quieted.{NoneIdle, IsQuieted}
 use Rattle.copy_prop.specs.Propagated.{IsPropagatedProgram}
 use Rattle.dead_code.specs.Dead.{is_quiet_field}
 use Rattle.dead_code.specs.Wishes.{AreCleaned, NoneDead}
@@ -43,6 +44,7 @@ pub data Pass : Type 0 where
   Reach : Pass
   ConstProp : Pass
   Devirt : Pass
+  QuietCalls : Pass
   CopyProp : Pass
   DeadCode : Pass
   Squeeze : Pass
@@ -50,7 +52,7 @@ pub data Pass : Type 0 where
 
 -- The passes of a round, in their order.
 abbrev pub passes : List Pass
-passes = Reach ∷ ConstProp ∷ Devirt ∷ CopyProp ∷ DeadCode ∷ Squeeze ∷ Compact ∷ []
+passes = Reach ∷ ConstProp ∷ Devirt ∷ QuietCalls ∷ CopyProp ∷ DeadCode ∷ Squeeze ∷ Compact ∷ []
 
 -- ---- what each pass does to a well-formed program
 
@@ -128,6 +130,23 @@ pub record IsRebinding (o : Outside) (admitted : List Bool) (p q : Program) (mov
   pub rebinding : Rebinds o admitted p q ⊎ ((q ≡ p) × KeepsForms o admitted p)
   pub still : moved ≡ []
 
+-- Calls and divisions in admitted methods that do nothing by such facts are nops, and just these are. Where the program is left the
+-- same, nothing is left in these methods that does nothing by them.
+pub record Quiets (o : Outside) (admitted : List Bool) (p q : Program) : Type 0 where
+  pub hierarchy : Hierarchy
+  pub resolved : IsResolved p hierarchy
+  pub facts : Facts
+  pub known : AreKnown o p facts
+  pub changed : Changed
+  pub quieted : IsQuieted p facts admitted changed
+  pub left : q ≡ changed.program
+  pub none_left : q ≡ p → NoneIdle p quieted.quiet facts.frames.items admitted
+
+-- Calls and divisions in admitted methods that do nothing are nops, or nothing changes. No position moves.
+pub record IsQuieting (o : Outside) (admitted : List Bool) (p q : Program) (moved : List (List Origin)) : Type 0 where
+  pub quieting : Quiets o admitted p q ⊎ ((q ≡ p) × KeepsForms o admitted p)
+  pub still : moved ≡ []
+
 -- The verifier refuses some body.
 pub record IsIllTyped (p : Program) (h : Hierarchy) : Type 0 where
   pub method : ℕ
@@ -176,6 +195,7 @@ abbrev pub Does : Outside → List Bool → Pass → Program → Program → Lis
 Does o admitted Reach p q moved = IsRemoval o p q moved
 Does o admitted ConstProp p q moved = IsFolding o admitted p q moved
 Does o admitted Devirt p q moved = IsRebinding o admitted p q moved
+Does o admitted QuietCalls p q moved = IsQuieting o admitted p q moved
 Does o admitted CopyProp p q moved = IsPropagation admitted p q moved
 Does o admitted DeadCode p q moved = IsCleaning admitted p q moved
 Does o admitted Squeeze p q moved = Thins AreSkips (NothingLeft admitted p) admitted p q moved

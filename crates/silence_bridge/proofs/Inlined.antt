@@ -22,9 +22,9 @@ use Rattle.copy_bridge.specs.Bridged.{AllFresh}
 use Rattle.squeeze.specs.Needed.{NothingLeft}
 use Rattle.pipeline.specs.Inlined.{IsOptimisedInlined}
 use Rattle.pipeline.specs.Passes.{KeepsForms}
-use Rattle.rounds_bridge.specs.Ended.{NoneKnown, NoneBindable}
+use Rattle.rounds_bridge.specs.Ended.{NoneKnown, NoneBindable, NoneQuiet}
 use Rattle.rounds_bridge.specs.Owed.{IsSound, Owes}
-use Rattle.rounds_bridge.proofs.Ends.{all_folded, all_bound, none_skipped, none_dead, all_fresh, all_packed}
+use Rattle.rounds_bridge.proofs.Ends.{all_folded, all_bound, all_quiet, none_skipped, none_dead, all_fresh, all_packed}
 use Rattle.rounds_bridge.proofs.Inlining.{inlining_owes, inlining_stays}
 use Rattle.rounds_bridge.proofs.Owing.{owes_on}
 use Rattle.rounds_bridge.proofs.Repeated.{all_rounds_owe}
@@ -63,6 +63,9 @@ module _ (p : Program) (h : Hierarchy) (formed : is_well_formed p ≡ true) (res
 
   pub inlined_bound : NoneBindable o done.admitted r ⊎ KeepsForms o done.admitted r
   inlined_bound = all_bound o done.admitted r rounds.sound done.ran.ends
+
+  pub inlined_quiet : NoneQuiet o done.admitted r ⊎ KeepsForms o done.admitted r
+  inlined_quiet = all_quiet o done.admitted r rounds.sound done.ran.ends
 
   pub inlined_skips : NothingLeft done.admitted r
   inlined_skips = none_skipped o done.admitted r rounds.sound done.ran.ends

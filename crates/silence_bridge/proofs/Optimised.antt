@@ -27,9 +27,9 @@ use Rattle.copy_bridge.specs.Bridged.{AllFresh}
 use Rattle.squeeze.specs.Needed.{NothingLeft}
 use Rattle.pipeline.specs.Passes.{KeepsForms}
 use Rattle.pipeline.specs.Rounds.{first_of, IsOptimised}
-use Rattle.rounds_bridge.specs.Ended.{NoneKnown, NoneBindable}
+use Rattle.rounds_bridge.specs.Ended.{NoneKnown, NoneBindable, NoneQuiet}
 use Rattle.rounds_bridge.specs.Owed.{IsSound, Owes}
-use Rattle.rounds_bridge.proofs.Ends.{all_folded, all_bound, none_skipped, none_dead, all_fresh, all_packed}
+use Rattle.rounds_bridge.proofs.Ends.{all_folded, all_bound, all_quiet, none_skipped, none_dead, all_fresh, all_packed}
 use Rattle.rounds_bridge.proofs.Parts.{Part, mapped_head, mapped_part, still_once, still_grounded}
 use Rattle.rounds_bridge.proofs.Splits.{whole_left}
 use Rattle.rounds_bridge.proofs.Repeated.{all_rounds_owe}
@@ -116,6 +116,9 @@ module _ (p : Program) (h : Hierarchy) (formed : is_well_formed p ≡ true) (res
 
       pub optimised_bound : NoneBindable o done.admitted r ⊎ KeepsForms o done.admitted r
       optimised_bound = all_bound o done.admitted r rounds.sound done.ran.ends
+
+      pub optimised_quiet : NoneQuiet o done.admitted r ⊎ KeepsForms o done.admitted r
+      optimised_quiet = all_quiet o done.admitted r rounds.sound done.ran.ends
 
       pub optimised_skips : NothingLeft done.admitted r
       optimised_skips = none_skipped o done.admitted r rounds.sound done.ran.ends

@@ -41,7 +41,7 @@ use Rattle.shut_bridge.proofs.Folded.{folded_keeps}
 use Rattle.rebind_kept.proofs.Shuts.{rebound_holds}
 use Rattle.rebind_kept.proofs.Kept.{rebound_kept}
 use Rattle.quiet_kept.proofs.Kept.{quieted_kept}
-use Rattle.rounds_bridge.proofs.Quieting.{quieted_holds}
+use Rattle.quiet_kept.proofs.Shuts.{quieted_shut}
 use Rattle.rounds_bridge.specs.Owed.{IsSound, Owes, Keeps}
 use Rattle.rounds_bridge.proofs.Heads.{others_define}
 use Rattle.rounds_bridge.proofs.Owing.{owes_same}
@@ -147,9 +147,8 @@ module _ (o : Outside) where
       by : Quiets o admitted p q ⊎ ((q ≡ p) × KeepsForms o admitted p) → Owes o p q
       by (inl z) = subst (λ (x : Program). Owes o p x) (sym z.left) (kept_for_owes p z.changed.program sound
           (let k = z.known.certified in
-          quieted_kept p z.hierarchy o sound.formed z.resolved sound.grounded sound.typed z.facts admitted z.changed z.quieted z.known.words z.known.makers k.live k.targets k.fits k.live_closed k.targeted k.closed
-          (are_named p o k.live (record { formed = sound.formed; once = z.resolved.of.once; grounded = sound.grounded; sized = k.fits; closed = k.live_closed }) k.targets z.resolved.of.ranked z.known.plain z.facts))
-          (quieted_holds p z.facts admitted z.changed (outer_of p o) z.quieted))
+          quieted_kept p z.hierarchy o sound.formed z.resolved sound.grounded sound.typed z.facts admitted z.changed z.quieted z.known.words z.known.makers z.known.plain k.live k.targets k.fits k.live_closed k.targeted k.closed)
+          (quieted_shut p z.facts admitted z.changed (outer_of p o) z.quieted))
       by (inr none) = subst (λ (x : Program). Owes o p x) (sym none.0) (owes_same o p sound)
 
   pub quiet_calls_keeps : (admitted : List Bool) → Keeps o admitted QuietCalls

@@ -4,7 +4,6 @@ pub mod Inlining
 pub mod Keeping
 pub mod Owing
 pub mod Parts
-pub mod Quieting
 pub mod Repeated
 pub mod Splits
 pub mod Staying

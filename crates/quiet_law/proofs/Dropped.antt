@@ -1,4 +1,5 @@
--- A program shows the same without calls of quiet methods whose results nobody takes, and without dead code.
+-- A program shows the same without calls of quiet methods whose results nobody takes, without other forms that do no more than write
+-- what nobody reads, and without dead code.
 use Rattle.std.proofs.Common.{◌≡◌, ◌⊎◌, inl, inr, ℕ, suc, ◌+◌, Bool, true, false, true≢false, List, ◌∷◌, Option, Some, None, length, refl, sym, ap, ◌∙◌, subst}
 use Rattle.dalvik_defs.specs.Names.{Text}
 use Rattle.dalvik_defs.specs.Face.{face_of, bodies_of}
@@ -35,17 +36,18 @@ use Rattle.thin_law.specs.Thin.{IsNeed, AreThin, Neither, Both}
 use Rattle.thin_law.specs.Fates.{MayGo, AreFates}
 use Rattle.thin_law.specs.Cleaning.{IsTaken, Drops, IsDropped, Skipped, Unread, IsSound}
 use Rattle.thin_law.specs.Thins.{Right, Thins, NoCode, Same, Thinned}
-use Rattle.thin_law.proofs.Thinning.{Leaps, thinned_shown}
+use Rattle.thin_law.proofs.Thinning.{Leaps, leap_by, thinned_shown}
 use Rattle.thin_law.proofs.Fates.{fated_thin, same_thin}
 use Rattle.thin_law.proofs.Squeezed.{more, skipped_goes}
 use Rattle.thin_law.proofs.Cleaned.{read_need, level, drop_leaps}
-use Rattle.quiet_law.specs.Calls.{Rank, Gone, QuietRuns, IsCallGone, IsQuietCleaning}
+use Rattle.quiet_law.specs.Calls.{Rank, Gone, QuietRuns, IsCallGone, IsSpare, IsQuietCleaning}
 use Rattle.quiet_law.proofs.Leaving.{call_leaps, untaken}
 
--- dead code, or a call that goes
-pub data Loses (p : NamedProgram) (gone : ℕ → Bool) (n : ℕ) (x : Form) (m : ℕ) : Type 0 where
-  Dead : Drops p n x m → Loses p gone n x m
-  Called : (kind : InvokeKind) (k : MethodKey) (args : List ℕ) → x ≡ form.Invoke kind k args → gone n ≡ true → m ≡ n + 1 → Loses p gone n x m
+-- dead code, a call that goes, or another form that does
+pub data Loses (p : NamedProgram) (gone spare : ℕ → Bool) (n : ℕ) (x : Form) (m : ℕ) : Type 0 where
+  Dead : Drops p n x m → Loses p gone spare n x m
+  Called : (kind : InvokeKind) (k : MethodKey) (args : List ℕ) → x ≡ form.Invoke kind k args → gone n ≡ true → m ≡ n + 1 → Loses p gone spare n x m
+  Spared : spare n ≡ true → m ≡ n + 1 → Loses p gone spare n x m
 
 -- a pure form goes on, and gives no result
 pure_continues : (p : NamedProgram) (x : Form) → is_pure p x ≡ true → continues x ≡ true
@@ -60,9 +62,9 @@ pure_plain p (form.FilledNewArray kind args) e = absurd (true≢false (sym e))
 pure_plain p (form.Invoke kind key args) e = absurd (true≢false (sym e))
 pure_plain p x e = refl
 
-dead_goes : (p : NamedProgram) (gone : ℕ → Bool) (b : NamedBody) (fs : List Fate) (n : ℕ) (x : Form) → form_at b n ≡ Some x → IsDropped p b fs n x → MayGo (λ n r. IsRead b r n) (IsTaken b) (Loses p gone) fs n x
-dead_goes p gone b fs n x e (Skipped _ h) = skipped_goes (λ n r. IsRead b r n) (IsTaken b) (Loses p gone) fs n x (λ m j. Dead (inl j)) h
-dead_goes p gone b fs n x e (Unread _ h v u) = let j = goes_next x n (pure_continues p x h) in record {
+dead_goes : (p : NamedProgram) (gone spare : ℕ → Bool) (b : NamedBody) (fs : List Fate) (n : ℕ) (x : Form) → form_at b n ≡ Some x → IsDropped p b fs n x → MayGo (λ n r. IsRead b r n) (IsTaken b) (Loses p gone spare) fs n x
+dead_goes p gone spare b fs n x e (Skipped _ h) = skipped_goes (λ n r. IsRead b r n) (IsTaken b) (Loses p gone spare) fs n x (λ m j. Dead (inl j)) h
+dead_goes p gone spare b fs n x e (Unread _ h v u) = let j = goes_next x n (pure_continues p x h) in record {
   to = n + 1;
   loses_it = Dead (inr (h, (v, refl)));
   ahead = more n;
@@ -76,8 +78,8 @@ dead_goes p gone b fs n x e (Unread _ h v u) = let j = goes_next x n (pure_conti
     at r y false k = k
     at r y true k = absurd (u r k (n + 1, goes_onward b n x e (n + 1) (goes_next x n (pure_continues p x h)), y))
 
-call_goes : (p : NamedProgram) (gone : ℕ → Bool) (fs : List Fate) (b : NamedBody) → IsQuietCleaning p gone fs b → (n : ℕ) (x : Form) → IsCallGone gone b n x → MayGo (λ n r. IsRead b r n) (IsTaken b) (Loses p gone) fs n x
-call_goes p gone fs b h n x g = record {
+call_goes : (p : NamedProgram) (gone spare : ℕ → Bool) (fs : List Fate) (b : NamedBody) → IsQuietCleaning p gone spare fs b → (n : ℕ) (x : Form) → IsCallGone gone b n x → MayGo (λ n r. IsRead b r n) (IsTaken b) (Loses p gone spare) fs n x
+call_goes p gone spare fs b h n x g = record {
   to = n + 1;
   loses_it = Called g.kind g.named g.args g.call g.marked refl;
   ahead = more n;
@@ -87,12 +89,28 @@ call_goes p gone fs b h n x g = record {
   untaken = λ e t. untaken b h.in_place (n + 1) g.untaken t;
 }
 
-pub quiet_fates : (p : NamedProgram) (gone : ℕ → Bool) (fs : List Fate) (b : NamedBody) → IsQuietCleaning p gone fs b → AreFates (λ n r. IsRead b r n) (IsTaken b) (Loses p gone) fs b
-quiet_fates p gone fs b h = record { long = h.long; within = h.within; leaves = λ n x f i e k s. by n x e (h.dropped n x f i e k s) }
+spare_goes : (p : NamedProgram) (gone spare : ℕ → Bool) (fs : List Fate) (b : NamedBody) (n : ℕ) (x : Form) → form_at b n ≡ Some x → IsSpare spare b n x → MayGo (λ n r. IsRead b r n) (IsTaken b) (Loses p gone spare) fs n x
+spare_goes p gone spare fs b n x e g = record {
+  to = n + 1;
+  loses_it = Spared g.marked refl;
+  ahead = more n;
+  onward = goes_next x n g.goes_on;
+  beside = refl;
+  unneeded = λ r y. at r y (writes x r) refl;
+  untaken = λ k t. absurd (true≢false (sym k ∙ g.gives_none));
+}
   where
-    by : (n : ℕ) (x : Form) → form_at b n ≡ Some x → IsDropped p b fs n x ⊎ IsCallGone gone b n x → MayGo (λ n r. IsRead b r n) (IsTaken b) (Loses p gone) fs n x
-    by n x e (inl d) = dead_goes p gone b fs n x e d
-    by n x e (inr g) = call_goes p gone fs b h n x g
+    at : (r : ℕ) → IsRead b r (n + 1) → (z : Bool) → writes x r ≡ z → writes x r ≡ false
+    at r y false k = k
+    at r y true k = absurd (g.unread r k (n + 1, goes_onward b n x e (n + 1) (goes_next x n g.goes_on), y))
+
+pub quiet_fates : (p : NamedProgram) (gone spare : ℕ → Bool) (fs : List Fate) (b : NamedBody) → IsQuietCleaning p gone spare fs b → AreFates (λ n r. IsRead b r n) (IsTaken b) (Loses p gone spare) fs b
+quiet_fates p gone spare fs b h = record { long = h.long; within = h.within; leaves = λ n x f i e k s. by n x e (h.dropped n x f i e k s) }
+  where
+    by : (n : ℕ) (x : Form) → form_at b n ≡ Some x → IsDropped p b fs n x ⊎ (IsCallGone gone b n x ⊎ IsSpare spare b n x) → MayGo (λ n r. IsRead b r n) (IsTaken b) (Loses p gone spare) fs n x
+    by n x e (inl d) = dead_goes p gone spare b fs n x e d
+    by n x e (inr (inl g)) = call_goes p gone spare fs b h n x g
+    by n x e (inr (inr g)) = spare_goes p gone spare fs b n x e g
 
 -- ---- programs
 
@@ -107,14 +125,14 @@ taken_in (Some b) n = IsTaken b n
 need_by : (o : Option NamedBody) (b : NamedBody) → o ≡ Some b → IsNeed b (λ n r. IsRead b r n) (IsTaken b) → IsNeed b (read_in o) (taken_in o)
 need_by o b e n = subst (λ y. IsNeed b (read_in y) (taken_in y)) (sym e) n
 
-module _ (p : NamedProgram) (gone : Gone) where
+module _ (p : NamedProgram) (gone spare : Gone) where
   abbrev pub Quietens : Right
-  Quietens k fs b = IsQuietCleaning p (gone k) fs b
+  Quietens k fs b = IsQuietCleaning p (gone k) (spare k) fs b
 
-  quiet_thin : (k : MethodKey) (o o' : Option NamedBody) → Thins Quietens k o o' → AreThin (read_in o) (taken_in o) (Loses p (gone k)) o o'
+  quiet_thin : (k : MethodKey) (o o' : Option NamedBody) → Thins Quietens k o o' → AreThin (read_in o) (taken_in o) (Loses p (gone k) (spare k)) o o'
   quiet_thin k _ _ NoCode = Neither
-  quiet_thin k _ _ (Same b) = Both b b (same_thin (λ n r. IsRead b r n) (IsTaken b) (Loses p (gone k)) b)
-  quiet_thin k _ _ (Thinned fs b h) = Both b (thinned fs b) (fated_thin (λ n r. IsRead b r n) (IsTaken b) (Loses p (gone k)) fs b (quiet_fates p (gone k) fs b h))
+  quiet_thin k _ _ (Same b) = Both b b (same_thin (λ n r. IsRead b r n) (IsTaken b) (Loses p (gone k) (spare k)) b)
+  quiet_thin k _ _ (Thinned fs b h) = Both b (thinned fs b) (fated_thin (λ n r. IsRead b r n) (IsTaken b) (Loses p (gone k) (spare k)) fs b (quiet_fates p (gone k) (spare k) fs b h))
 
   module _ (o : Outer) (quiet : MethodKey → Bool) (rank : Rank) (sound : IsSound p) where
     abbrev calm : Framework → Text → Bool
@@ -125,16 +143,18 @@ module _ (p : NamedProgram) (gone : Gone) where
       Known f a script t = CalmState (setting_of p o f a) (bodies_of p) (calm f) (quiet_calm (setting_of p o f a) (level p o sound)) t × I f a script t
 
       leaps : (f : Framework) (a : Floats) (script : List Move) (w : World) (c : Classes) (g : Frame) (rest : List Waiting) (script' : List Move) (x : Form) (m : ℕ)
-          → QuietRuns (setting_of p o f a) (bodies_of p) quiet rank gone (I f a script) → Known f a script (On w c (Method g ∷ rest) script') → form_here (bodies_of p) g ≡ Some x
-          → Loses p (gone g.method) g.position x m → Leaps (setting_of p o f a) (bodies_of p) w c g x m
+          → QuietRuns (setting_of p o f a) (bodies_of p) quiet rank gone spare (I f a script) → Known f a script (On w c (Method g ∷ rest) script') → form_here (bodies_of p) g ≡ Some x
+          → Loses p (gone g.method) (spare g.method) g.position x m → Leaps (setting_of p o f a) (bodies_of p) w c g x m
       leaps f a script w c g rest script' x m runs j e (Dead d) = drop_leaps p o sound f a w c g x m (calm_done (setting_of p o f a) (bodies_of p) (calm f) (quiet_calm (setting_of p o f a) (level p o sound)) w c (Method g ∷ rest) script' j.0) e d
       leaps f a script w c g rest script' x m runs j e (Called kind k args is z n) = subst (λ y. Leaps (setting_of p o f a) (bodies_of p) w c g y m) (sym is)
-          (subst (λ y. Leaps (setting_of p o f a) (bodies_of p) w c g (form.Invoke kind k args) y) (sym n) (call_leaps (setting_of p o f a) (bodies_of p) quiet rank gone (I f a script) runs w c g rest script' kind k args j.1 z))
+          (subst (λ y. Leaps (setting_of p o f a) (bodies_of p) w c g (form.Invoke kind k args) y) (sym n) (call_leaps (setting_of p o f a) (bodies_of p) quiet rank gone spare (I f a script) runs w c g rest script' kind k args j.1 z))
+      leaps f a script w c g rest script' x m runs j e (Spared z n) = subst (λ y. Leaps (setting_of p o f a) (bodies_of p) w c g x y) (sym n)
+          (let k = runs.works w c g rest script' x j.1 e z in leap_by (setting_of p o f a) (bodies_of p) w c g x (g.position + 1) k.registers k.goes k.others)
 
       pub quiet_shown : (q : NamedProgram) → OtherBodies (Thins Quietens) p q
-          → ((f : Framework) (a : Floats) (script : List Move) → Fit p o f script → QuietRuns (setting_of p o f a) (bodies_of p) quiet rank gone (I f a script) × I f a script (calm_opening (calm f) script))
+          → ((f : Framework) (a : Floats) (script : List Move) → Fit p o f script → QuietRuns (setting_of p o f a) (bodies_of p) quiet rank gone spare (I f a script) × I f a script (calm_opening (calm f) script))
           → SameShown p q o
-      quiet_shown q h known = thinned_shown p q o (λ k. read_in (bodies_of p k)) (λ k. taken_in (bodies_of p k)) (λ k. Loses p (gone k)) calm Known
+      quiet_shown q h known = thinned_shown p q o (λ k. read_in (bodies_of p k)) (λ k. taken_in (bodies_of p k)) (λ k. Loses p (gone k) (spare k)) calm Known
           (λ f. sym (others_face (Thins Quietens) p q h f))
           (λ k. quiet_thin k (bodies_of p k) (bodies_of q k) (others_found (Thins Quietens) (λ k. NoCode) p q h k))
           (λ k b e. need_by (bodies_of p k) b e (read_need b (λ n x i. sound.voids k b n x e i)))

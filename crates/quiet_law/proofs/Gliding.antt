@@ -45,7 +45,7 @@ enters_taken : (w : World) (c : Classes) (k : MethodKey) (vs : List Value) (b : 
     → enters_body (Some b) w c k vs rest script ≡ On w c (Method (entry_frame k vs b) ∷ rest) script
 enters_taken w c k vs b rest script e = ap (λ q. elim q as (λ q. State) [ true ↦ On w c (Method (entry_frame k vs b) ∷ rest) script | false ↦ Ended ]) (eq-eqb (length vs) b.ins e)
 
-module _ (s : Setting) (find : Bodies) (quiet : MethodKey → Bool) (rank : Rank) (gone : Gone) (I : State → Type 0) (runs : QuietRuns s find quiet rank gone I) where
+module _ (s : Setting) (find : Bodies) (quiet : MethodKey → Bool) (rank : Rank) (gone spare : Gone) (I : State → Type 0) (runs : QuietRuns s find quiet rank gone spare I) where
   -- the end of a method comes in silence
   pub record Finishes (w : World) (c : Classes) (f : Frame) : Type 0 where
     pub steps : ℕ

@@ -1,0 +1,2 @@
+pub mod Nopped
+pub mod Runs

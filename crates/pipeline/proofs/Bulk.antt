@@ -15,7 +15,10 @@ use Rattle.body_edit.specs.declared.fate.Fate.{Fate}
 use Rattle.thin_pass.specs.Plans.{methods_by, class_by, classes_by, IsThinnedBy}
 use Rattle.thin_pass.specs.Weights.{method_weight, class_weight, weight_of}
 use Rattle.compact.specs.Renamed.{IsCompactedProgram}
+use Rattle.program_model.specs.declared.program.MethodAt.{MethodAt}
+use Rattle.rewrite_pass.specs.declared.edit.Edit.{Edit}
 use Rattle.rewrite_pass.specs.Plans.{IsRewrittenBy}
+use Rattle.rewrite_pass.specs.Plans as over
 use Rattle.const_prop.specs.Folded.{IsFold}
 use Rattle.copy_prop.specs.Propagated.{IsPropagatedProgram}
 use Rattle.numbers_law.proofs.Compacted.{compacted_size, compacted_weight}
@@ -65,6 +68,26 @@ classes_sized (ps ∷ plan) (c ∷ cs) = omega (arith, class_sized ps c, classes
 pub thinned_less : (wishes : Body → List Fate → Type 0) (admitted : List Bool) (p : Program) (c : Changed) → IsThinnedBy wishes admitted p c → weight_of c.program < weight_of p → bulk_of c.program < bulk_of p
 thinned_less wishes admitted p c h less =
     let size : size_of c.program ≡ size_of p = ap size_of h.program ∙ classes_sized h.plan p.classes in
+    omega (arith, size, less)
+
+-- ---- nops over instructions
+
+written_long : (plan : List (List Edit)) (ms : List Method) → length (over.methods_by plan ms) ≡ length ms
+written_long [] ms = refl
+written_long (es ∷ plan) [] = refl
+written_long (es ∷ plan) (m ∷ ms) = ap suc (written_long plan ms)
+
+written_class : (plan : List (List Edit)) (c : Class) → class_size (over.class_by plan c) ≡ class_size c
+written_class plan c = omega (arith, written_long plan c.methods)
+
+written_classes : (plan : List (List (List Edit))) (cs : List Class) → sum_by class_size (over.classes_by plan cs) ≡ sum_by class_size cs
+written_classes [] cs = refl
+written_classes (ps ∷ plan) [] = refl
+written_classes (ps ∷ plan) (c ∷ cs) = omega (arith, written_class ps c, written_classes plan cs, sum_by-cons class_size (over.class_by ps c) (over.classes_by plan cs), sum_by-cons class_size c cs)
+
+pub written_less : (writes : MethodAt → Method → Body → List Edit → Type 0) (admitted : List Bool) (p : Program) (c : Changed) → IsRewrittenBy writes admitted p c → weight_of c.program < weight_of p → bulk_of c.program < bulk_of p
+written_less writes admitted p c h less =
+    let size : size_of c.program ≡ size_of p = ap size_of h.written.program ∙ written_classes h.plan p.classes in
     omega (arith, size, less)
 
 -- ---- compaction

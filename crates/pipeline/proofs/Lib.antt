@@ -8,6 +8,7 @@ pub mod Graphs
 pub mod Inlines
 pub mod Passing
 pub mod Preparing
+pub mod Results
 pub mod RoundLemmas
 pub mod Silencing
 pub mod Tracing

@@ -38,6 +38,8 @@ use Rattle.devirt.specs.Measure.{calls_in}
 use Rattle.receivers.specs.Receiving.{is_straight}
 use Rattle.devirt.specs.Left.{NoneLeft as NoneBindable}
 use Rattle.devirt.specs.Rebound.{IsRecalledAt, IsReboundBy}
+use Rattle.quiet_code.specs.Quiet.{AreDropped}
+use Rattle.quiet_code.specs.Quieted.{IsQuieted}
 use Rattle.copy_prop.specs.Propagated.{IsCounted, IsPropagatedProgram}
 use Rattle.moves_law.specs.Measure.{moves_in}
 use Rattle.moves_law.proofs.Propagated.{propagated_fewer}
@@ -51,9 +53,9 @@ use Rattle.pipeline.specs.declared.traces.Traced.{Traced}
 use Rattle.pipeline.specs.Changes.{no_changes, total_of, bulk_of, rank_of, Falls}
 use Rattle.pipeline.specs.Graph.{HasGraph, HasGraphFault}
 use Rattle.pipeline.specs.Origins.{Follow}
-use Rattle.pipeline.specs.Passes.{Pass, Reach, ConstProp, Devirt, CopyProp, DeadCode, Squeeze, Compact, Removes, AreKnown, KeepsForms, IsIllTyped, KeepsReads, Does, Steps, Last, Then, AreStill, HavePassed}
+use Rattle.pipeline.specs.Passes.{Pass, Reach, ConstProp, Devirt, QuietCalls, CopyProp, DeadCode, Squeeze, Compact, Removes, AreKnown, KeepsForms, IsIllTyped, KeepsReads, Does, Steps, Last, Then, AreStill, HavePassed}
 use Rattle.pipeline.proofs.Few.{few_fields}
-use Rattle.pipeline.proofs.Bulk.{removal_less, folded_no_more, rebound_same, rebound_plainer, propagated_same, propagated_plainer, propagated_nearer, thinned_less, compacted_same, compacted_plainer, compacted_nearer}
+use Rattle.pipeline.proofs.Bulk.{removal_less, folded_no_more, rebound_same, rebound_plainer, propagated_same, propagated_plainer, propagated_nearer, thinned_less, written_less, compacted_same, compacted_plainer, compacted_nearer}
 
 -- ---- any passes
 
@@ -348,6 +350,30 @@ module _ (o : Outside) (admitted : List Bool) (t : Traced) (r : Passed) where
         still = becomes.written.origins;
       })
       (omega arith) same (λ _. becomes.written.origins) (rebound_falls c.program t.program c.count same (rebound_same admitted t.program c becomes) (rebound_plainer admitted t.program c becomes) nearer)
+
+  -- ---- calls that do nothing
+
+  pub kept_quiet_passed : r.traced ≡ t → r.changes ≡ no_changes → (is_well_formed t.program ≡ true → KeepsForms o admitted t.program) → HavePassed o admitted (QuietCalls ∷ []) t r
+  kept_quiet_passed same none keeps = none_passed o admitted QuietCalls t r (λ formed. record { quieting = inr (refl, keeps formed); still = refl }) same none
+
+  pub quieted_passed : (c : Changed) (h : Hierarchy) (facts : Facts) → IsPassed t.origins c (removes c.count) r → HasGraph t.program h → AreKnown o t.program facts
+      → IsRewrittenBy (λ at m b es. AreDropped b es) admitted t.program c → IsQuieted t.program facts admitted c → (c.count ≡ 0 → c.program ≡ t.program) → (0 < c.count → weight_of c.program < weight_of t.program)
+      → HavePassed o admitted (QuietCalls ∷ []) t r
+  quieted_passed c h facts passed graph known dropped quieted same less = taken_passed QuietCalls c passed
+      (λ formed. record {
+        quieting = inl (record {
+          hierarchy = h;
+          resolved = graph.resolved;
+          facts = facts;
+          known = known;
+          changed = c;
+          quieted = quieted;
+          left = refl;
+          none_left = λ e. quieted.none_left (uncounted weight_of c less e);
+        });
+        still = dropped.written.origins;
+      })
+      same (λ _. dropped.written.origins) (λ some. written_less (λ at m b es. AreDropped b es) admitted t.program c dropped (less some))
 
   -- ---- propagation of copies
 

@@ -1,5 +1,6 @@
 -- What is asked about methods, and what becomes of a program behind these asks.
-use Rattle.std.proofs.Common.{◌≡◌, ◌⊎◌, inl, inr, ℕ, Bool, true, false, List, [], ◌++◌, length, map, refl, sym, subst}
+use Rattle.std.proofs.Common.{◌≡◌, ◌⊎◌, inl, inr, ℕ, Bool, true, false, List, [], ◌++◌, length, map, Option, Some, None, refl, sym, subst}
+use Rattle.std.specs.Prelude.{Result, Ok, Err, IfOk, OnOk, OnErr}
 use Rattle.std.proofs.lemmas.List.{length-map}
 use Rattle.program_model.specs.declared.pass.Outside.{Outside}
 use Rattle.program_model.specs.declared.program.Program.{Program}
@@ -16,7 +17,8 @@ use Rattle.call_graph.specs.Closed.{IsClosedSet}
 use Rattle.reach.specs.Marked.{IsMarked}
 use Rattle.inline_calls.specs.Asked.{turn_of, Asks}
 use Rattle.pipeline.specs.declared.traces.Traced.{Traced}
-use Rattle.pipeline.specs.Advised.{IsAsked, IsAdvised}
+use Rattle.pipeline.specs.declared.asks.Advice.{Advice}
+use Rattle.pipeline.specs.Advised.{verdict, AreMarks, IsAsked, IsAdvised}
 use Rattle.pipeline.specs.Asks.{Verdict, asked, no_verdict, AreAnswered}
 use Rattle.pipeline.specs.Graph.{HasGraph, HasGraphFault}
 use Rattle.pipeline.specs.Inlined.{IsOptimisedInlined, InlinedBegins, OfMethods, OfCalls}
@@ -26,6 +28,7 @@ use Rattle.pipeline.specs.Replies.{turns_about, HaveTaken, AreFirstOf}
 use Rattle.pipeline.specs.Rounds.{first_of, HaveRunFrom, HaveRun, IsOptimised, IsOptimisedBy}
 use Rattle.pipeline.specs.Silence.{IsSilent}
 use Rattle.pipeline.proofs.Inlines.{inlined_begins}
+use Rattle.pipeline.proofs.Results.{on_err_so}
 use Rattle.pipeline.proofs.RoundLemmas.{unsilenced, none_admitted}
 use Rattle.pipeline.proofs.Turns.{more_run, rows_run, taken_so, taken_by, first_all}
 
@@ -38,14 +41,42 @@ module _ (o : Outside) (p : Program) where
       taken_by (IsAdvisedBy o p advisers answers answers v) [] voices voices answers answers (run_start voices answers)
       (inr (record { unasked = record { barred = barred; none = refl; nothing = nothing }; none = refl }))
 
-  -- the marks that were found
-  pub answered : (h : Hierarchy) (s : LiveSet) (advisers : ℕ) (olds news : List Voice) (before after : List Bool) (v : Verdict) → o.optimise ≡ true → is_well_formed p ≡ true → HasGraph p h
-      → Fits p s → (is_well_formed p ≡ true → IsResolved p h → IsClosedSet p o s) → AreAnswered advisers (asked s p) before after (no_verdict p) v → HasRun (turns_about s p) olds news before after
-      → HaveTaken (IsAdvisedBy o p advisers before after v) olds news before after
-  answered h s advisers olds news before after v allowed formed graph sized closed answers run =
-      let marked : IsMarked p o s = record { formed = formed; once = graph.resolved.of.once; grounded = graph.grounded; sized = sized; closed = closed formed graph.resolved } in
+  -- what is live by a hierarchy
+  pub marked : (h : Hierarchy) (s : LiveSet) → is_well_formed p ≡ true → HasGraph p h → Fits p s → (is_well_formed p ≡ true → IsResolved p h → IsClosedSet p o s) → IsMarked p o s
+  marked h s formed graph sized closed = record { formed = formed; once = graph.resolved.of.once; grounded = graph.grounded; sized = sized; closed = closed formed graph.resolved }
+
+  pub found_marks : (found : Option LiveSet) (s : LiveSet) → AreMarks o p found → found ≡ Some s → IsMarked p o s
+  found_marks found s marks e = subst (AreMarks o p) e marks
+
+  pub no_marks : (found : Option LiveSet) → AreMarks o p found → found ≡ None → HasGraphFault p
+  no_marks found marks e = subst (AreMarks o p) e marks
+
+  -- the methods that they say were asked about
+  pub answered : (s : LiveSet) (advisers : ℕ) (olds news : List Voice) (before after : List Bool) (v : Verdict) → o.optimise ≡ true → IsMarked p o s
+      → AreAnswered advisers (asked s p) before after (no_verdict p) v → HasRun (turns_about s p) olds news before after → HaveTaken (IsAdvisedBy o p advisers before after v) olds news before after
+  answered s advisers olds news before after v allowed marked answers run =
       taken_by (IsAdvisedBy o p advisers before after v) (turns_about s p) olds news before after run
       (inl (record { asked = record { allowed = allowed; marks = s; marked = marked; answered = answers }; turns_are = refl }))
+
+  module _ {E : Type 0} (r : Result Advice E) (advisers : ℕ) where
+    pub all_answered : (s : LiveSet) (olds news : List Voice) (before after : List Bool) → o.optimise ≡ true → IsMarked p o s
+        → IfOk r (λ a. AreAnswered advisers (asked s p) before after (no_verdict p) (verdict a)) → OnOk r (HasRun (turns_about s p) olds news before after)
+        → IfOk r (λ a. HaveTaken (IsAdvisedBy o p advisers before after (verdict a)) olds news before after)
+    all_answered s olds news before after allowed marked answers run = by r answers run
+      where
+        by : (r : Result Advice E) → IfOk r (λ a. AreAnswered advisers (asked s p) before after (no_verdict p) (verdict a)) → OnOk r (HasRun (turns_about s p) olds news before after)
+            → IfOk r (λ a. HaveTaken (IsAdvisedBy o p advisers before after (verdict a)) olds news before after)
+        by (Ok a) answers run = answered s advisers olds news before after (verdict a) allowed marked answers run
+        by (Err e) answers run = tt
+
+    -- nobody was
+    pub none_answered : (voices : List Voice) (answers : List Bool) → (o.optimise ≡ false) ⊎ HasGraphFault p → IfOk r (λ a. verdict a ≡ no_verdict p)
+        → IfOk r (λ a. HaveTaken (IsAdvisedBy o p advisers answers answers (verdict a)) voices voices answers answers)
+    none_answered voices answers barred none = by r none
+      where
+        by : (r : Result Advice E) → IfOk r (λ a. verdict a ≡ no_verdict p) → IfOk r (λ a. HaveTaken (IsAdvisedBy o p advisers answers answers (verdict a)) voices voices answers answers)
+        by (Ok a) none = unasked advisers voices answers (verdict a) none barred
+        by (Err e) none = tt
 
   pub advised_is : (advisers : ℕ) (before after : List Bool) (v : Verdict) (turns : List Turn) → IsAdvisedBy o p advisers before after v turns → IsAdvised o p advisers before after v
   advised_is advisers before after v turns (inl by) = inl by.asked
@@ -56,11 +87,11 @@ module _ (o : Outside) (p : Program) where
   pub none_begun : (voices : List Voice) (answers : List Bool) → HaveTaken (MayBegin o p) voices voices answers answers
   none_begun voices answers = taken_by (MayBegin o p) [] voices voices answers answers (run_start voices answers) NoneTaken
 
-  pub some_begun : (h : Hierarchy) (s : LiveSet) (olds news : List Voice) (before after : List Bool) → o.optimise ≡ true → is_well_formed p ≡ true → HasGraph p h
-      → Fits p s → (is_well_formed p ≡ true → IsResolved p h → IsClosedSet p o s) → HaveTaken (AreFirstOf (turns_about s p)) olds news before after → HaveTaken (MayBegin o p) olds news before after
-  some_begun h s olds news before after allowed formed graph sized closed begun =
-      let marked : IsMarked p o s = record { formed = formed; once = graph.resolved.of.once; grounded = graph.grounded; sized = sized; closed = closed formed graph.resolved } in
-      taken_so (AreFirstOf (turns_about s p)) (MayBegin o p) olds news before after (λ turns first. SomeTaken s turns allowed marked first) begun
+  pub some_begun : {E : Type 0} (r : Result Advice E) (s : LiveSet) (olds news : List Voice) (before after : List Bool) → o.optimise ≡ true → IsMarked p o s
+      → OnErr r (HaveTaken (AreFirstOf (turns_about s p)) olds news before after) → OnErr r (HaveTaken (MayBegin o p) olds news before after)
+  some_begun r s olds news before after allowed marked begun =
+      on_err_so r (HaveTaken (AreFirstOf (turns_about s p)) olds news before after) (HaveTaken (MayBegin o p) olds news before after)
+      (λ h. taken_so (AreFirstOf (turns_about s p)) (MayBegin o p) olds news before after (λ turns first. SomeTaken s turns allowed marked first) h) begun
 
   -- all methods were asked about
   all_begun : (advisers : ℕ) (before after : List Bool) (v : Verdict) (turns : List Turn) → IsAdvisedBy o p advisers before after v turns → MayBegin o p turns

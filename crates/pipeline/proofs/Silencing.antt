@@ -4,6 +4,7 @@ use Rattle.std.proofs.Math.ListN.{set}
 use Rattle.insn_set.specs.declared.ops.InvokeKind.TheVariants as call
 use Rattle.insn_set.specs.declared.form.Insn.{Insn}
 use Rattle.insn_set.specs.declared.form.Insn.TheVariants as form
+use Rattle.std.specs.Prelude.{IfSome, MatchOption}
 use Rattle.std.specs.List.{list_any}
 use Rattle.std.specs.Option.{option_map}
 use Rattle.std.proofs.lemmas.List.{length-replicate, length-set, take_all}
@@ -240,9 +241,15 @@ marked_is_silent silent admitted marks p q is quiet = inl (is ∙ same_silenced 
 pub fault_is_silent : (silent : List ℕ) (admitted : List Bool) (p q : Program) → q ≡ p → HasGraphFault p → IsSilent silent admitted p q
 fault_is_silent silent admitted p q same fault = inr (same, fault)
 
-pub step_is_silent : (silent : List ℕ) (admitted given marks seen : List Bool) (p q : Program) → given ≡ admitted → seen ≡ marks → q ≡ silenced (marked seen) given p → AreQuiet p silent marks → IsSilent silent admitted p q
-step_is_silent silent admitted given marks seen p q e f is quiet =
-    marked_is_silent silent admitted marks p q (is ∙ ap (λ a. silenced (marked seen) a p) e ∙ ap (λ m. silenced (marked m) admitted p) f) quiet
+-- the marks that were found, if any were
+module _ {A : Type 0} (items : A → List Bool) (silent : List ℕ) (admitted : List Bool) (p q : Program) where
+  pub silenced_by : (found : Option A) → IfSome found (λ m. ArePartOf silent (items m)) → MatchOption found (q ≡ p) (λ m. q ≡ silenced (marked (items m)) admitted p) → IsSilenced silent admitted p q
+  silenced_by (Some m) part is = record { marks = items m; part = part; is = is }
+  silenced_by None part is = subst (IsSilenced silent admitted p) (sym is) (stays_whole silent admitted p)
+
+  pub silent_by : (found : Option A) → MatchOption found (HasGraphFault p) (λ m. AreQuiet p silent (items m)) → MatchOption found (q ≡ p) (λ m. q ≡ silenced (marked (items m)) admitted p) → IsSilent silent admitted p q
+  silent_by (Some m) quiet is = marked_is_silent silent admitted (items m) p q is quiet
+  silent_by None fault is = fault_is_silent silent admitted p q is fault
 
 -- where no method is silent, nothing is silenced
 pub none_is_same : (silent : List ℕ) (admitted : List Bool) (p q : Program) → silent ≡ [] → IsSilent silent admitted p q → q ≡ p

@@ -1,5 +1,5 @@
 -- Whether advisers are asked about a program, and what they said.
-use Rattle.std.specs.Prelude.{◌≡◌, ◌⊎◌, ℕ, Bool, true, false, List}
+use Rattle.std.specs.Prelude.{◌≡◌, ◌⊎◌, ℕ, Bool, true, false, List, Option, MatchOption}
 use Rattle.program_model.specs.declared.pass.Outside.{Outside}
 use Rattle.program_model.specs.declared.program.Program.{Program}
 use Rattle.call_graph.specs.declared.live_set.LiveSet.{LiveSet}
@@ -10,6 +10,10 @@ use Rattle.pipeline.specs.Graph.{HasGraphFault}
 
 abbrev pub verdict : Advice → Verdict
 verdict a = record { admitted = a.admitted.methods.items; spared = a.spared }
+
+-- marks that are closed under what the outside keeps, or none of a program whose class graph has a fault
+abbrev pub AreMarks : Outside → Program → Option LiveSet → Type 0
+AreMarks o p found = MatchOption found (HasGraphFault p) (IsMarked p o)
 
 -- Marks that are closed under what the outside keeps say which methods the advisers are asked about.
 pub record IsAsked (o : Outside) (p : Program) (advisers : ℕ) (before after : List Bool) (v : Verdict) : Type 0 where

@@ -134,6 +134,29 @@ fn inline_graphed(
     }
 }
 
+/// The same by a class graph that it owns.
+fn inline_owned(
+    alloc: Global,
+    program: Program,
+    graph: Option<Hierarchy>,
+    outside: &Outside,
+    admitted: &Admitted,
+    panel: &mut Panel,
+) -> Result<Traced, AllocError>
+    ensures inlined { is_well_formed program ≡ true → IsGraph program graph
+        → IfOk result (λ traced. Asks
+        (map (λ b. (⟦<dyn Adviser as Adviser>⟧ b.vtable).replies b.value) panel.old.advisers.items)
+        (map (λ b. (⟦<dyn Adviser as Adviser>⟧ b.vtable).replies b.value) panel.new.advisers.items)
+        panel.old.answers.items panel.new.answers.items (IsInlining outside.now admitted.now.methods.items program traced)) }
+    ensures begun { is_well_formed program ≡ true → IsGraph program graph
+        → OnErr result (Asks
+        (map (λ b. (⟦<dyn Adviser as Adviser>⟧ b.vtable).replies b.value) panel.old.advisers.items)
+        (map (λ b. (⟦<dyn Adviser as Adviser>⟧ b.vtable).replies b.value) panel.new.advisers.items)
+        panel.old.answers.items panel.new.answers.items (InliningBegins outside.now admitted.now.methods.items program)) }
+{
+    inline_graphed(alloc, program, &graph, outside, admitted, panel)
+}
+
 /// Inlines calls of admitted methods that the panel accepts, unless the class graph has a fault. The only error is want of
 /// memory; the panel was then asked about the first of these calls.
 pub fn inline_sites(
@@ -155,5 +178,5 @@ pub fn inline_sites(
         panel.old.answers.items panel.new.answers.items (InliningBegins outside.now admitted.now.methods.items program)) }
 {
     let graph = hierarchy_of(alloc, &program)?;
-    inline_graphed(alloc, program, &graph, outside, admitted, panel)
+    inline_owned(alloc, program, graph, outside, admitted, panel)
 }

@@ -1,6 +1,6 @@
 //! The passes of a round, each over a whole program.
 
-ghost use Rattle.std.specs.Prelude.{◌≡◌, ◌∷◌, [], Bool, true, false, List, Some, IfOk, IfSome};
+ghost use Rattle.std.specs.Prelude.{◌≡◌, ◌∷◌, [], Bool, true, false, List, Some, IfOk, IfSome, OnOk};
 ghost use Rattle.std.specs.List.{list_any};
 ghost use Rattle.program_model.specs.ProgramRules.{is_well_formed};
 ghost use Rattle.hierarchy.specs.Shapes.{IsResolved};
@@ -10,7 +10,7 @@ ghost use Rattle.premises.specs.Plain.{ListsPlainly};
 ghost use Rattle.compact.specs.Narrow.{has_narrow_classes};
 ghost use Rattle.pipeline.specs.Changes.{no_changes, total_of};
 ghost use Rattle.pipeline.specs.Graph.{IsGraph};
-ghost use Rattle.pipeline.specs.Passes.{Reach, ConstProp, Devirt, CopyProp, DeadCode, Squeeze, Compact, AreKnown, IsAnalysis, IsIllTyped, KeepsReads, HavePassed};
+ghost use Rattle.pipeline.specs.Passes.{Reach, ConstProp, Devirt, QuietCalls, CopyProp, DeadCode, Squeeze, Compact, AreKnown, IsAnalysis, IsIllTyped, KeepsReads, HavePassed};
 
 use crate::graph::hierarchy_of;
 use crate::traces::{Changes, Passed, Traced, left_by};
@@ -32,19 +32,33 @@ fn unchanged(traced: Traced) -> Passed
     }
 }
 
-/// The hierarchy of what a pass left of a program: the program's own where nothing changed.
-fn graph_after(
+/// Makes a hierarchy that of what a pass left of a program: it stays where nothing changed, and is built again where something
+/// did.
+fn refresh_graph(
     alloc: Global,
-    hierarchy: Hierarchy,
+    graph: &mut Option<Hierarchy>,
     passed: &Passed,
-) -> Result<Option<Hierarchy>, AllocError>
-    ensures { (p : Program) → IsGraph p (Some hierarchy) → (total_of passed.now.changes ≡ 0 → passed.now.traced.program ≡ p) → IfOk result (IsGraph passed.now.traced.program) }
+) -> Result<(), AllocError>
+    ensures { (p : Program) → IsGraph p graph.old → (total_of passed.now.changes ≡ 0 → passed.now.traced.program ≡ p) → OnOk result (IsGraph passed.now.traced.program graph.new) }
 {
     if passed.changes.is_none() {
-        Ok(Some(hierarchy))
-    } else {
-        Ok(hierarchy_of(alloc, &passed.traced.program)?)
+        return Ok(());
     }
+    *graph = hierarchy_of(alloc, &passed.traced.program)?;
+    Ok(())
+}
+
+/// The same, and hands on what the pass left.
+fn with_graph(
+    alloc: Global,
+    graph: &mut Option<Hierarchy>,
+    passed: Passed,
+) -> Result<Passed, AllocError>
+    ensures same { IfOk result (λ r. r ≡ passed) }
+    ensures graph { (p : Program) → IsGraph p graph.old → (total_of passed.changes ≡ 0 → passed.traced.program ≡ p) → IfOk result (λ r. IsGraph r.traced.program graph.new) }
+{
+    refresh_graph(alloc, graph, &passed)?;
+    Ok(passed)
 }
 
 /// Removes what is not reached by a program's hierarchy. The only error is want of memory.
@@ -62,40 +76,38 @@ fn remove_by(
     Ok(left_by(traced.origins, changed, changes))
 }
 
-/// The same, with the hierarchy of what is left.
+/// The same, unless the class graph has a fault.
 fn remove_graphed(
     alloc: Global,
     traced: Traced,
-    hierarchy: Hierarchy,
+    graph: &Option<Hierarchy>,
     outside: &Outside,
-) -> Result<(Passed, Option<Hierarchy>), AllocError>
+) -> Result<Passed, AllocError>
     requires { outside.now.shrink ≡ true }
-    ensures passed { IsGraph traced.program (Some hierarchy) → IfOk result (λ left. (admitted : List Bool) → HavePassed outside.now admitted (Reach ∷ []) traced left.0) }
-    ensures graph { IsGraph traced.program (Some hierarchy) → IfOk result (λ left. IsGraph left.0.traced.program left.1) }
+    ensures { IsGraph traced.program graph.now → IfOk result (λ passed. (admitted : List Bool) → HavePassed outside.now admitted (Reach ∷ []) traced passed) }
 {
-    let passed = remove_by(alloc, traced, &hierarchy, outside)?;
-    let graph = graph_after(alloc, hierarchy, &passed)?;
-    Ok((passed, graph))
+    match graph {
+        Some(hierarchy) => remove_by(alloc, traced, hierarchy, outside),
+        None => Ok(unchanged(traced)),
+    }
 }
 
-/// Removes what is not reached, unless the rules forbid it or the class graph has a fault. The only error is want of
-/// memory.
+/// Removes what is not reached, unless the rules forbid it or the class graph has a fault; the graph is then that of what is
+/// left. The only error is want of memory.
 pub fn remove_unreached(
     alloc: Global,
     traced: Traced,
+    graph: &mut Option<Hierarchy>,
     outside: &Outside,
-) -> Result<(Passed, Option<Hierarchy>), AllocError>
-    ensures passed { IfOk result (λ left. (admitted : List Bool) → HavePassed outside.now admitted (Reach ∷ []) traced left.0) }
-    ensures graph { IfOk result (λ left. IsGraph left.0.traced.program left.1) }
+) -> Result<Passed, AllocError>
+    ensures passed { IsGraph traced.program graph.old → IfOk result (λ passed. (admitted : List Bool) → HavePassed outside.now admitted (Reach ∷ []) traced passed) }
+    ensures graph { IsGraph traced.program graph.old → IfOk result (λ passed. IsGraph passed.traced.program graph.new) }
 {
-    let graph = hierarchy_of(alloc, &traced.program)?;
     if !outside.shrink {
-        return Ok((unchanged(traced), graph));
+        return Ok(unchanged(traced));
     }
-    match graph {
-        Some(hierarchy) => Ok(remove_graphed(alloc, traced, hierarchy, outside)?),
-        None => Ok((unchanged(traced), None)),
-    }
+    let passed = remove_graphed(alloc, traced, graph, outside)?;
+    with_graph(alloc, graph, passed)
 }
 
 /// Whether any method may be rewritten.
@@ -174,24 +186,43 @@ pub fn facts_of(
     }
 }
 
-/// Facts of what a pass left of a program: the program's own where nothing changed. The only error is want of memory.
-pub fn facts_after(
+/// Makes facts those of what a pass left of a program: they stay where nothing changed. The only error is want of memory.
+fn refresh_facts(
     alloc: Global,
+    facts: &mut Option<Facts>,
     passed: &Passed,
     graph: &Option<Hierarchy>,
-    facts: Option<Facts>,
     outside: &Outside,
     admitted: &Admitted,
-) -> Result<Option<Facts>, AllocError>
-    ensures { (p : Program) → IsGraph passed.now.traced.program graph.now → IsAnalysis outside.now admitted.now.methods.items p facts
+) -> Result<(), AllocError>
+    ensures { (p : Program) → IsGraph passed.now.traced.program graph.now → IsAnalysis outside.now admitted.now.methods.items p facts.old
         → (total_of passed.now.changes ≡ 0 → passed.now.traced.program ≡ p)
-        → IfOk result (IsAnalysis outside.now admitted.now.methods.items passed.now.traced.program) }
+        → OnOk result (IsAnalysis outside.now admitted.now.methods.items passed.now.traced.program facts.new) }
 {
     if passed.changes.is_none() {
-        return Ok(facts);
+        return Ok(());
     }
-    let facts = facts_of(alloc, &passed.traced.program, graph, outside, admitted)?;
-    Ok(facts)
+    *facts = facts_of(alloc, &passed.traced.program, graph, outside, admitted)?;
+    Ok(())
+}
+
+/// Makes a hierarchy and facts those of what a pass left of a program, and hands that on.
+fn with_facts(
+    alloc: Global,
+    graph: &mut Option<Hierarchy>,
+    facts: &mut Option<Facts>,
+    passed: Passed,
+    outside: &Outside,
+    admitted: &Admitted,
+) -> Result<Passed, AllocError>
+    ensures same { IfOk result (λ r. r ≡ passed) }
+    ensures graph { (p : Program) → IsGraph p graph.old → (total_of passed.changes ≡ 0 → passed.traced.program ≡ p) → IfOk result (λ r. IsGraph r.traced.program graph.new) }
+    ensures facts { (p : Program) → IsGraph p graph.old → IsAnalysis outside.now admitted.now.methods.items p facts.old → (total_of passed.changes ≡ 0 → passed.traced.program ≡ p)
+        → IfOk result (λ r. IsAnalysis outside.now admitted.now.methods.items r.traced.program facts.new) }
+{
+    let passed = with_graph(alloc, graph, passed)?;
+    refresh_facts(alloc, facts, &passed, graph, outside, admitted)?;
+    Ok(passed)
 }
 
 /// Folds what facts say of the instructions of admitted methods, by a program's hierarchy. The only error is want of memory.
@@ -228,28 +259,43 @@ fn fold_by(
     }
 }
 
+/// The same, unless the class graph has a fault.
+fn fold_graphed(
+    alloc: Global,
+    traced: Traced,
+    graph: &Option<Hierarchy>,
+    facts: &Option<Facts>,
+    admitted: &Admitted,
+) -> Result<Passed, AllocError>
+    ensures { IsGraph traced.program graph.now → (outside : Outside) → IsAnalysis outside admitted.now.methods.items traced.program facts.now
+        → IfOk result (HavePassed outside admitted.now.methods.items (ConstProp ∷ []) traced) }
+{
+    match graph {
+        Some(hierarchy) => fold_by(alloc, traced, hierarchy, facts, admitted),
+        None => Ok(unchanged(traced)),
+    }
+}
+
 /// Makes constants of instructions of admitted methods whose results are known in every run, and gotos or nops of branches
-/// whose outcomes are, where facts are known; with the hierarchy of what is left. The only error is want of memory.
+/// whose outcomes are, where facts are known; the graph and the facts are then those of what is left. The only error is want
+/// of memory.
 pub fn fold_constants(
     alloc: Global,
     traced: Traced,
-    graph: Option<Hierarchy>,
-    facts: &Option<Facts>,
+    graph: &mut Option<Hierarchy>,
+    facts: &mut Option<Facts>,
+    outside: &Outside,
     admitted: &Admitted,
-) -> Result<(Passed, Option<Hierarchy>), AllocError>
-    ensures passed { IsGraph traced.program graph → (outside : Outside) → IsAnalysis outside admitted.now.methods.items traced.program facts.now
-        → IfOk result (λ left. HavePassed outside admitted.now.methods.items (ConstProp ∷ []) traced left.0) }
-    ensures graph { IsGraph traced.program graph → (outside : Outside) → IsAnalysis outside admitted.now.methods.items traced.program facts.now
-        → IfOk result (λ left. IsGraph left.0.traced.program left.1) }
+) -> Result<Passed, AllocError>
+    ensures passed { IsGraph traced.program graph.old → IsAnalysis outside.now admitted.now.methods.items traced.program facts.old
+        → IfOk result (HavePassed outside.now admitted.now.methods.items (ConstProp ∷ []) traced) }
+    ensures graph { IsGraph traced.program graph.old → IsAnalysis outside.now admitted.now.methods.items traced.program facts.old
+        → IfOk result (λ passed. IsGraph passed.traced.program graph.new) }
+    ensures facts { IsGraph traced.program graph.old → IsAnalysis outside.now admitted.now.methods.items traced.program facts.old
+        → IfOk result (λ passed. IsAnalysis outside.now admitted.now.methods.items passed.traced.program facts.new) }
 {
-    match graph {
-        Some(hierarchy) => {
-            let passed = fold_by(alloc, traced, &hierarchy, facts, admitted)?;
-            let graph = graph_after(alloc, hierarchy, &passed)?;
-            Ok((passed, graph))
-        }
-        None => Ok((unchanged(traced), None)),
-    }
+    let passed = fold_graphed(alloc, traced, graph, facts, admitted)?;
+    with_facts(alloc, graph, facts, passed, outside, admitted)
 }
 
 /// Lets calls in admitted methods name what all their receivers find, by a program's hierarchy and facts. The only error is
@@ -286,28 +332,111 @@ fn rebind_by(
     }
 }
 
+/// The same, unless the class graph has a fault.
+fn rebind_graphed(
+    alloc: Global,
+    traced: Traced,
+    graph: &Option<Hierarchy>,
+    facts: &Option<Facts>,
+    admitted: &Admitted,
+) -> Result<Passed, AllocError>
+    ensures { IsGraph traced.program graph.now → (outside : Outside) → IsAnalysis outside admitted.now.methods.items traced.program facts.now
+        → IfOk result (HavePassed outside admitted.now.methods.items (Devirt ∷ []) traced) }
+{
+    match graph {
+        Some(hierarchy) => rebind_by(alloc, traced, hierarchy, facts, admitted),
+        None => Ok(unchanged(traced)),
+    }
+}
+
 /// Lets virtual and interface calls in admitted methods name the one method that all their receivers find, where facts are
-/// known; with the hierarchy of what is left. The only error is want of memory.
+/// known; the graph and the facts are then those of what is left. The only error is want of memory.
 pub fn rebind_calls(
     alloc: Global,
     traced: Traced,
-    graph: Option<Hierarchy>,
+    graph: &mut Option<Hierarchy>,
+    facts: &mut Option<Facts>,
+    outside: &Outside,
+    admitted: &Admitted,
+) -> Result<Passed, AllocError>
+    ensures passed { IsGraph traced.program graph.old → IsAnalysis outside.now admitted.now.methods.items traced.program facts.old
+        → IfOk result (HavePassed outside.now admitted.now.methods.items (Devirt ∷ []) traced) }
+    ensures graph { IsGraph traced.program graph.old → IsAnalysis outside.now admitted.now.methods.items traced.program facts.old
+        → IfOk result (λ passed. IsGraph passed.traced.program graph.new) }
+    ensures facts { IsGraph traced.program graph.old → IsAnalysis outside.now admitted.now.methods.items traced.program facts.old
+        → IfOk result (λ passed. IsAnalysis outside.now admitted.now.methods.items passed.traced.program facts.new) }
+{
+    let passed = rebind_graphed(alloc, traced, graph, facts, admitted)?;
+    with_facts(alloc, graph, facts, passed, outside, admitted)
+}
+
+/// Makes nops of calls and divisions in admitted methods that do nothing, by a program's hierarchy and facts. The only error is
+/// want of memory.
+fn quiet_known(
+    alloc: Global,
+    traced: Traced,
+    hierarchy: &Hierarchy,
+    facts: &Facts,
+    admitted: &Admitted,
+) -> Result<Passed, AllocError>
+    ensures { IsGraph traced.program (Some hierarchy.now) → (outside : Outside) → is_well_formed traced.program ≡ true → AreKnown outside traced.program facts.now
+        → IfOk result (HavePassed outside admitted.now.methods.items (QuietCalls ∷ []) traced) }
+{
+    let changed = quiet_code::apply(alloc, traced.program, hierarchy, facts, admitted)?;
+    let changes = Changes::removed(changed.count);
+    Ok(left_by(traced.origins, changed, changes))
+}
+
+/// The same by the facts that are known, if any are.
+fn quiet_by(
+    alloc: Global,
+    traced: Traced,
+    hierarchy: &Hierarchy,
     facts: &Option<Facts>,
     admitted: &Admitted,
-) -> Result<(Passed, Option<Hierarchy>), AllocError>
-    ensures passed { IsGraph traced.program graph → (outside : Outside) → IsAnalysis outside admitted.now.methods.items traced.program facts.now
-        → IfOk result (λ left. HavePassed outside admitted.now.methods.items (Devirt ∷ []) traced left.0) }
-    ensures graph { IsGraph traced.program graph → (outside : Outside) → IsAnalysis outside admitted.now.methods.items traced.program facts.now
-        → IfOk result (λ left. IsGraph left.0.traced.program left.1) }
+) -> Result<Passed, AllocError>
+    ensures { IsGraph traced.program (Some hierarchy.now) → (outside : Outside) → IsAnalysis outside admitted.now.methods.items traced.program facts.now
+        → IfOk result (HavePassed outside admitted.now.methods.items (QuietCalls ∷ []) traced) }
+{
+    match facts {
+        Some(facts) => quiet_known(alloc, traced, hierarchy, facts, admitted),
+        None => Ok(unchanged(traced)),
+    }
+}
+
+/// The same, unless the class graph has a fault.
+fn quiet_graphed(
+    alloc: Global,
+    traced: Traced,
+    graph: &Option<Hierarchy>,
+    facts: &Option<Facts>,
+    admitted: &Admitted,
+) -> Result<Passed, AllocError>
+    ensures { IsGraph traced.program graph.now → (outside : Outside) → IsAnalysis outside admitted.now.methods.items traced.program facts.now
+        → IfOk result (HavePassed outside admitted.now.methods.items (QuietCalls ∷ []) traced) }
 {
     match graph {
-        Some(hierarchy) => {
-            let passed = rebind_by(alloc, traced, &hierarchy, facts, admitted)?;
-            let graph = graph_after(alloc, hierarchy, &passed)?;
-            Ok((passed, graph))
-        }
-        None => Ok((unchanged(traced), None)),
+        Some(hierarchy) => quiet_by(alloc, traced, hierarchy, facts, admitted),
+        None => Ok(unchanged(traced)),
     }
+}
+
+/// Makes nops of calls and divisions in admitted methods that do nothing, where facts are known; the graph is then that of what
+/// is left. The only error is want of memory.
+pub fn quiet_calls(
+    alloc: Global,
+    traced: Traced,
+    graph: &mut Option<Hierarchy>,
+    facts: &Option<Facts>,
+    admitted: &Admitted,
+) -> Result<Passed, AllocError>
+    ensures passed { IsGraph traced.program graph.old → (outside : Outside) → IsAnalysis outside admitted.now.methods.items traced.program facts.now
+        → IfOk result (HavePassed outside admitted.now.methods.items (QuietCalls ∷ []) traced) }
+    ensures graph { IsGraph traced.program graph.old → (outside : Outside) → IsAnalysis outside admitted.now.methods.items traced.program facts.now
+        → IfOk result (λ passed. IsGraph passed.traced.program graph.new) }
+{
+    let passed = quiet_graphed(alloc, traced, graph, facts, admitted)?;
+    with_graph(alloc, graph, passed)
 }
 
 /// Whether every body of a program is well typed. The only error is want of memory.
@@ -363,25 +492,34 @@ fn propagate_by(
     Ok(left_by(traced.origins, changed, changes))
 }
 
+/// The same, unless the class graph has a fault.
+fn propagate_graphed(
+    alloc: Global,
+    traced: Traced,
+    graph: &Option<Hierarchy>,
+    admitted: &Admitted,
+) -> Result<Passed, AllocError>
+    ensures { IsGraph traced.program graph.now → IfOk result (λ passed. (outside : Outside) → HavePassed outside admitted.now.methods.items (CopyProp ∷ []) traced passed) }
+{
+    match graph {
+        Some(hierarchy) => propagate_by(alloc, traced, hierarchy, admitted),
+        None => Ok(unchanged(traced)),
+    }
+}
+
 /// Lets stale reads of admitted methods read originals, unless the class graph has a fault, the program names a method of a
-/// wide type, or some body is ill typed; with the hierarchy of what is left. The only error is want of memory.
+/// wide type, or some body is ill typed; the graph is then that of what is left. The only error is want of memory.
 pub fn propagate_copies(
     alloc: Global,
     traced: Traced,
-    graph: Option<Hierarchy>,
+    graph: &mut Option<Hierarchy>,
     admitted: &Admitted,
-) -> Result<(Passed, Option<Hierarchy>), AllocError>
-    ensures passed { IsGraph traced.program graph → IfOk result (λ left. (outside : Outside) → HavePassed outside admitted.now.methods.items (CopyProp ∷ []) traced left.0) }
-    ensures graph { IsGraph traced.program graph → IfOk result (λ left. IsGraph left.0.traced.program left.1) }
+) -> Result<Passed, AllocError>
+    ensures passed { IsGraph traced.program graph.old → IfOk result (λ passed. (outside : Outside) → HavePassed outside admitted.now.methods.items (CopyProp ∷ []) traced passed) }
+    ensures graph { IsGraph traced.program graph.old → IfOk result (λ passed. IsGraph passed.traced.program graph.new) }
 {
-    match graph {
-        Some(hierarchy) => {
-            let passed = propagate_by(alloc, traced, &hierarchy, admitted)?;
-            let graph = graph_after(alloc, hierarchy, &passed)?;
-            Ok((passed, graph))
-        }
-        None => Ok((unchanged(traced), None)),
-    }
+    let passed = propagate_graphed(alloc, traced, graph, admitted)?;
+    with_graph(alloc, graph, passed)
 }
 
 /// Takes what computes what nobody reads out of the bodies of admitted methods, unless the class graph has a fault. A

@@ -3,14 +3,14 @@
 ghost use Rattle.std.specs.Prelude.{◌≡◌, ◌≤◌, ◌-◌, ◌+◌, ◌∷◌, [], min, length, map, true, vec_len, IfOk, OnErr};
 ghost use Rattle.program_model.specs.Cells.{capped};
 ghost use Rattle.program_model.specs.ProgramRules.{is_well_formed};
-ghost use Rattle.pipeline.specs.Advised.{verdict};
+ghost use Rattle.pipeline.specs.Advised.{verdict, AreMarks};
 ghost use Rattle.const_prop.specs.Measure.{open_forms};
 ghost use Rattle.devirt.specs.Measure.{calls_in};
 ghost use Rattle.moves_law.specs.Measure.{moves_in};
 ghost use Rattle.pipeline.specs.Changes.{bulk_of, total_of};
 ghost use Rattle.pipeline.specs.Counts.{members_of, insns_of};
 ghost use Rattle.pipeline.specs.Graph.{IsGraph};
-ghost use Rattle.pipeline.specs.Passes.{ConstProp, Devirt, passes, HavePassed};
+ghost use Rattle.pipeline.specs.Passes.{ConstProp, Devirt, QuietCalls, CopyProp, DeadCode, Squeeze, Compact, passes, HavePassed, IsAnalysis};
 ghost use Rattle.pipeline.specs.Inlined.{InlinedBegins, IsOptimisedInlined};
 ghost use Rattle.pipeline.specs.Prepared.{IsAdvisedBy, IsPrepared, MayBegin};
 ghost use Rattle.pipeline.specs.Replies.{HaveTaken};
@@ -21,12 +21,13 @@ use crate::counts::{count_instructions, count_members};
 use crate::graph::hierarchy_of;
 use crate::inlined::inline_sites;
 use crate::passes::{
-    clean_bodies, compact_bodies, facts_after, facts_of, fold_constants, propagate_copies,
+    clean_bodies, compact_bodies, facts_of, fold_constants, propagate_copies, quiet_calls,
     rebind_calls, remove_unreached, squeeze_bodies,
 };
 use crate::silent::silence;
 use crate::traces::{Passed, Traced, and_then, unmoved};
-use call_graph::live_members;
+use call_graph::{LiveSet, live_members};
+use facts::Facts;
 use hierarchy::Hierarchy;
 use program_model::{Admitted, Origin, Outside, Program};
 use redex_outside::{Adviser, Panel};
@@ -47,6 +48,83 @@ pub struct Outcome {
     pub origins: Seq<Seq<Origin>>,
 }
 
+/// What is live in a program by its class graph, and nothing where that has a fault. The only error is want of memory.
+fn live_by(
+    alloc: Global,
+    program: &Program,
+    graph: &Option<Hierarchy>,
+    outside: &Outside,
+) -> Result<Option<LiveSet>, AllocError>
+    ensures { is_well_formed program.now ≡ true → IsGraph program.now graph.now → IfOk result (AreMarks outside.now program.now) }
+{
+    match graph {
+        Some(hierarchy) => {
+            let live = live_members(alloc, program, hierarchy, outside)?;
+            Ok(Some(live))
+        }
+        None => Ok(None),
+    }
+}
+
+/// What is live in a program, and nothing where its class graph has a fault. The only error is want of memory.
+fn live_of(
+    alloc: Global,
+    program: &Program,
+    outside: &Outside,
+) -> Result<Option<LiveSet>, AllocError>
+    ensures { is_well_formed program.now ≡ true → IfOk result (AreMarks outside.now program.now) }
+{
+    let graph = hierarchy_of(alloc, program)?;
+    live_by(alloc, program, &graph, outside)
+}
+
+/// What the advisers say of the methods with code that are live, where it is known what is.
+fn ask_marked(
+    alloc: Global,
+    program: &Program,
+    live: &Option<LiveSet>,
+    panel: &mut Panel,
+) -> Result<Advice, AllocError>
+    ensures advised { (o : Outside) → o.optimise ≡ true → AreMarks o program.now live.now → IfOk result (λ advice.
+        HaveTaken (IsAdvisedBy o program.now (length panel.old.advisers.items) panel.old.answers.items panel.new.answers.items (verdict advice))
+        (map (λ b. (⟦<dyn Adviser as Adviser>⟧ b.vtable).replies b.value) panel.old.advisers.items)
+        (map (λ b. (⟦<dyn Adviser as Adviser>⟧ b.vtable).replies b.value) panel.new.advisers.items)
+        panel.old.answers.items panel.new.answers.items) }
+    ensures begun { (o : Outside) → o.optimise ≡ true → AreMarks o program.now live.now
+        → OnErr result (HaveTaken (MayBegin o program.now)
+        (map (λ b. (⟦<dyn Adviser as Adviser>⟧ b.vtable).replies b.value) panel.old.advisers.items)
+        (map (λ b. (⟦<dyn Adviser as Adviser>⟧ b.vtable).replies b.value) panel.new.advisers.items)
+        panel.old.answers.items panel.new.answers.items) }
+{
+    match live {
+        Some(live) => ask_all(alloc, program, live, panel),
+        None => no_advice(alloc, program),
+    }
+}
+
+/// What the advisers say of the live methods with code, where something may be rewritten.
+fn ask_about_live(
+    alloc: Global,
+    program: &Program,
+    outside: &Outside,
+    panel: &mut Panel,
+) -> Result<Advice, AllocError>
+    requires { outside.now.optimise ≡ true }
+    ensures advised { is_well_formed program.now ≡ true → IfOk result (λ advice.
+        HaveTaken (IsAdvisedBy outside.now program.now (length panel.old.advisers.items) panel.old.answers.items panel.new.answers.items (verdict advice))
+        (map (λ b. (⟦<dyn Adviser as Adviser>⟧ b.vtable).replies b.value) panel.old.advisers.items)
+        (map (λ b. (⟦<dyn Adviser as Adviser>⟧ b.vtable).replies b.value) panel.new.advisers.items)
+        panel.old.answers.items panel.new.answers.items) }
+    ensures begun { is_well_formed program.now ≡ true
+        → OnErr result (HaveTaken (MayBegin outside.now program.now)
+        (map (λ b. (⟦<dyn Adviser as Adviser>⟧ b.vtable).replies b.value) panel.old.advisers.items)
+        (map (λ b. (⟦<dyn Adviser as Adviser>⟧ b.vtable).replies b.value) panel.new.advisers.items)
+        panel.old.answers.items panel.new.answers.items) }
+{
+    let live = live_of(alloc, program, outside)?;
+    ask_marked(alloc, program, &live, panel)
+}
+
 /// What the advisers say of the live methods with code. Where nothing is to be rewritten, none is asked about.
 fn advice_on(
     alloc: Global,
@@ -65,39 +143,96 @@ fn advice_on(
         (map (λ b. (⟦<dyn Adviser as Adviser>⟧ b.vtable).replies b.value) panel.new.advisers.items)
         panel.old.answers.items panel.new.answers.items) }
 {
-    if !outside.optimise {
-        let advice = no_advice(alloc, program)?;
-        return Ok(advice);
-    }
-    match hierarchy_of(alloc, program)? {
-        Some(hierarchy) => {
-            let live = live_members(alloc, program, &hierarchy, outside)?;
-            let advice = ask_all(alloc, program, &live, panel)?;
-            Ok(advice)
-        }
-        None => {
-            let advice = no_advice(alloc, program)?;
-            Ok(advice)
-        }
+    if outside.optimise {
+        ask_about_live(alloc, program, outside, panel)
+    } else {
+        no_advice(alloc, program)
     }
 }
 
-/// The passes that take facts, each those of the program as it stands before it; with the hierarchy of what is left.
+/// The passes that take facts, by those of the program, which are then made those of what each leaves, as the graph is.
+fn value_passes_by(
+    alloc: Global,
+    traced: Traced,
+    graph: &mut Option<Hierarchy>,
+    facts: &mut Option<Facts>,
+    outside: &Outside,
+    admitted: &Admitted,
+) -> Result<Passed, AllocError>
+    ensures passed { IsGraph traced.program graph.old → IsAnalysis outside.now admitted.now.methods.items traced.program facts.old
+        → IfOk result (HavePassed outside.now admitted.now.methods.items (ConstProp ∷ Devirt ∷ QuietCalls ∷ []) traced) }
+    ensures graph { IsGraph traced.program graph.old → IsAnalysis outside.now admitted.now.methods.items traced.program facts.old
+        → IfOk result (λ passed. IsGraph passed.traced.program graph.new) }
+{
+    let folded = fold_constants(alloc, traced, graph, facts, outside, admitted)?;
+    let rebound = rebind_calls(alloc, folded.traced, graph, facts, outside, admitted)?;
+    let rebound = and_then(folded.changes, rebound);
+    let quieted = quiet_calls(alloc, rebound.traced, graph, facts, admitted)?;
+    Ok(and_then(rebound.changes, quieted))
+}
+
+/// The passes that take facts, each those of the program as it stands before it; the graph is then that of what is left.
 fn value_passes(
+    alloc: Global,
+    traced: Traced,
+    graph: &mut Option<Hierarchy>,
+    outside: &Outside,
+    admitted: &Admitted,
+) -> Result<Passed, AllocError>
+    ensures passed { IsGraph traced.program graph.old → IfOk result (HavePassed outside.now admitted.now.methods.items (ConstProp ∷ Devirt ∷ QuietCalls ∷ []) traced) }
+    ensures graph { IsGraph traced.program graph.old → IfOk result (λ passed. IsGraph passed.traced.program graph.new) }
+{
+    let mut facts = facts_of(alloc, &traced.program, graph, outside, admitted)?;
+    value_passes_by(alloc, traced, graph, &mut facts, outside, admitted)
+}
+
+/// The passes on bodies that take no facts.
+fn body_passes(
+    alloc: Global,
+    traced: Traced,
+    graph: &mut Option<Hierarchy>,
+    admitted: &Admitted,
+) -> Result<Passed, AllocError>
+    ensures { IsGraph traced.program graph.old → IfOk result (λ passed. (outside : Outside) → HavePassed outside admitted.now.methods.items (CopyProp ∷ DeadCode ∷ Squeeze ∷ Compact ∷ []) traced passed) }
+{
+    let copied = propagate_copies(alloc, traced, graph, admitted)?;
+    let cleaned = clean_bodies(alloc, copied.traced, graph, admitted)?;
+    let cleaned = and_then(copied.changes, cleaned);
+    let squeezed = squeeze_bodies(alloc, cleaned.traced, admitted)?;
+    let squeezed = and_then(cleaned.changes, squeezed);
+    let compacted = compact_bodies(alloc, squeezed.traced, admitted)?;
+    Ok(and_then(squeezed.changes, compacted))
+}
+
+/// Each pass once, in its order, by the graph of the program as it stands before it.
+fn all_passes(
+    alloc: Global,
+    traced: Traced,
+    graph: &mut Option<Hierarchy>,
+    outside: &Outside,
+    admitted: &Admitted,
+) -> Result<Passed, AllocError>
+    ensures { IsGraph traced.program graph.old → IfOk result (HavePassed outside.now admitted.now.methods.items passes traced) }
+{
+    let reached = remove_unreached(alloc, traced, graph, outside)?;
+    let valued = value_passes(alloc, reached.traced, graph, outside, admitted)?;
+    let valued = and_then(reached.changes, valued);
+    let left = body_passes(alloc, valued.traced, graph, admitted)?;
+    Ok(and_then(valued.changes, left))
+}
+
+/// Each pass once, by a graph that it owns and lends to the passes.
+fn owned_passes(
     alloc: Global,
     traced: Traced,
     graph: Option<Hierarchy>,
     outside: &Outside,
     admitted: &Admitted,
-) -> Result<(Passed, Option<Hierarchy>), AllocError>
-    ensures passed { IsGraph traced.program graph → IfOk result (λ left. HavePassed outside.now admitted.now.methods.items (ConstProp ∷ Devirt ∷ []) traced left.0) }
-    ensures graph { IsGraph traced.program graph → IfOk result (λ left. IsGraph left.0.traced.program left.1) }
+) -> Result<Passed, AllocError>
+    ensures { IsGraph traced.program graph → IfOk result (HavePassed outside.now admitted.now.methods.items passes traced) }
 {
-    let facts = facts_of(alloc, &traced.program, &graph, outside, admitted)?;
-    let (folded, graph) = fold_constants(alloc, traced, graph, &facts, admitted)?;
-    let facts = facts_after(alloc, &folded, &graph, facts, outside, admitted)?;
-    let (rebound, graph) = rebind_calls(alloc, folded.traced, graph, &facts, admitted)?;
-    Ok((and_then(folded.changes, rebound), graph))
+    let mut lent = graph;
+    all_passes(alloc, traced, &mut lent, outside, admitted)
 }
 
 /// One round: each pass once, in its order.
@@ -109,17 +244,8 @@ fn round(
 ) -> Result<Passed, AllocError>
     ensures { IfOk result (HavePassed outside.now admitted.now.methods.items passes traced) }
 {
-    let (reached, graph) = remove_unreached(alloc, traced, outside)?;
-    let (valued, graph) = value_passes(alloc, reached.traced, graph, outside, admitted)?;
-    let valued = and_then(reached.changes, valued);
-    let (copied, graph) = propagate_copies(alloc, valued.traced, graph, admitted)?;
-    let copied = and_then(valued.changes, copied);
-    let cleaned = clean_bodies(alloc, copied.traced, &graph, admitted)?;
-    let cleaned = and_then(copied.changes, cleaned);
-    let squeezed = squeeze_bodies(alloc, cleaned.traced, admitted)?;
-    let squeezed = and_then(cleaned.changes, squeezed);
-    let compacted = compact_bodies(alloc, squeezed.traced, admitted)?;
-    Ok(and_then(squeezed.changes, compacted))
+    let graph = hierarchy_of(alloc, &traced.program)?;
+    owned_passes(alloc, traced, graph, outside, admitted)
 }
 
 /// Rounds, until one changes more than the numbers of registers, or nothing: what the last one left, and how many ran.

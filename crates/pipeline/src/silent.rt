@@ -1,10 +1,11 @@
 //! Silent calls become nops (ProGuard manual, "-assumenosideeffects").
 
-ghost use Rattle.std.specs.Prelude.{◌⊎◌, ◌≡◌, ◌+◌, true, map, slice_get, slice_set, IfOk};
+ghost use Rattle.std.specs.Prelude.{◌⊎◌, ◌≡◌, ◌+◌, true, map, slice_get, slice_set, IfOk, IfSome, MatchOption};
 ghost use Rattle.insn_set.specs.declared.form.Insn.TheVariants as form;
 ghost use Rattle.pipeline.specs.Silence.{calls, takes_result, holds_at, marked, is_silent_at, silenced_at, silenced_insns, silenced_body, silenced_method, silenced_class, silenced, ArePartOf, AreQuiet, IsSilenced, IsSilent, noted};
 ghost use Rattle.hierarchy.specs.Shapes.{IsOf};
 ghost use Rattle.program_model.specs.ProgramRules.{is_well_formed};
+ghost use Rattle.pipeline.specs.Graph.{HasGraphFault, IsGraph};
 
 use crate::graph::hierarchy_of;
 use hierarchy::Hierarchy;
@@ -182,10 +183,54 @@ fn quiet_methods(
     Ok(marks)
 }
 
+/// Which methods a silent call may name, by a class graph, and nothing where it has a fault.
+fn marks_by(
+    alloc: Global,
+    program: &Program,
+    graph: &Option<Hierarchy>,
+    silent: &[u32],
+) -> Result<Option<Vec<bool>>, AllocError>
+    ensures part { IfOk result (λ found. IfSome found (λ marks. ArePartOf silent.now marks.items)) }
+    ensures exact { is_well_formed program.now ≡ true → IsGraph program.now graph.now
+        → IfOk result (λ found. MatchOption found (HasGraphFault program.now) (λ marks. AreQuiet program.now silent.now marks.items)) }
+{
+    match graph {
+        Some(hierarchy) => {
+            let marks = quiet_methods(alloc, program, hierarchy, silent)?;
+            Ok(Some(marks))
+        }
+        None => Ok(None),
+    }
+}
+
+/// Which methods a silent call may name, and nothing where the class graph has a fault.
+fn silent_marks(
+    alloc: Global,
+    program: &Program,
+    silent: &[u32],
+) -> Result<Option<Vec<bool>>, AllocError>
+    ensures part { IfOk result (λ found. IfSome found (λ marks. ArePartOf silent.now marks.items)) }
+    ensures exact { is_well_formed program.now ≡ true → IfOk result (λ found. MatchOption found (HasGraphFault program.now) (λ marks. AreQuiet program.now silent.now marks.items)) }
+{
+    let graph = hierarchy_of(alloc, program)?;
+    marks_by(alloc, program, &graph, silent)
+}
+
+/// The program with each static call of a marked method a nop, where its result isn't taken and its method is admitted; without
+/// marks it is the same.
+fn silence_by(program: Program, marks: &Option<Vec<bool>>, admitted: &[bool]) -> Program
+    ensures { MatchOption marks.now (result ≡ program) (λ marks. result ≡ silenced (marked marks.items) admitted.now program) }
+{
+    match marks {
+        Some(marks) => silence_marked(program, marks.as_slice(), admitted),
+        None => program,
+    }
+}
+
 /// The program with each silent call of the admitted methods a nop at its position. A call is silent where it is static,
 /// names one of the outside's silent methods, finds no method of the program, and no instruction takes its result. All
 /// else stays, and a well-formed program is well-formed still. The only error is want of memory.
-#[tactic(auto, using(crate::proofs::Silencing::stays_whole, crate::proofs::Silencing::none_is_silent, crate::proofs::Silencing::marked_is_silent, crate::proofs::Silencing::fault_is_silent))]
+#[tactic(auto, using(crate::proofs::Silencing::stays_whole, crate::proofs::Silencing::none_is_silent))]
 pub fn silence(
     alloc: Global,
     program: Program,
@@ -199,11 +244,6 @@ pub fn silence(
     if outside.silent.is_empty() {
         return Ok(program);
     }
-    match hierarchy_of(alloc, &program)? {
-        Some(hierarchy) => {
-            let marks = quiet_methods(alloc, &program, &hierarchy, outside.silent.as_slice())?;
-            Ok(silence_marked(program, &marks, &admitted.methods))
-        }
-        None => Ok(program),
-    }
+    let marks = silent_marks(alloc, &program, outside.silent.as_slice())?;
+    Ok(silence_by(program, &marks, admitted.methods.as_slice()))
 }

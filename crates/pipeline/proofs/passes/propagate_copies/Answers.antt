@@ -1,24 +1,15 @@
-use Rattle.std.proofs.Common.{[], ◌∷◌, sym, subst}
-use Rattle.pipeline.specs.declared.traces.Traced.{Traced}
-use Rattle.pipeline.specs.Graph.{IsGraph}
-use Rattle.pipeline.specs.Passes.{CopyProp, Faulty}
-use Rattle.pipeline.proofs.Graphs.{found_fault}
-use Rattle.pipeline.proofs.Passing.{kept_reads_passed, same_program}
+use Rattle.std.proofs.Common.{[], ◌∷◌}
+use Rattle.program_model.specs.declared.pass.Outside.{Outside}
+use Rattle.pipeline.specs.declared.traces.Passed.{Passed}
+use Rattle.pipeline.specs.Passes.{CopyProp, HavePassed}
+use Rattle.pipeline.proofs.Passing.{same_program}
+use Rattle.pipeline.proofs.Results.{handed}
 use Rattle.pipeline.proofs.passes.propagate_copies.Goals as goal
 
-pub returns-in_ok-graph-in-Some-clause-passed : goal.returns-in_ok-graph-in-Some-clause-passed
-returns-in_ok-graph-in-Some-clause-passed c = λ graph. c.in_ok-passed-in-Some.ensures (subst (IsGraph c.args.traced.program) c.in-Some.is graph)
+pub returns-clause-passed : goal.returns-clause-passed
+returns-clause-passed c = λ graph. handed c.with_graph.result c.in_ok-passed.passed (λ (r : Passed). (o : Outside) → HavePassed o c.args.admitted.now.methods.items (CopyProp ∷ []) c.args.traced r) c.with_graph.ensures.same
+    (c.in_ok-passed.ensures graph)
 
-pub returns-in_ok-graph-in-Some-clause-graph : goal.returns-in_ok-graph-in-Some-clause-graph
-returns-in_ok-graph-in-Some-clause-graph c = λ graph.
-    let here = subst (IsGraph c.args.traced.program) c.in-Some.is graph in
-    c.in_ok-graph-in-Some.ensures c.args.traced.program here
-    (same_program c.args.admitted.now.methods.items (CopyProp ∷ []) c.args.traced c.in_ok-passed-in-Some.passed (c.in_ok-passed-in-Some.ensures here))
-
-pub returns-in-None-clause-passed : goal.returns-in-None-clause-passed
-returns-in-None-clause-passed c = λ graph outside. kept_reads_passed outside c.args.admitted.now.methods.items c.args.traced c.unchanged.result c.unchanged.ensures.traced c.unchanged.ensures.changes
-    (λ formed. Faulty (found_fault c.args.traced.program c.args.graph (graph formed) c.in-None.is))
-
-pub returns-in-None-clause-graph : goal.returns-in-None-clause-graph
-returns-in-None-clause-graph c = λ graph. subst (IsGraph c.unchanged.result.traced.program) c.in-None.is
-    (subst (λ (x : Traced). IsGraph x.program c.args.graph) (sym c.unchanged.ensures.traced) graph)
+pub returns-clause-graph : goal.returns-clause-graph
+returns-clause-graph c = λ graph. c.with_graph.ensures.graph c.args.traced.program graph
+    (same_program c.args.admitted.now.methods.items (CopyProp ∷ []) c.args.traced c.in_ok-passed.passed (c.in_ok-passed.ensures graph))

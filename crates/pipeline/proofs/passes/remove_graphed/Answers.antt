@@ -1,9 +1,12 @@
-use Rattle.std.proofs.Common.{ap, []}
-use Rattle.pipeline.specs.declared.traces.Traced.{Traced}
+use Rattle.std.proofs.Common.{subst}
+use Rattle.pipeline.specs.Graph.{IsGraph}
+use Rattle.pipeline.proofs.Graphs.{found_fault}
+use Rattle.pipeline.proofs.Passing.{fault_passed}
 use Rattle.pipeline.proofs.passes.remove_graphed.Goals as goal
 
-pub returns-clause-passed : goal.returns-clause-passed
-returns-clause-passed c = c.in_ok-passed.ensures
+pub returns-in-Some : goal.returns-in-Some
+returns-in-Some c = λ graph. c.remove_by.ensures (subst (IsGraph c.args.traced.program) c.in-Some.is graph)
 
-pub returns-clause-graph : goal.returns-clause-graph
-returns-clause-graph c = λ graph. c.in_ok-graph.ensures c.args.traced.program graph (λ none. ap (λ (x : Traced). x.program) ((c.in_ok-passed.ensures graph []).same none))
+pub returns-in-None : goal.returns-in-None
+returns-in-None c = λ graph admitted. fault_passed c.args.outside.now admitted c.args.traced c.unchanged.result c.unchanged.ensures.traced c.unchanged.ensures.changes
+    (λ formed. found_fault c.args.traced.program c.args.graph.now (graph formed) c.in-None.is)

@@ -1,0 +1,29 @@
+use Rattle.std.proofs.Common.{[], ◌∷◌, sym, subst}
+use Rattle.pipeline.specs.declared.traces.Traced.{Traced}
+use Rattle.pipeline.specs.Graph.{IsGraph}
+use Rattle.pipeline.specs.Passes.{ConstProp, Devirt, QuietCalls, HavePassed, IsAnalysis}
+use Rattle.pipeline.proofs.Passing.{both_passed}
+use Rattle.pipeline.proofs.rounds.value_passes_by.Goals as goal
+
+pub returns-clause-passed : goal.returns-clause-passed
+returns-clause-passed c = λ graph found.
+    let o = c.args.outside.now in
+    let admitted = c.args.admitted.now.methods.items in
+    let left = c.in_ok-folded.ensures.graph graph found in
+    let known = c.in_ok-folded.ensures.facts graph found in
+    let rebound : HavePassed o admitted (ConstProp ∷ Devirt ∷ []) c.args.traced c.and_then-rebound.result = both_passed o admitted (ConstProp ∷ []) (Devirt ∷ []) c.args.traced c.in_ok-folded.folded c.in_ok-rebound.rebound c.and_then-rebound.result
+    (c.in_ok-folded.ensures.passed graph found) (c.in_ok-rebound.ensures.passed left known) c.and_then-rebound.ensures.traced c.and_then-rebound.ensures.removed c.and_then-rebound.ensures.folded c.and_then-rebound.ensures.rebound c.and_then-rebound.ensures.reread c.and_then-rebound.ensures.renamed in
+    both_passed o admitted (ConstProp ∷ Devirt ∷ []) (QuietCalls ∷ []) c.args.traced c.and_then-rebound.result c.in_ok-quieted.quieted c.and_then.result
+    rebound (c.in_ok-quieted.ensures.passed (subst (λ (x : Traced). IsGraph x.program c.rebind_calls.new.graph) (sym c.and_then-rebound.ensures.traced) (c.in_ok-rebound.ensures.graph left known))
+    o (subst (λ (x : Traced). IsAnalysis o admitted x.program c.rebind_calls.new.facts) (sym c.and_then-rebound.ensures.traced) (c.in_ok-rebound.ensures.facts left known)))
+    c.and_then.ensures.traced c.and_then.ensures.removed c.and_then.ensures.folded c.and_then.ensures.rebound c.and_then.ensures.reread c.and_then.ensures.renamed
+
+pub returns-clause-graph : goal.returns-clause-graph
+returns-clause-graph c = λ graph found.
+    let o = c.args.outside.now in
+    let admitted = c.args.admitted.now.methods.items in
+    let left = c.in_ok-folded.ensures.graph graph found in
+    let known = c.in_ok-folded.ensures.facts graph found in
+    subst (λ (x : Traced). IsGraph x.program c.quiet_calls.new.graph) (sym c.and_then.ensures.traced)
+    (c.in_ok-quieted.ensures.graph (subst (λ (x : Traced). IsGraph x.program c.rebind_calls.new.graph) (sym c.and_then-rebound.ensures.traced) (c.in_ok-rebound.ensures.graph left known))
+    o (subst (λ (x : Traced). IsAnalysis o admitted x.program c.rebind_calls.new.facts) (sym c.and_then-rebound.ensures.traced) (c.in_ok-rebound.ensures.facts left known)))

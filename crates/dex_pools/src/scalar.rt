@@ -14,7 +14,7 @@ use byteorder::{ByteOrder, LittleEndian};
 use program_model::EncValue;
 
 /// How many entries the tables have that a value may name.
-#[derive(Clone, Copy, PartialEq, Eq, Debug, Drop)]
+#[derive(Clone, Copy, Drop)]
 pub struct TableSizes {
     pub strings: u32,
     pub types: u32,

@@ -61,6 +61,63 @@ fn add_classes(live: &LiveSet, classes: &[ClassIf], out: &mut Vec<u32>) -> Resul
     Ok(())
 }
 
+/// The classes, fields and methods that are kept.
+#[derive(Drop)]
+struct Kept {
+    classes: Vec<u32>,
+    fields: Vec<u32>,
+    methods: Vec<u32>,
+}
+
+/// The classes that are kept, with the conditional ones whose owner is live.
+fn kept_classes(live: &LiveSet, outside: &Outside) -> Result<Vec<u32>, AllocError> {
+    let mut classes = outside.classes.items.clone()?;
+    add_classes(live, outside.classes_if.as_slice(), &mut classes)?;
+    Ok(classes)
+}
+
+/// The fields that are kept, with the conditional ones whose class is live.
+fn kept_fields(
+    program: &Program,
+    live: &LiveSet,
+    outside: &Outside,
+) -> Result<Vec<u32>, AllocError> {
+    let mut fields = outside.fields.items.clone()?;
+    add_fields(program, live, outside.fields_if.as_slice(), &mut fields)?;
+    Ok(fields)
+}
+
+/// The methods that are kept, with the conditional ones whose class is live.
+fn kept_methods(
+    program: &Program,
+    live: &LiveSet,
+    outside: &Outside,
+) -> Result<Vec<u32>, AllocError> {
+    let mut methods = outside.methods.items.clone()?;
+    add_methods(program, live, outside.methods_if.as_slice(), &mut methods)?;
+    Ok(methods)
+}
+
+/// What is kept where these are live.
+fn kept_by(program: &Program, live: &LiveSet, outside: &Outside) -> Result<Kept, AllocError> {
+    Ok(Kept {
+        classes: kept_classes(live, outside)?,
+        fields: kept_fields(program, live, outside)?,
+        methods: kept_methods(program, live, outside)?,
+    })
+}
+
+/// What is kept in a program.
+fn kept(
+    alloc: Global,
+    program: &Program,
+    hierarchy: &Hierarchy,
+    outside: &Outside,
+) -> Result<Kept, AllocError> {
+    let live = live_members(alloc, program, hierarchy, outside)?;
+    kept_by(program, &live, outside)
+}
+
 /// The outside without conditions: a conditional member is kept exactly where its class is live, and a conditional
 /// class exactly where its owner is live. All else is handed on. The only error is want of memory.
 pub fn close(
@@ -71,23 +128,17 @@ pub fn close(
 ) -> Result<Outside, AllocError>
     ensures { IfOk result (Closes outside.now) }
 {
-    let live = live_members(alloc, program, hierarchy, outside)?;
-    let mut classes = outside.classes.items.clone()?;
-    add_classes(&live, outside.classes_if.as_slice(), &mut classes)?;
-    let mut fields = outside.fields.items.clone()?;
-    add_fields(program, &live, outside.fields_if.as_slice(), &mut fields)?;
-    let mut methods = outside.methods.items.clone()?;
-    add_methods(program, &live, outside.methods_if.as_slice(), &mut methods)?;
+    let kept = kept(alloc, program, hierarchy, outside)?;
     Ok(Outside {
-        classes: Seq::of_vec(classes),
-        methods: Seq::of_vec(methods),
-        fields: Seq::of_vec(fields),
+        silent: outside.silent.clone()?,
+        shut: outside.shut.clone()?,
+        classes: Seq::of_vec(kept.classes),
+        methods: Seq::of_vec(kept.methods),
+        fields: Seq::of_vec(kept.fields),
         methods_if: Seq::new(alloc),
         fields_if: Seq::new(alloc),
         classes_if: Seq::new(alloc),
         shrink: outside.shrink,
         optimise: outside.optimise,
-        silent: outside.silent.clone()?,
-        shut: outside.shut.clone()?,
     })
 }

@@ -108,7 +108,7 @@ fn kept_by(program: &Program, live: &LiveSet, outside: &Outside) -> Result<Kept,
 }
 
 /// What is kept in a program.
-fn kept(
+fn kept_members(
     alloc: Global,
     program: &Program,
     hierarchy: &Hierarchy,
@@ -128,7 +128,7 @@ pub fn close(
 ) -> Result<Outside, AllocError>
     ensures { IfOk result (Closes outside.now) }
 {
-    let kept = kept(alloc, program, hierarchy, outside)?;
+    let kept = kept_members(alloc, program, hierarchy, outside)?;
     Ok(Outside {
         silent: outside.silent.clone()?,
         shut: outside.shut.clone()?,

@@ -176,18 +176,6 @@ fn double_in(few: &[u8]) -> u64
     LittleEndian::read_u64(&behind_zeros(few))
 }
 
-/// How many bytes a number of this type may have.
-fn widest(kind: u8) -> usize
-    ensures { result ≡ widest kind }
-{
-    match kind {
-        0x00 => 1,
-        0x02 | 0x03 => 2,
-        0x04 | 0x10 => 4,
-        _ => 8,
-    }
-}
-
 /// The number, character or float of this type.
 fn numeric(kind: u8, few: &[u8]) -> EncValue
     requires some { 1 ≤ length few.now }

@@ -1,1 +1,5 @@
+mod Few
+mod Found
 mod Dropped
+mod Plans
+mod Lighter

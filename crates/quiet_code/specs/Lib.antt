@@ -1,1 +1,4 @@
 pub mod Quiet
+pub mod Calls
+pub mod Idle
+pub mod Quieted

@@ -1,168 +1,290 @@
 //! Which calls do nothing.
 
-use facts::Facts;
+ghost use Rattle.std.specs.Prelude.{◌≡◌, ◌<◌, true, Some, length, slice_get};
+ghost use Rattle.std.specs.List.{list_any};
+ghost use Rattle.std.specs.Option.{option_copied};
+ghost use Rattle.program_model.specs.declared.pools.MethodName.{MethodName};
+ghost use Rattle.program_model.specs.Lookups.{class_place, method_at};
+ghost use Rattle.hierarchy.specs.Naming.{IsKey};
+ghost use Rattle.hierarchy.specs.Shapes.{IsResolved};
+ghost use Rattle.receivers.specs.Receiving.{interface_at, overrides, is_overridden, AreShort};
+ghost use Rattle.quiet_methods.specs.Forms.{starts_quietly};
+ghost use Rattle.quiet_methods.specs.Quiet.{is_on};
+ghost use Rattle.quiet_code.specs.Calls.{is_init, is_constructor, is_called_so, is_quiet_at, is_quiet_target, is_quiet_found, is_quiet_named, is_quiet_for_all, is_quiet_under, is_quiet_virtual, is_no_null, holds_object, has_object, is_idle_call};
+ghost use Rattle.quiet_code.specs.Quiet.{is_direct_call};
+
+use dom_frame::Frame;
+use domains::Nullness;
 use hierarchy::Hierarchy;
-use program_model::{Class, Flags, Method, MethodAt, MethodName, Program};
-use std::alloc::{AllocError, Global};
+use insn_set::InvokeKind;
+use program_model::{Flags, Method, MethodAt, MethodName, Program};
+use seq::Words;
 
-/// What a call of a method number does: perhaps something, nothing, or nothing where its receiver isn't null.
-#[derive(Clone, Copy, PartialEq, Eq, Debug, Drop)]
-pub(crate) enum Effect {
-    Some,
-    None,
-    NoneOnObject,
-}
-
-/// What calls of each method number do, as static or direct calls and as virtual calls.
-#[derive(Drop)]
-pub(crate) struct Effects {
-    pub(crate) found: Vec<Effect>,
-    pub(crate) inherited: Vec<Effect>,
-}
-
-/// The program, its classes and the facts of its runs.
+/// What the search for idle calls asks: the program, the hierarchy of its classes, and which methods are quiet, by number.
 #[derive(Clone, Copy)]
-struct Asked<'a> {
-    program: &'a Program,
-    hierarchy: &'a Hierarchy,
-    facts: &'a Facts,
+pub(crate) struct Search<'a> {
+    pub(crate) program: &'a Program,
+    pub(crate) hierarchy: &'a Hierarchy,
+    pub(crate) quiet: &'a [bool],
 }
 
-/// Whether units are those of a constructor's name.
-fn is_constructor(units: &[u16]) -> bool {
-    let name = b"<init>";
-    units.len() == name.len()
-        && units
-            .iter()
-            .zip(name.iter())
-            .all(|(unit, byte)| *unit == u16::from(*byte))
+/// Whether the units are `<init>`.
+fn is_init(units: &[u16]) -> bool
+    ensures { result ≡ is_init units.now }
+{
+    let name: [u16; 6] = [60, 105, 110, 105, 116, 62];
+    units == name.as_slice()
 }
 
-impl<'a> Asked<'a> {
-    /// The class at a place.
-    fn class_at(&self, place: u32) -> Option<&'a Class> {
-        self.program.classes.as_slice().get(place as usize)
+/// Whether a number is marked.
+fn is_on(marks: &[bool], number: u32) -> bool
+    ensures { result ≡ is_on marks.now number }
+{
+    match marks.get(number as usize) {
+        Some(mark) => *mark,
+        None => false,
     }
+}
 
-    /// The method at a place.
-    fn method_at(&self, at: MethodAt) -> Option<&'a Method> {
-        let class = self.class_at(at.class)?;
-        class.methods.as_slice().get(at.place as usize)
+/// Whether a method is static, as a static call wants it, or isn't, as a call on an object does.
+fn is_called_so(to_static: bool, method: &Method) -> bool
+    ensures { result ≡ is_called_so to_static method.now }
+{
+    if to_static {
+        method.flags.has(Flags::STATIC)
+    } else {
+        !method.flags.has(Flags::STATIC)
     }
+}
 
-    /// Whether a method's name is that of a constructor.
-    fn constructs(&self, name: &MethodName) -> bool {
+/// The method at a place.
+fn method_in(program: &Program, at: MethodAt) -> Option<&Method>
+    ensures { option_copied result ≡ method_at program.now at }
+{
+    match program.classes.as_slice().get(at.class as usize) {
+        Some(class) => class.methods.as_slice().get(at.place as usize),
+        None => None,
+    }
+}
+
+impl Search<'_> {
+    /// Whether a name is that of constructors.
+    fn is_constructor(&self, name: &MethodName) -> bool
+        ensures { result ≡ is_constructor self.now.program.now name.now }
+    {
         match self.program.strings.as_slice().get(name.name as usize) {
-            Some(text) => is_constructor(text.units()),
+            Some(text) => is_init(text.units()),
             None => true,
         }
     }
 
-    /// Whether a method has code, is quiet, and its class is initialised without code.
-    fn is_quiet(&self, at: MethodAt, method: &Method) -> bool {
-        method.body.is_some()
-            && self.facts.quiet(method.name)
-            && self.hierarchy.trivially_initialised(self.program, at.class)
+    /// Whether a class is one of the program, and initialising it runs no code.
+    fn starts_quietly(&self, class: u32) -> bool
+        ensures { IsResolved self.now.program.now self.now.hierarchy.now → result ≡ starts_quietly self.now.program.now class }
+    {
+        (class as usize) < self.program.classes.len()
+            && self.hierarchy.trivially_initialised(self.program, class)
     }
 
-    /// What a call does that finds a method and names it so.
-    fn effect(&self, found: Option<MethodAt>, name: &MethodName) -> Effect {
-        let at = match found {
-            Some(at) => at,
-            None => return Effect::Some,
-        };
-        let method = match self.method_at(at) {
-            Some(method) => method,
-            None => return Effect::Some,
-        };
-        if !self.is_quiet(at, method) || self.constructs(name) {
-            Effect::Some
-        } else if method.flags.has(Flags::STATIC) {
-            Effect::None
-        } else {
-            Effect::NoneOnObject
+    /// Whether a method of the class at a place has code and is quiet, and initialising the class runs no code.
+    fn is_quiet_at(&self, class: u32, method: &Method) -> bool
+        ensures { IsResolved self.now.program.now self.now.hierarchy.now → result ≡ is_quiet_at self.now.program.now self.now.quiet.now class method.now }
+    {
+        method.body.is_some() && is_on(self.quiet, method.name) && self.starts_quietly(class)
+    }
+
+    /// Whether a method of the class at a place, if there is one, is such a one, and static or not as a call wants it.
+    fn is_quiet_target(&self, to_static: bool, class: u32, method: Option<&Method>) -> bool
+        ensures { IsResolved self.now.program.now self.now.hierarchy.now
+            → result ≡ is_quiet_target self.now.program.now self.now.quiet.now to_static class (option_copied method.entry) }
+    {
+        match method {
+            Some(method) => is_called_so(to_static, method) && self.is_quiet_at(class, method),
+            None => false,
         }
     }
 
-    /// Whether a class under another one defines a virtual method with a key, other than this one.
-    fn is_overridden(&self, class: u32, key: u32, target: MethodAt) -> bool {
-        for definer in self.hierarchy.definers_of(key) {
-            let other = *definer != target.class && self.hierarchy.is_under(*definer, class);
-            if other
-                && self
-                    .hierarchy
-                    .own_virtual(self.program, *definer, key)
-                    .is_some()
-            {
+    /// Whether what a call finds by a name does nothing.
+    fn is_quiet_found(&self, to_static: bool, name: &MethodName, found: Option<MethodAt>) -> bool
+        ensures { IsResolved self.now.program.now self.now.hierarchy.now
+            → result ≡ is_quiet_found self.now.program.now self.now.quiet.now to_static name.now found }
+    {
+        match found {
+            Some(at) => {
+                !self.is_constructor(name)
+                    && self.is_quiet_target(to_static, at.class, method_in(self.program, at))
+            }
+            None => false,
+        }
+    }
+
+    /// Whether what a static or direct call of a method number finds does nothing.
+    fn is_quiet_named(&self, to_static: bool, method: u32) -> bool
+        ensures { let p = self.now.program.now in IsResolved p self.now.hierarchy.now
+            → result ≡ is_quiet_named p self.now.quiet.now to_static method (slice_get p.methods method) }
+    {
+        match self.program.methods.as_slice().get(method as usize) {
+            Some(name) => self.is_quiet_found(
+                to_static,
+                name,
+                self.hierarchy.find_static(self.program, method),
+            ),
+            None => false,
+        }
+    }
+
+    /// Whether the class at a place is an interface.
+    fn is_interface(&self, place: u32) -> bool
+        ensures { result ≡ interface_at self.now.program.now place }
+    {
+        match self.program.classes.as_slice().get(place as usize) {
+            Some(class) => class.flags.has(Flags::INTERFACE),
+            None => false,
+        }
+    }
+
+    /// Whether a class under another one, but the class of a method, defines such a virtual method itself.
+    fn overrides(&self, class: u32, key: u32, target: MethodAt, definer: u32) -> bool
+        ensures { let p = self.now.program.now in IsResolved p self.now.hierarchy.now → (q : MethodName) → IsKey p self.now.hierarchy.now key q.name q.proto
+            → class < length p.classes → definer < length p.classes → result ≡ overrides p q class target definer }
+    {
+        definer != target.class
+            && self.hierarchy.is_under(definer, class)
+            && self
+                .hierarchy
+                .own_virtual(self.program, definer, key)
+                .is_some()
+    }
+
+    /// Whether one of some classes under another one, but the class of a method, defines such a virtual method itself.
+    fn is_overridden_by(&self, class: u32, key: u32, target: MethodAt, definers: &[u32]) -> bool
+        ensures { let p = self.now.program.now in IsResolved p self.now.hierarchy.now → (q : MethodName) → IsKey p self.now.hierarchy.now key q.name q.proto
+            → class < length p.classes → AreShort p definers.now → result ≡ list_any (overrides p q class target) definers.now }
+    {
+        for definer in definers {
+            if self.overrides(class, key, target, *definer) {
                 return true;
             }
         }
         false
     }
 
-    /// What a virtual call of a method number does, where each object under the named class finds one method.
-    fn inherited(&self, number: u32, name: &MethodName) -> Effect {
-        let class = match self.hierarchy.place_of(name.class) {
-            Some(class) => class,
-            None => return Effect::Some,
-        };
-        let key = self.hierarchy.key_of_method(number);
-        let target = match self.hierarchy.find_virtual(self.program, class, key) {
-            Some(target) => target,
-            None => return Effect::Some,
-        };
-        match self.effect(Some(target), name) {
-            Effect::Some => Effect::Some,
-            effect => {
-                if self.is_overridden(class, key, target) {
-                    Effect::Some
-                } else {
-                    effect
-                }
+    /// Whether a class under another one, but the class of a method, defines such a virtual method itself.
+    fn is_overridden(&self, class: u32, key: u32, target: MethodAt) -> bool
+        ensures { let p = self.now.program.now in IsResolved p self.now.hierarchy.now → (q : MethodName) → IsKey p self.now.hierarchy.now key q.name q.proto
+            → class < length p.classes → result ≡ is_overridden p q class target }
+    {
+        self.is_overridden_by(class, key, target, self.hierarchy.definers_of(key))
+    }
+
+    /// Whether what a class finds by a name does nothing, and no class under it has another such method.
+    fn is_quiet_for_all(
+        &self,
+        name: &MethodName,
+        key: u32,
+        class: u32,
+        found: Option<MethodAt>,
+    ) -> bool
+        ensures { let p = self.now.program.now in IsResolved p self.now.hierarchy.now → IsKey p self.now.hierarchy.now key name.now.name name.now.proto
+            → class < length p.classes → result ≡ is_quiet_for_all p self.now.quiet.now name.now class found }
+    {
+        match found {
+            Some(at) => {
+                self.is_quiet_found(false, name, Some(at)) && !self.is_overridden(class, key, at)
             }
+            None => false,
+        }
+    }
+
+    /// Whether what objects of a class and of all classes under it find does nothing. The class is no interface.
+    fn is_quiet_below(&self, name: &MethodName, key: u32, class: u32) -> bool
+        ensures { let p = self.now.program.now in IsResolved p self.now.hierarchy.now → IsKey p self.now.hierarchy.now key name.now.name name.now.proto
+            → class < length p.classes → result ≡ is_quiet_under p self.now.quiet.now name.now (Some class) }
+    {
+        !self.is_interface(class)
+            && self.is_quiet_for_all(
+                name,
+                key,
+                class,
+                self.hierarchy.find_virtual(self.program, class, key),
+            )
+    }
+
+    /// Whether what all receivers find by a name does nothing.
+    fn is_quiet_under(&self, name: &MethodName, key: u32) -> bool
+        ensures { let p = self.now.program.now in IsResolved p self.now.hierarchy.now → IsKey p self.now.hierarchy.now key name.now.name name.now.proto
+            → result ≡ is_quiet_under p self.now.quiet.now name.now (class_place p name.now.class) }
+    {
+        match self.hierarchy.place_of(name.class) {
+            Some(class) => self.is_quiet_below(name, key, class),
+            None => false,
+        }
+    }
+
+    /// Whether what a virtual call of a method number finds does nothing.
+    fn is_quiet_virtual(&self, method: u32) -> bool
+        ensures { let p = self.now.program.now in IsResolved p self.now.hierarchy.now
+            → result ≡ is_quiet_virtual p self.now.quiet.now (slice_get p.methods method) }
+    {
+        match self.program.methods.as_slice().get(method as usize) {
+            Some(name) => self.is_quiet_under(name, self.hierarchy.key_of_method(method)),
+            None => false,
         }
     }
 }
 
-/// What the calls of each method number do.
-pub(crate) fn effects_of<'a>(
-    alloc: Global,
-    program: &'a Program,
-    hierarchy: &'a Hierarchy,
-    facts: &'a Facts,
-) -> Result<Effects, AllocError> {
-    let asked = Asked {
-        program,
-        hierarchy,
-        facts,
-    };
-    let mut found = Vec::with_capacity(alloc, program.methods.len())?;
-    let mut inherited = Vec::with_capacity(alloc, program.methods.len())?;
-    let mut number: u32 = 0;
-    for name in program.methods.as_slice() {
-        found.push(asked.effect(hierarchy.find_static(program, number), name))?;
-        inherited.push(asked.inherited(number, name))?;
-        number = number.saturating_add(1);
-    }
-    Ok(Effects { found, inherited })
-}
-
-/// What is noted for a number, perhaps something past the end.
-fn effect_at(effects: &[Effect], number: u32) -> Effect {
-    match effects.get(number as usize) {
-        Some(effect) => *effect,
-        None => Effect::Some,
+/// Whether what is no null has this nullness.
+fn is_no_null(nullness: Nullness) -> bool
+    ensures { result ≡ is_no_null nullness }
+{
+    match nullness {
+        Nullness::Bottom | Nullness::NotNull => true,
+        Nullness::Null | Nullness::Any => false,
     }
 }
 
-impl Effects {
-    /// What a static or direct call of a method number does.
-    pub(crate) fn of_found(&self, number: u32) -> Effect {
-        effect_at(&self.found, number)
+/// Whether a register isn't null, or no run comes to the position.
+fn holds_object(frame: Option<&Frame>, register: u16) -> bool
+    ensures { result ≡ holds_object (option_copied frame.entry) register }
+{
+    match frame {
+        Some(frame) => is_no_null(frame.get(u32::from(register)).nullness()),
+        None => true,
     }
+}
 
-    /// What a virtual call of a method number does.
-    pub(crate) fn of_virtual(&self, number: u32) -> Effect {
-        effect_at(&self.inherited, number)
+/// Whether the first of a call's registers isn't null, or no run comes to the position.
+fn has_object(frame: Option<&Frame>, args: &[u16]) -> bool
+    ensures { result ≡ has_object (option_copied frame.entry) args.now }
+{
+    match args {
+        [] => false,
+        [register, ..] => holds_object(frame, *register),
+    }
+}
+
+impl Search<'_> {
+    /// Whether a call does nothing, where these registers are known.
+    pub(crate) fn is_idle_call(
+        &self,
+        frame: Option<&Frame>,
+        kind: InvokeKind,
+        method: u32,
+        args: &Words,
+    ) -> bool
+        ensures may { result ≡ true → is_direct_call kind ≡ true }
+        ensures is { let p = self.now.program.now in IsResolved p self.now.hierarchy.now
+            → result ≡ is_idle_call p self.now.quiet.now (option_copied frame.entry) kind method args.now }
+    {
+        match kind {
+            InvokeKind::Static => self.is_quiet_named(true, method),
+            InvokeKind::Direct => {
+                has_object(frame, args.as_slice()) && self.is_quiet_named(false, method)
+            }
+            InvokeKind::Virtual => {
+                has_object(frame, args.as_slice()) && self.is_quiet_virtual(method)
+            }
+            InvokeKind::Super | InvokeKind::Interface => false,
+        }
     }
 }

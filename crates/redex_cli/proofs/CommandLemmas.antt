@@ -9,6 +9,7 @@ use Rattle.dex_read.specs.declared.fault.DexFault.{DexFault}
 use Rattle.program_model.specs.declared.limits.Counted.{Counted}
 use Rattle.command_line.specs.declared.command.CommandWords.{CommandWords}
 use Rattle.command_line.specs.declared.command.OptimiseWords.{OptimiseWords}
+use Rattle.command_line.specs.declared.command.Tell.{Tell}
 use Rattle.redex_cli.specs.Commands.{Fetch, fetches, file_alone, input_files, library_file, output_of, script_alone, trace_files}
 use Rattle.redex_cli.specs.Fetching.{Failures, AllWithin, FirstTooLong, FetchRefused, HoldsBadLine, OneBadLine, PutRefused}
 use Rattle.redex_cli.specs.Files.{AllFilesRead, AllLibrariesRead, AllRead, AreHeld, AreRead, BytesRefused, FileCause, FileRefused, HasLibrary, HoldsBadRules, HoldsLibrary, HoldsNamed, HoldsRead, HoldsRefused, IsDeclared, IsRead, LibraryRefused, OneBadLibrary, RulesCause}
@@ -428,6 +429,11 @@ put_refuses names IsFinal name tells tells' old mid new f g p m q bytes summary 
   too_long = λ counted told long. absurd (within_or_long old names counted (within told) long);
   stays = λ told. put_stays IsFinal name tells' old mid new p m q bytes summary status final fell (e ∙ told) (same told) (others (e ∙ told)) r;
 }
+
+-- the advisers were told what is found to be in the words
+pub told_words : (words : OptimiseWords) (voices : List Voice) (tells : List Tell) (inputs : Inputs) (bytes summary : List ℕ) → tells ≡ words.tells
+    → Finished words.inline voices tells inputs bytes summary → Finished words.inline voices words.tells inputs bytes summary
+told_words words voices tells inputs bytes summary e finished = subst (λ (l : List Tell). Finished words.inline voices l inputs bytes summary) e finished
 
 -- the finished output of what the names hold, put from bytes that are found to be these
 pub output_refuses : (words : OptimiseWords) (voices : List Voice) (inputs : Inputs) (tells tells' : Bool) (old mid new : Held) (f g p m q : Failures) (bytes content summary : List ℕ) (status : Status)

@@ -361,7 +361,6 @@ fn optimise_program(
 }
 
 /// A panel of the advisers that were told what the words say.
-#[tactic(auto, using(crate::proofs::Tells::told_so, crate::proofs::Tells::none_asked))]
 fn told(
     alloc: Global,
     tells: &[Tell],

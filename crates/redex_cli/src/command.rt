@@ -25,7 +25,8 @@ fn run_optimise<H: Shelf>(
 ) -> Result<Vec<u8>, Status>
     ensures given { IfOk result (λ text. Gives (input_files words.now.rules words.now.input words.now.library) (Some words.now.output)
         (FinishedOf (map (λ b. (⟦<dyn Adviser as Adviser>⟧ b.vtable).replies b.value) advisers.items) (H.tells shelf.old) (H.held shelf.old) words.now)
-        (IsSummary (FinishedOf (map (λ b. (⟦<dyn Adviser as Adviser>⟧ b.vtable).replies b.value) advisers.items) (H.tells shelf.old) (H.held shelf.old) words.now))
+        (IsSummary (FinishedOf (map (λ b. (⟦<dyn Adviser as Adviser>⟧ b.vtable).replies b.value) advisers.items)
+        (H.tells shelf.old) (H.held shelf.old) words.now))
         (H.tells shelf.old) (H.held shelf.old) (H.held shelf.new) text.items) }
     ensures refused { IfErr result (λ status. Refuses (input_files words.now.rules words.now.input words.now.library) (Some words.now.output)
         (FinishedOf (map (λ b. (⟦<dyn Adviser as Adviser>⟧ b.vtable).replies b.value) advisers.items) (H.tells shelf.old) (H.held shelf.old) words.now)

@@ -144,8 +144,9 @@ pub fn run<H: Shelf, N: Notes>(
 
     // What the names hold, and what was said: of `check` the counts of the program that the file spells, of `live` the list
     // of what is live, of `trace` the lines of what that program shows in so many steps of the play that the script spells
-    // (`specs/Finished.antt`).
-    ensures stays { IsTrue (H.tells shelf.old) → Stays (Puts (map string_bytes words.now)) (OutputBy (map string_bytes words.now) (map (λ b. (⟦<dyn Adviser as Adviser>⟧ b.vtable).replies b.value) advisers.items)
+    // (`specs/Finished.antt`). The advisers that were told and asked are these.
+    ensures stays { IsTrue (H.tells shelf.old) → Stays (Puts (map string_bytes words.now))
+        (OutputBy (map string_bytes words.now) (map (λ b. (⟦<dyn Adviser as Adviser>⟧ b.vtable).replies b.value) advisers.items)
         (H.tells shelf.old) (H.held shelf.old))
         result (H.put_faults shelf.old) (H.put_faults shelf.new) (H.held shelf.old) (H.held shelf.new) }
     ensures said { IsTrue (N.tells notes.old)

@@ -366,7 +366,9 @@ fn told(
     tells: &[Tell],
     advisers: Vec<Box<dyn Adviser>>,
 ) -> Result<Panel, AllocError>
-    ensures told { IfOk result (λ panel. AreTold tells.now (map (λ b. (⟦<dyn Adviser as Adviser>⟧ b.vtable).replies b.value) advisers.items) (map (λ b. (⟦<dyn Adviser as Adviser>⟧ b.vtable).replies b.value) panel.advisers.items)) }
+    ensures told { IfOk result (λ panel. AreTold tells.now
+        (map (λ b. (⟦<dyn Adviser as Adviser>⟧ b.vtable).replies b.value) advisers.items)
+        (map (λ b. (⟦<dyn Adviser as Adviser>⟧ b.vtable).replies b.value) panel.advisers.items)) }
     ensures unasked { IfOk result (λ panel. panel.answers.items ≡ []) }
 {
     let mut panel = Panel::new(alloc, advisers);
@@ -401,7 +403,9 @@ pub fn optimise_file(
     advisers: Vec<Box<dyn Adviser>>,
 ) -> Result<Optimised, Status>
     requires { length inputs.rules < 2 ^ 32 }
-    ensures finished { IfOk result (λ optimised. Finished inline (map (λ b. (⟦<dyn Adviser as Adviser>⟧ b.vtable).replies b.value) advisers.items) tells.now inputs optimised.bytes.items (string_bytes optimised.summary)) }
+    ensures finished { IfOk result (λ optimised. Finished inline
+        (map (λ b. (⟦<dyn Adviser as Adviser>⟧ b.vtable).replies b.value) advisers.items)
+        tells.now inputs optimised.bytes.items (string_bytes optimised.summary)) }
     ensures read { OnOk result (AreRead inputs) }
     ensures refused { IfErr result (WorkRefused inputs) }
     ensures bytes { IfErr result (BytesRefused inputs) }

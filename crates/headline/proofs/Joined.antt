@@ -43,7 +43,7 @@ was_advised o p advisers before after v turns (inl asked) = inl asked.asked
 was_advised o p advisers before after v turns (inr none) = inr none.unasked
 
 -- what is left is what such advisers left of it, however many they were
-as_plain : (o : Outside) (p : Program) (olds news : List Voice) (before after : List Bool) (spared : ℕ) (r : Program) (origins : List (List Origin)) (rounds : ℕ)
+abbrev as_plain : (o : Outside) (p : Program) (olds news : List Voice) (before after : List Bool) (spared : ℕ) (r : Program) (origins : List (List Origin)) (rounds : ℕ)
     → IsOptimisedBy o p olds news before after spared r origins rounds → IsOptimised o p (length olds) before after spared r origins rounds
 as_plain o p olds news before after spared r origins rounds done = record {
   admitted = done.admitted;

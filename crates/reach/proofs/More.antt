@@ -7,7 +7,7 @@ use Rattle.program_model.specs.declared.pass.ClassIf.{ClassIf}
 use Rattle.reach.specs.Closing.{classes_of}
 
 module _ {A : Type 0} (named : List A → List ℕ) (apart : (xs ys : List A) → named (xs ++ ys) ≡ named xs ++ named ys) (q : A → Bool)
-  (before : List ℕ) (xs : List A) (i : ℕ) (d : A) (l : i < length xs) where
+    (before : List ℕ) (xs : List A) (i : ℕ) (d : A) (l : i < length xs) where
   more : (now after : List ℕ) → now ≡ before ++ named (filter q (take i xs)) → after ≡ now ++ named (filter q (get_or xs i d ∷ []))
       → after ≡ before ++ named (filter q (take (i + 1) xs))
   more now after h e = e
@@ -20,7 +20,7 @@ module _ {A : Type 0} (named : List A → List ℕ) (apart : (xs ys : List A) �
 -- numbers of which some are taken
 pub filtered_more : (q : ℕ → Bool) (before xs : List ℕ) (i d : ℕ) → i < length xs → {now after : List ℕ} → now ≡ before ++ filter q (take i xs)
     → after ≡ now ++ filter q (get_or xs i d ∷ []) → after ≡ before ++ filter q (take (i + 1) xs)
-filtered_more q before xs i d l {now} {after} h e = more (λ ns. ns) (λ as bs. refl) q before xs i d l now after h e
+filtered_more q before xs i d l {now} {after} h e = more (λ (ns : List ℕ). ns) (λ xs ys. refl) q before xs i d l now after h e
 
 -- classes of conditions of which some are taken
 pub classes_more : (q : ClassIf → Bool) (before : List ℕ) (xs : List ClassIf) (i : ℕ) (d : ClassIf) → i < length xs → {now after : List ℕ}

@@ -124,11 +124,7 @@ fn kept_classes(live: &LiveSet, outside: &Outside) -> Result<Vec<u32>, AllocErro
 }
 
 /// The fields that are kept, with the conditional ones whose class is live.
-fn kept_fields(
-    program: &Program,
-    live: &LiveSet,
-    outside: &Outside,
-) -> Result<Vec<u32>, AllocError>
+fn kept_fields(program: &Program, live: &LiveSet, outside: &Outside) -> Result<Vec<u32>, AllocError>
     ensures { IfOk result (λ kept. kept.items ≡ outside.now.fields ++ filter (is_field_met program.now live.now) outside.now.fields_if) }
 {
     let mut fields = outside.fields.items.clone()?;

@@ -1,4 +1,4 @@
-use Rattle.std.proofs.Common.{omega, arith}
+use Rattle.std.proofs.Common.{arith}
 use Rattle.reach.specs.Closing.{is_class_met}
 use Rattle.reach.proofs.More.{classes_more}
 use Rattle.reach.proofs.closing.add_classes.Goals as goal

@@ -1,4 +1,4 @@
-use Rattle.std.proofs.Common.{omega, arith}
+use Rattle.std.proofs.Common.{arith}
 use Rattle.reach.specs.Closing.{is_method_met}
 use Rattle.reach.proofs.More.{filtered_more}
 use Rattle.reach.proofs.closing.add_methods.Goals as goal

@@ -100,7 +100,7 @@ use Rattle.quiet_law.specs.Calls.{Rank, EntersQuietly, Advances, GoesOn, CallsOn
 use Rattle.quiet_kept.proofs.Standing.{alone, Run, Stands, Framed, framed, same_code, form_same, form_there, code, insn as insn_of, method as method_of, body as code_of, A, T, S, settled, based, setting}
 use Rattle.quiet_kept.proofs.Ways.{IsBranch, OnTest, OnZero, Packed, Sparse, edge_in_ways, Listed, listed}
 use Rattle.quiet_kept.proofs.Dividing.{Writes, binary_writes, literal_writes}
-use Rattle.quiet_kept.proofs.Entering.{QuietKey, QuietTarget, target_of, now_is, ready_class, static_enters}
+use Rattle.quiet_kept.proofs.Entering.{QuietKey, QuietTarget, target_of, now_is, ready_class, EntersIt, static_enters}
 
 module _ (program : Program) (facts : Facts) (o : Outer) (f : Framework) (floats : Floats) (script : List Move) (run : Run program facts o f floats script) (marks : List Bool) (are : AreQuiet program facts.frames.items marks) where
   abbrev p : NamedProgram
@@ -177,7 +177,7 @@ module _ (program : Program) (facts : Facts) (o : Outer) (f : Framework) (floats
     fr : Framed program facts o f floats script run w cs g st
     fr = framed program facts o f floats script run w cs g st
 
-    level : ℕ
+    abbrev level : ℕ
     level = (level_of m.name on).0
 
     quiet_at : IsQuietAt program (frame_in (frames_of frames m.name) n) are.levels level (ranks_of are.ranks m.name) n i0
@@ -264,7 +264,7 @@ module _ (program : Program) (facts : Facts) (o : Outer) (f : Framework) (floats
 
     -- where it goes by the facts is one of the ways
     along_way : (i : Insn) (e : i0 ≡ i) → IsBranch i → (g1 : Frame) → Alongs (form_of program i) (Goes w g1) → Contains (ways i n x) g1.position
-    along_way i e is g1 (q, (inside, (at, all))) =
+    along_way i e is g1 (q, inside, at, all) =
         let edges : Contains (map by_names (numbered.edges program facts n i x)) q =
         subst (λ l. Contains l q) (edges_same program sd run.once (no_object program run.fits) tf facts (gets_same program sd facts run.once (no_object program run.fits)) n i (fits_here i e) x)
         (subst (λ z. Contains (name.edges an p tf n (form_of program i) z) q) (sym st.number.registers_are) inside) in
@@ -372,7 +372,7 @@ module _ (program : Program) (facts : Facts) (o : Outer) (f : Framework) (floats
         by (Some at) i k = in_method at i (look.method_at program at) refl k
 
     static_calls : (callee : ℕ) (args : List ℕ) (e : i0 ≡ insn.Invoke call.Static callee args) → IsMet are.levels level (found_demand program (finds_static program callee)) → Adv
-    static_calls callee args e h = CallsOne enters below (ways_at (insn.Invoke call.Static callee args) e (n + 1) (first (n + 1)))
+    static_calls callee args e h = CallsOne enters.call below (ways_at (insn.Invoke call.Static callee args) e (n + 1) (first (n + 1)))
       where
         c : Called callee
         c = called_so callee args e h
@@ -383,7 +383,7 @@ module _ (program : Program) (facts : Facts) (o : Outer) (f : Framework) (floats
         target : QuietTarget program marks c.at
         target = target_of program facts o f floats script run marks c.at c.method c.there c.coded marked c.starts
 
-        enters : EntersQuietly s fd (QuietKey program sd marks) w cs g
+        enters : EntersIt program facts o f floats script run marks w cs g st c.at target
         enters = static_enters program facts o f floats script run marks w cs g st c.at target callee args (here_is (insn.Invoke call.Static callee args) e) (low_of callee c.at c.found) c.found
 
         owner : Owner program c.at target.method
@@ -399,17 +399,11 @@ module _ (program : Program) (facts : Facts) (o : Outer) (f : Framework) (floats
         same_name : target.method.name ≡ c.method.name
         same_name = ap (λ (z : Method). z.name) (some_same target.method c.method (sym target.there ∙ c.there))
 
-        below : rank enters.method 0 < rank g.method n
+        below : rank enters.call.method 0 < rank g.method n
         below =
             let l = falls.call m b is_code (alone program run.fits run.once m b is_code) on n i0 st.number.here.has_insn target.method target.body entry.0 code' (alone program run.fits run.once target.method target.body code') entry.1
             (c.asks ∙ ap Call (sym same_name)) in
-            omega (arith, rank_is enters.method target.method.name 0 enters_number, here_rank n, l)
-          where
-            enters_number : IsNumber program sd enters.method target.method.name
-            enters_number = subst (IsNumber program sd enters.method) number_same enters.is_quiet.is_number
-              where
-                number_same : enters.is_quiet.number ≡ target.method.name
-                number_same = refl
+            omega (arith, rank_is enters.call.method target.method.name 0 enters.is_number, here_rank n, l)
 
     -- ---- all forms
 

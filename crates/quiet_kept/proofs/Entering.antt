@@ -245,9 +245,12 @@ module _ (program : Program) (facts : Facts) (o : Outer) (f : Framework) (floats
           contains_at (y ∷ xs) zero x e = subst (Contains (y ∷ xs)) (some_same y x e) (contains_here y xs)
           contains_at (y ∷ xs) (suc n) x e = contains_there y xs x (contains_at xs n x e)
 
+      found_by_number : IsNumber program sd found.key q.method.name
+      found_by_number = let n : FoundNumber program sd run.once at found = found_number program sd run.once at found found_is in
+          subst (λ (m : Method). IsNumber program sd found.key m.name) (some_same n.method q.method (sym n.there ∙ q.there)) n.is_number
+
       pub quiet_named : QuietNamed found.key
-      quiet_named = let n : FoundNumber program sd run.once at found = found_number program sd run.once at found found_is in
-          record { number = n.method.name; is_number = n.is_number; on = ap (λ (m : Method). is_on marks m.name) (some_same n.method q.method (sym n.there ∙ q.there)) ∙ q.on }
+      quiet_named = record { number = q.method.name; is_number = found_by_number; on = q.on }
 
       found_trivial : initialised.is_trivial p found.key.class ≡ true
       found_trivial = trivial_by_number program sd run.once owner.class.name at.class (class_parts program sd at.class owner.class owner.is_class).name
@@ -264,7 +267,7 @@ module _ (program : Program) (facts : Facts) (o : Outer) (f : Framework) (floats
           by true = ap (λ n. when_ready n w found.key.class (calls_found kind found vs w)) (ready_class found.key.class found_trivial) ∙ code_called
           by false = code_called
 
-      abbrev Quietly : Type 0
+      abbrev pub Quietly : Type 0
       Quietly = EntersQuietly s fd (QuietKey program sd marks) w cs g
 
       -- a call that finds it enters it
@@ -286,9 +289,18 @@ module _ (program : Program) (facts : Facts) (o : Outer) (f : Framework) (floats
       statically : (callee : ℕ) → callee < length program.methods → finds_static program callee ≡ Some at → finds_statically p (naming.method_at program callee) ≡ Finds found
       statically callee low e = static_by_number program sd callee low ∙ ap (λ x. search_at program (search_of x)) e ∙ ap finds found_is
 
-      pub static_enters : (callee : ℕ) (args : List ℕ) → form_here fd g ≡ Some (form.Invoke call.Static (naming.method_at program callee) args) → callee < length program.methods → finds_static program callee ≡ Some at → Quietly
-      static_enters callee args e low h = quietly call.Static (naming.method_at program callee) args e
-          (ap (calls_by (need cs) call.Static (naming.method_at program callee) (map (register g) args) w g) (statically callee low h) ∙ enters_found call.Static (map (register g) args))
+      -- a call that enters it, which has its number
+      pub record EntersIt : Type 0 where
+        pub call : Quietly
+        pub is_number : IsNumber program sd call.method q.method.name
+
+      pub static_enters : (callee : ℕ) (args : List ℕ) → form_here fd g ≡ Some (form.Invoke call.Static (naming.method_at program callee) args) → callee < length program.methods → finds_static program callee ≡ Some at → EntersIt
+      unfolding quietly
+      static_enters callee args e low h = record {
+        call = quietly call.Static (naming.method_at program callee) args e
+            (ap (calls_by (need cs) call.Static (naming.method_at program callee) (map (register g) args) w g) (statically callee low h) ∙ enters_found call.Static (map (register g) args));
+        is_number = found_by_number;
+      }
 
       on_object : (kind : InvokeKind) (k : MethodKey) (r : ℕ) (rs : List ℕ) (y : Search) → is_null (register g r) ≡ false → y ≡ Finds found
           → (elim (is_null (register g r)) as (λ b. Outcome) [ true ↦ faults w null_pointer | false ↦ calls_by (need cs) kind k (map (register g) (r ∷ rs)) w g y ]) ≡ Enters found.key (map (register g) (r ∷ rs))
@@ -382,7 +394,7 @@ module _ (program : Program) (facts : Facts) (o : Outer) (f : Framework) (floats
         abbrev y : Form
         y = form.Invoke call.Virtual (naming.method_at program callee) (r ∷ rs)
 
-        renames : Renames y y
+        abbrev renames : Renames y y
         renames = record { kind = call.Virtual; kind' = call.Virtual; old = key; new = key; on = r; args = rs; first = refl; second = refl; virtual = refl; virtual' = refl; old_type = key_type; new_type = key_type; plain_name = no_constructor }
 
         abbrev reg' : IsSettled (named program)
@@ -453,7 +465,7 @@ module _ (program : Program) (facts : Facts) (o : Outer) (f : Framework) (floats
         by : (x : Option MethodName) → slice_get program.methods callee ≡ x → is_quiet_named program marks static callee x ≡ true → Quiet_here
         by None i j = absurd (true≢false (sym j))
         by (Some q) i j = let z = found_so static q (finds_static program callee) j in
-            static_enters z.at z.target callee args (form_there program facts o f floats script run w cs g st ∙ ap Some e) (got_short program.methods callee q i) z.is
+            (static_enters z.at z.target callee args (form_there program facts o f floats script run w cs g st ∙ ap Some e) (got_short program.methods callee q i) z.is).call
 
     named_direct : (static : Bool) (callee r : ℕ) (rs : List ℕ) → st.form ≡ form.Invoke call.Direct (naming.method_at program callee) (r ∷ rs) → holds_object frame_here r ≡ true → is_quiet_named program marks static callee (slice_get program.methods callee) ≡ true → Quiet_here
     named_direct static callee r rs e held h = by (slice_get program.methods callee) refl h

@@ -1,6 +1,8 @@
 -- What is known of a state of a run in which an instruction stands on top: its kinds, its facts, its method and instruction by number.
 use Rattle.std.proofs.Common.{◌≡◌, ℕ, Bool, true, List, [], ◌∷◌, length, Option, Some, None, ◌⊎◌, inl, inr, refl, sym, ap, ◌∙◌, subst}
-use Rattle.std.specs.Prelude.{slice_get, Contains}
+use Rattle.std.specs.Prelude.{◌&&◌, slice_get, Contains}
+use Rattle.std.specs.List.{list_all}
+use Rattle.std.proofs.lemmas.Bool.{and_parts}
 use Rattle.std.specs.Option.{option_map}
 use Rattle.insn_set.specs.declared.form.Insn.{Insn}
 use Rattle.program_model.specs.Lookups.{class_place}
@@ -19,7 +21,7 @@ use Rattle.dalvik_defs.specs.Quiet.{EndsWithin, calm_opening}
 use Rattle.dalvik_defs.specs.Happens.{Setting}
 use Rattle.dalvik_defs.specs.Shown.{Fit}
 use Rattle.dalvik_defs.specs.State.{World, Classes, State, On, Ended, Done}
-use Rattle.dalvik_defs.specs.Step.{after, setting_of}
+use Rattle.dalvik_defs.specs.Step.{after, step, setting_of}
 use Rattle.dalvik_defs.specs.Stack.{form_at as form_here}
 use Rattle.dalvik_defs.specs.declared.state.Frame.{Frame}
 use Rattle.dalvik_defs.specs.declared.state.Waiting.{Waiting}
@@ -36,15 +38,16 @@ use Rattle.dom_frame.specs.declared.frames.Frame.{Frame as Values}
 use Rattle.facts.specs.Lent.{frame_at}
 use Rattle.facts.specs.declared.facts.Facts.{Facts}
 use Rattle.hierarchy.specs.Ranks.{IsRanked}
-use Rattle.hierarchy.proofs.Short.{members_differ}
 use Rattle.receivers.specs.Receiving.{is_straight}
 use Rattle.lemmas.proofs.Options.{before_map, some_same}
 use Rattle.name_bridge.proofs.Above.{own_place}
 use Rattle.name_bridge.proofs.Tables.{same_number}
 use Rattle.pass_defs.specs.Analysis.{Analysis}
 use Rattle.pass_defs.specs.Facts as by_name
-use Rattle.program_model.specs.MemberRules.{class_fits}
-use Rattle.program_model.specs.Distinct.{own_method_key}
+use Rattle.program_model.specs.Neighbours.{neighbours}
+use Rattle.program_model.specs.ValueRules.{marks_fit}
+use Rattle.program_model.specs.MemberRules.{method_fits, methods_in_order, methods_fit, fields_fit, types_of_class_fit, source_fits, class_fits}
+use Rattle.program_model.specs.Distinct.{own_method_key, all_differ}
 use Rattle.closed_facts.specs.Tables as number
 use Rattle.closed_bridge.specs.Names.{named_facts, values}
 use Rattle.closed_bridge.proofs.Numbers.{IsNumber}
@@ -65,10 +68,18 @@ use Rattle.cover_law.proofs.Standing.{at_typed, own_form}
 use Rattle.cover_law.proofs.Stays.{Is}
 use Rattle.value_law.specs.Operators.{operators}
 use Rattle.fold_bridge.proofs.Covered.{covered_calm}
-use Rattle.fold_bridge.proofs.Forms as forms
+use Rattle.fold_bridge.proofs.Forms as ran
 use Rattle.quiet_methods.specs.Quiet.{IsCode, IsAlone}
 
 -- ---- methods by their numbers
+
+methods_differ : (p : Program) (c : Class) → class_fits p c ≡ true → all_differ own_method_key c.methods ≡ true
+unfolding class_fits methods_fit
+methods_differ p c h =
+    let all = and_parts (types_of_class_fit p c && (source_fits p c.source && marks_fit p c.marks)) (fields_fit p c.name c.fields && methods_fit p c.name c.methods) h in
+    let members = and_parts (fields_fit p c.name c.fields) (methods_fit p c.name c.methods) all.1 in
+    let methods = and_parts (list_all (method_fits p c.name) c.methods) (list_all (methods_in_order p) (neighbours c.methods) && all_differ own_method_key c.methods) members.1 in
+    (and_parts (list_all (methods_in_order p) (neighbours c.methods)) (all_differ own_method_key c.methods) methods.1).1
 
 module _ (p : Program) (fits : is_well_formed p ≡ true) (once : (class : ℕ) → IsTwice p class → ⊥) where
   s : Sound p
@@ -104,7 +115,7 @@ module _ (p : Program) (fits : is_well_formed p ≡ true) (once : (class : ℕ) 
       there = subst (λ (c : Class). slice_get c.methods y.place ≡ Some m') class y.there
 
       place : y.place ≡ x.place
-      place = same_number own_method_key x.class.methods y.place x.place m' m (members_differ p x.class (all_at (class_fits p) p.classes x.at x.class s.classes_fit x.defines)).1 there x.there (ap (λ n. n ∷ []) e)
+      place = same_number own_method_key x.class.methods y.place x.place m' m (methods_differ p x.class (all_at (class_fits p) p.classes x.at x.class s.classes_fit x.defines)) there x.there (ap (λ n. n ∷ []) e)
 
       method : m' ≡ m
       method = some_same m' m (sym there ∙ (ap (slice_get x.class.methods) place ∙ x.there))
@@ -146,19 +157,22 @@ module _ (program : Program) (facts : Facts) (o : Outer) (f : Framework) (floats
   S = sound program run.fits
 
   abbrev pub settled : IsSettled (named program)
-  settled = forms.settled program o f floats facts (named_facts program facts) script run.base run.fit run.ranged run.ends
+  settled = ran.settled program o f floats facts (named_facts program facts) script run.base run.fit run.ranged run.ends
 
   abbrev pub based : IsReady (value_analysis (named program) operators) (named program) o f floats (named_facts program facts)
-  based = forms.based program o f floats facts (named_facts program facts) script run.base run.fit run.ranged run.ends
+  based = ran.based program o f floats facts (named_facts program facts) script run.base run.fit run.ranged run.ends
 
   abbrev pub Reaches : State → Type 0
-  Reaches = forms.Reaches program o f floats facts (named_facts program facts) script run.base run.fit run.ranged run.ends
+  Reaches = ran.Reaches program o f floats facts (named_facts program facts) script run.base run.fit run.ranged run.ends
 
   abbrev pub calm : Text → Bool
-  calm = forms.calm program o f floats facts (named_facts program facts) script run.base run.fit run.ranged run.ends
+  calm = ran.calm program o f floats facts (named_facts program facts) script run.base run.fit run.ranged run.ends
 
   pub begins : Reaches (calm_opening calm script)
-  begins = forms.begins program o f floats facts (named_facts program facts) script run.base run.fit run.ranged run.ends
+  begins = ran.begins program o f floats facts (named_facts program facts) script run.base run.fit run.ranged run.ends
+
+  pub keeps : (u : State) → Reaches u → Reaches (step setting find u).0
+  keeps u r = ran.keeps program o f floats facts (named_facts program facts) script run.base run.fit run.ranged run.ends u r
 
   covered : (w : World) (c : Classes) (g : Frame) (rest : List Waiting) (moves : List Move) → Reaches (On w c (waiting.Method g ∷ rest) moves) → HoldsBy (covered_states A p o f T) (On w c (waiting.Method g ∷ rest) moves)
   covered w c g rest moves r = by (covered_calm A p o f floats T script run.base run.fit calm run.ranged r.count)
@@ -196,7 +210,7 @@ module _ (program : Program) (facts : Facts) (o : Outer) (f : Framework) (floats
         form = q.0;
         at = q.1;
         number = here_at program S facts g.method g.position (at_typed A p o f floats T based settled w g td q.0 top.stands.registers q.1.has top.stands.reached);
-        done = calm_done setting find calm (forms.is_calm program o f floats facts (named_facts program facts) script run.base run.fit run.ranged run.ends) w cs (waiting.Method g ∷ rest) moves r.calmly;
+        done = calm_done setting find calm (ran.is_calm program o f floats facts (named_facts program facts) script run.base run.fit run.ranged run.ends) w cs (waiting.Method g ∷ rest) moves r.calmly;
       }
 
   module _ (w : World) (cs : Classes) (g : Frame) (st : Stands w cs g) where

@@ -92,13 +92,16 @@ case_in i ts x (suc k) n t l e some = by (last_or n k l) (λ d. case_in i ts x k
         (in_one (is_some (switched k i x)) (slice_index ts k) t (subst (λ j. is_some (switched j i x) ≡ true) same some) (sym (got_index ts k t (subst (λ j. slice_get ts j ≡ Some t) same e))))
     by (inr d) more = into_left (cases_upto i ts x k) (one_if (is_some (switched k i x)) (slice_index ts k)) t (more d)
 
+from_none : (k : ℕ) → k ≡ 0 + k
+from_none k = omega arith
+
 switch_in : (n : ℕ) (i : Insn) (ts : List ℕ) (x : Registers) (q : ℕ × Registers) → Contains (arm (n + 1) (unswitched i x) ++ cases_from 0 i ts x) q → Contains (switch_ways i ts n x) q.0
 switch_in n i ts x q h = by (split_in (arm (n + 1) (unswitched i x)) (cases_from 0 i ts x) q h)
   where
     by : Contains (arm (n + 1) (unswitched i x)) q ⊎ Contains (cases_from 0 i ts x) q → Contains (switch_ways i ts n x) q.0
     by (inl a) = into_right (cases_upto i ts x (length ts)) (one_if (is_some (unswitched i x)) (n + 1)) q.0 (arm_in (n + 1) (unswitched i x) q a)
     by (inr a) = let r = case_is 0 i ts x q a in
-        into_left (cases_upto i ts x (length ts)) (one_if (is_some (unswitched i x)) (n + 1)) q.0 (case_in i ts x (length ts) r.place q.0 (got_low ts r.place q.0 r.there) r.there r.some)
+        into_left (cases_upto i ts x (length ts)) (one_if (is_some (unswitched i x)) (n + 1)) q.0 (case_in i ts x (length ts) r.place q.0 (got_low ts r.place q.0 r.there) r.there (ap (λ j. is_some (switched j i x)) (from_none r.place) ∙ r.some))
 
 -- ---- branches
 

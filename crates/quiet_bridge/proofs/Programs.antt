@@ -129,7 +129,7 @@ module _ (p : Program) (quiet : List Bool) (frames : Frames) (admitted : List Bo
 
       by_code : (adm : Bool) (o : Option Body) → m.body ≡ o → (es : List Edit) → HasEdits W adm at m o es → QuietedCode p quiet frames key o (code_edited es o)
       by_code adm None e es h = NoCode
-      by_code true (Some b) e es w = subst (λ d. QuietedCode p quiet frames key (Some b) (Some d)) (sym (written m b es w)) (Quieted class c m b is_class (contains_at c.methods n m has) e refl w.idle w.are_idle)
+      by_code true (Some b) e es w = subst (λ d. QuietedCode p quiet frames key (Some b) (Some d)) (sym (written m b es w)) (Quieted class c m b is_class (contains_at c.methods n m has) e refl w.idle w.are_idle w.live w.live_in)
       by_code false (Some b) e es h = subst (λ es. QuietedCode p quiet frames key (Some b) (code_edited es (Some b))) (sym h) (Same b)
 
       method_other : (adm : Bool) (es : List Edit) → HasEdits W adm at m m.body es → OtherNumberedMethod (QuietedCode p quiet frames) p c m (method_by es m)

@@ -1,2 +1,1 @@
 pub mod Nopped
-pub mod Runs

@@ -9,8 +9,9 @@ use Rattle.program_model.specs.declared.program.Program.{Program}
 use Rattle.dalvik_defs.specs.Naming.{named_class, named_method}
 use Rattle.dalvik_defs.specs.Silence.{key_in}
 use Rattle.dalvik_defs.specs.declared.names.MethodKey.{MethodKey}
+use Rattle.live_regs.specs.declared.table.Live.{Live}
 use Rattle.facts.specs.Lent.{frame_at}
-use Rattle.quiet_code.specs.Idle.{IsIdle}
+use Rattle.quiet_code.specs.Idle.{IsIdle, LiveIn, is_small}
 use Rattle.quiet_code.specs.Quieted.{Frames}
 
 abbrev pub nop_for : Bool → Insn → Insn
@@ -31,4 +32,4 @@ pub data QuietedCode (p : Program) (quiet : List Bool) (frames : Frames) (k : Me
   Same : (b : Body) → QuietedCode p quiet frames k (Some b) (Some b)
   Quieted : (class : ℕ) (c : Class) (m : Method) (b : Body) → slice_get p.classes class ≡ Some c → Contains c.methods m → m.body ≡ Some b → k ≡ key_in (named_class p c) (named_method p m)
       → (idle : ℕ → Bool) → ((n : ℕ) (i : Insn) → slice_get b.insns n ≡ Some i → (idle n ≡ true) ↔ IsIdle p quiet (frame_at frames m.name n) b n i)
-      → QuietedCode p quiet frames k (Some b) (Some (body_nopped idle b))
+      → (live : Option Live) → (is_small b ≡ true → LiveIn b live) → QuietedCode p quiet frames k (Some b) (Some (body_nopped idle b))

@@ -142,13 +142,6 @@ pub(crate) fn stays_inside(insn: &Insn, count: u32) -> bool
     }
 }
 
-/// Whether each branch goes to positions.
-pub(crate) fn all_stay_inside(insns: &[Insn], count: u32) -> bool
-    ensures { result ≡ list_all (λ insn. targets_inside count insn) insns.now }
-{
-    insns.iter().all(|insn| stays_inside(insn, count))
-}
-
 /// The position of the first branch that goes to no position.
 pub(crate) fn first_outside(insns: &[Insn], count: u32) -> Option<usize>
     ensures { result ≡ position (λ insn. not (targets_inside count insn)) insns.now }

@@ -8,7 +8,7 @@ use insn_set::Format;
 /// The fields of an instruction, by the letters of its format. `wide` is the number that has more than 16 bits, and
 /// of a call by nibbles the fifth register, G; its `c` is the unit with the other four. A field that the format lacks
 /// is 0.
-#[derive(Clone, Copy, PartialEq, Eq, Debug, Drop)]
+#[derive(Clone, Copy, Drop)]
 pub struct Fields {
     pub a: u16,
     pub b: u16,

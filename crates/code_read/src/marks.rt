@@ -9,7 +9,7 @@ use program_model::{Handler, Region};
 use std::alloc::{AllocError, Global};
 
 /// For each position whether a branch goes to it, and whether a handler begins at it.
-#[derive(Debug, Drop)]
+#[derive(Drop)]
 pub(crate) struct Marks {
     pub targets: Vec<bool>,
     pub handlers: Vec<bool>,

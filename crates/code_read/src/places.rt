@@ -5,7 +5,7 @@ ghost use Rattle.code_read.specs.Positions.{rises_in, IsCounted};
 
 /// The units of a method, the first unit of each position and of each payload, ascending, and for each unit and the
 /// end how many positions begin before it.
-#[derive(Debug, Drop)]
+#[derive(Drop)]
 pub(crate) struct Places<'a> {
     pub units: &'a [u16],
     pub starts: Vec<u32>,

@@ -21,7 +21,7 @@ use seq::Seq;
 use std::alloc::{AllocError, Global};
 
 /// The positions that a region covers.
-#[derive(Clone, Copy, Debug, Drop)]
+#[derive(Clone, Copy, Drop)]
 struct Cover {
     first: u32,
     end: u32,
@@ -29,7 +29,7 @@ struct Cover {
 
 /// So many try items, the bytes from the count of the handler lists on, and the offsets at which the lists begin, up to
 /// the greatest that the items name.
-#[derive(Debug, Drop)]
+#[derive(Drop)]
 struct Lists<'a> {
     tries: &'a [u8],
     count: u16,

@@ -2,7 +2,7 @@
 
 /// How many registers, argument registers and try items a body has, how many entries the tables have that its
 /// instructions name, and how many entries of lists a file may still have: `items` is what is left of that limit.
-#[derive(Clone, Copy, Debug, Drop)]
+#[derive(Clone, Copy, Drop)]
 pub struct Sizes {
     pub registers: u16,
     pub ins: u16,

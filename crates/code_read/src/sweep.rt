@@ -17,7 +17,7 @@ use std::alloc::{AllocError, Global};
 
 /// The first units of instructions and payloads, each list ascending. The first `kept` of the starts stay whatever
 /// follows; the others are those of nops.
-#[derive(Debug, Drop)]
+#[derive(Drop)]
 pub(crate) struct Swept {
     pub starts: Vec<u32>,
     pub payloads: Vec<u32>,

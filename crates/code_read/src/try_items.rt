@@ -6,7 +6,7 @@ ghost use Rattle.code_read.specs.Regions.{try_at, names_up_to};
 use dex_base::{read_u16, read_u32};
 
 /// A try item: the first unit, how many units, and the offset of the handler list from the count of the lists.
-#[derive(Clone, Copy, Debug, Drop)]
+#[derive(Clone, Copy, Drop)]
 pub(crate) struct TryItem {
     pub start: u32,
     pub count: u16,

@@ -10,7 +10,7 @@ use relax::new_number;
 
 /// What the units hold besides the opcode. `a`, `b` and `c` are those of the format's picture from the left, `long` is
 /// a literal of 64 bits or the last four nibbles of a call.
-#[derive(Clone, Copy, Debug, PartialEq, Eq, Drop)]
+#[derive(Clone, Copy, Drop)]
 pub(crate) struct Fields {
     pub(crate) a: u32,
     pub(crate) b: u32,

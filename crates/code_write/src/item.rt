@@ -16,7 +16,7 @@ use relax::Layout;
 use std::alloc::{AllocError, Global};
 
 /// A code item, and the most words that a call in it passes.
-#[derive(Debug, Drop)]
+#[derive(Drop)]
 pub struct CodeBytes {
     pub bytes: Vec<u8>,
     pub outs: u16,

@@ -9,14 +9,14 @@ use crate::fault::PoolFault;
 use crate::word::word_of;
 
 /// How many entries a table has, and where the first one begins.
-#[derive(Clone, Copy, PartialEq, Eq, Debug, Drop)]
+#[derive(Clone, Copy, Drop)]
 pub struct Extent {
     pub size: u32,
     pub offset: u32,
 }
 
 /// Where the tables stand.
-#[derive(Clone, Copy, PartialEq, Eq, Debug, Drop)]
+#[derive(Clone, Copy, Drop)]
 pub struct Extents {
     pub strings: Extent,
     pub types: Extent,

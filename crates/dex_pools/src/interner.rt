@@ -13,7 +13,7 @@ use program_model::{Program, Renumber};
 use std::alloc::{AllocError, Global};
 
 /// The used entries of each table by their old numbers, in the order of the format.
-#[derive(Debug, Drop)]
+#[derive(Drop)]
 pub struct Order {
     pub strings: Vec<u32>,
     pub types: Vec<u32>,
@@ -23,7 +23,7 @@ pub struct Order {
 }
 
 /// The used entries of a program's tables in order, and their new numbers.
-#[derive(Debug, Drop)]
+#[derive(Drop)]
 pub struct Interner {
     pub numbers: Renumber,
     pub order: Order,

@@ -24,7 +24,7 @@ use seq::Seq;
 use std::alloc::Global;
 
 /// The tables of a file. A type is the number of its descriptor in `strings`.
-#[derive(PartialEq, Eq, Debug, Drop)]
+#[derive(Drop)]
 pub struct Pools {
     pub strings: Seq<Text>,
     pub types: Seq<u32>,

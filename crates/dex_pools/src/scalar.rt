@@ -14,7 +14,7 @@ use byteorder::{ByteOrder, LittleEndian};
 use program_model::EncValue;
 
 /// How many entries the tables have that a value may name.
-#[derive(Clone, Copy, PartialEq, Eq, Debug, Drop)]
+#[derive(Clone, Copy, Drop)]
 pub struct TableSizes {
     pub strings: u32,
     pub types: u32,
@@ -174,18 +174,6 @@ fn double_in(few: &[u8]) -> u64
     ensures { result ≡ right_extended w64 few.now }
 {
     LittleEndian::read_u64(&behind_zeros(few))
-}
-
-/// How many bytes a number of this type may have.
-fn widest(kind: u8) -> usize
-    ensures { result ≡ widest kind }
-{
-    match kind {
-        0x00 => 1,
-        0x02 | 0x03 => 2,
-        0x04 | 0x10 => 4,
-        _ => 8,
-    }
 }
 
 /// The number, character or float of this type.

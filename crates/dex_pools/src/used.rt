@@ -8,7 +8,7 @@ use seq::Seq;
 use std::alloc::{AllocError, Global};
 
 /// What is named by its number: a string, a type, a proto, a field or a method.
-#[derive(Clone, Copy, PartialEq, Eq, Debug, Drop)]
+#[derive(Clone, Copy, Drop)]
 pub enum Named {
     Text(u32),
     Kind(u32),
@@ -18,7 +18,7 @@ pub enum Named {
 }
 
 /// For each entry of each table whether it is used.
-#[derive(Debug, Drop)]
+#[derive(Drop)]
 pub struct Used {
     pub strings: Seq<bool>,
     pub types: Seq<bool>,

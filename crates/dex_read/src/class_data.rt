@@ -17,7 +17,7 @@ use seq::Seq;
 use std::alloc::Global;
 
 /// A member as class data lists it: its number, its flags, and the offset of a method's code, 0 for none.
-#[derive(Clone, Copy, Debug, Drop)]
+#[derive(Clone, Copy, Drop)]
 pub struct Listed {
     pub number: u32,
     pub flags: Flags,

@@ -29,7 +29,7 @@ use std::alloc::{AllocError, Global};
 const NO_INDEX: u32 = 0xffff_ffff;
 
 /// The numbers of a class_def.
-#[derive(Clone, Copy, Debug, Drop)]
+#[derive(Clone, Copy, Drop)]
 pub struct ClassDef {
     pub class: u32,
     pub flags: u32,

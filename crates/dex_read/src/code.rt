@@ -25,7 +25,7 @@ use seq::Seq;
 use std::alloc::Global;
 
 /// The fixed part of a code item, and where its other parts begin.
-#[derive(Clone, Copy, Debug, Drop)]
+#[derive(Clone, Copy, Drop)]
 pub struct CodeItem {
     pub registers: u16,
     pub ins: u16,

@@ -20,7 +20,7 @@ use seq::Seq;
 use std::alloc::Global;
 
 /// One entry of a list of the directory: the member that it is for and where its annotations stand.
-#[derive(Clone, Copy, Debug, Drop)]
+#[derive(Clone, Copy, Drop)]
 struct Pair {
     number: u32,
     offset: u32,
@@ -101,7 +101,7 @@ fn place_among(first: &[Listed], second: &[Listed], number: u32) -> Option<usize
 }
 
 /// A pair of the directory whose member was found.
-#[derive(Clone, Copy, Debug, Drop)]
+#[derive(Clone, Copy, Drop)]
 struct Named {
     place: usize,
     pair: Pair,

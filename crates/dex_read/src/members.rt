@@ -22,14 +22,14 @@ pub struct Source<'a> {
 }
 
 /// What is left of the limits that are counted: items, and the cells of the bodies read so far.
-#[derive(Clone, Copy, Debug, Drop)]
+#[derive(Clone, Copy, Drop)]
 pub struct Budget {
     pub items: u32,
     pub cells: u64,
 }
 
 /// The class whose parts are read: its place among the class_defs and its type.
-#[derive(Clone, Copy, Debug, Drop)]
+#[derive(Clone, Copy, Drop)]
 pub struct Owner {
     pub place: u32,
     pub kind: u32,

@@ -1,5 +1,5 @@
 -- What the output of `optimise` is to the rules and the file that it comes from.
-use Rattle.std.specs.Prelude.{◌≡◌, ◌⊎◌, ℕ, Bool, true, false, List, Ok}
+use Rattle.std.specs.Prelude.{◌≡◌, ◌⊎◌, ℕ, Bool, true, false, List, [], length, Ok}
 use Rattle.dalvik_defs.specs.Naming.{named}
 use Rattle.dalvik_defs.specs.Outer.{outer_of}
 use Rattle.dalvik_defs.specs.Shown.{SameShown}
@@ -16,67 +16,84 @@ use Rattle.squeeze.specs.Needed.{NothingLeft}
 use Rattle.compact.specs.Narrow.{has_narrow_classes}
 use Rattle.compact_bridge.specs.Bridged.{AllPacked}
 use Rattle.copy_bridge.specs.Bridged.{AllFresh}
-use Rattle.pipeline.specs.Advised.{IsAdvised}
 use Rattle.pipeline.specs.Passes.{KeepsForms}
-use Rattle.rounds_bridge.specs.Ended.{NoneKnown, NoneBindable}
-use Rattle.stay_law.specs.Stays.{Stays}
+use Rattle.pipeline.specs.Prepared.{IsAdvisedBy}
+use Rattle.rounds_bridge.specs.Ended.{NoneKnown, NoneBindable, NoneQuiet}
+use Rattle.stay_law.specs.Stays.{Stays, StaysInlined}
 use Rattle.silence_bridge.specs.Admitted.{admitted_in}
 use Rattle.command_line.specs.Spelling.{Spells}
 use Rattle.command_line.specs.declared.command.CommandWords.TheVariants.{Optimise}
 use Rattle.command_line.specs.declared.command.OptimiseWords.{OptimiseWords}
+use Rattle.command_line.specs.declared.command.Tell.{Tell}
 use Rattle.redex_outside.specs.Held.{Held}
+use Rattle.redex_outside.specs.Panels.{HasRun}
+use Rattle.redex_outside.specs.Turns.{Turn}
+use Rattle.redex_outside.specs.Voices.{Voice}
 use Rattle.redex_cli.specs.Files.{AreHeld}
+use Rattle.redex_cli.specs.Finished.{AreTold}
 use Rattle.redex_cli.specs.Tables.{IsTableWith}
 use Rattle.redex_cli.specs.declared.fetching.Inputs.{Inputs}
 
+-- what stays of a program, by whether calls are inlined
+abbrev pub StaysFor : Bool → List Bool → Program → Program → Type 0
+StaysFor false admitted program left = Stays admitted program left
+StaysFor true admitted program left = StaysInlined admitted program left
+
+-- Advisers who reply so, and whose answers stand behind those that were given, took these turns: they were asked about each live method
+-- with code, and a method is admitted where all of them said yes. None is where the rules forbid all rewriting.
+pub record AreAdmitted (voices : List Voice) (given : List Bool) (program : Program) (outside : Outside) (admitted : List Bool) : Type 0 where
+  pub turns : List Turn
+  pub news : List Voice
+  pub answers : List Bool
+  pub spared : ℕ
+  pub advised : IsAdvisedBy outside program (length voices) given answers (record { admitted = admitted; spared = spared }) turns
+  pub replied : HasRun turns voices news given answers
+
 -- What is left of a program shows what the program shows without its silent calls in the admitted methods, to every
--- framework, under every script and float table that fit, and is well-formed and typed. Some advisers were asked which methods
+-- framework, under every script and float table that fit, and is well-formed and typed. Advisers who reply so were asked which methods
 -- may be rewritten: these are admitted. Facts that are certified of what is left leave nothing to write in their bodies (`NoneLeft`
--- of const_prop) and, where the superclass of no interface is a class of the program that is none, no call to name another method
--- (`NoneLeft` of devirt), or there are no such facts, or none were asked for, since no method is admitted or a kept constructor is
--- none of its class (`KeepsForms` of pipeline). In their bodies, whose positions and regions 32 bits number, every position is
+-- of const_prop), where the superclass of no interface is a class of the program that is none, no call to name another method
+-- (`NoneLeft` of devirt), and no call and no division that does nothing (`NoneIdle` of quiet_code), or there are no such facts, or none
+-- were asked for, since no method is admitted or a kept constructor is none of its class (`KeepsForms` of pipeline). In their bodies, whose positions and regions 32 bits number, every position is
 -- reached, is no goto to the next one and no nop, but where the branch behind it goes to it, and none computes what nobody reads;
 -- and unless the program names a method of a wide type, no read of a copy could be one of the original (`IsStale` of pass_defs; 16
 -- bits number the body's registers), and no register could have a lower number (`IsPacked`). Every class, method
--- and field is one that the program has; a method that isn't admitted stays as it was, and no body has more registers (`Stays`).
-pub record KeepsMeaning (program : Program) (outside : Outside) (left : Program) : Type 0 where
+-- and field is one that the program has; a method that isn't admitted stays as it was, and no body has more registers (`Stays`),
+-- or at most 16 where calls are inlined (`StaysInlined`).
+pub record KeepsMeaning (inline : Bool) (voices : List Voice) (given : List Bool) (program : Program) (outside : Outside) (left : Program) : Type 0 where
   pub admitted : List Bool
-  pub advisers : ℕ
-  pub before : List Bool
-  pub after : List Bool
-  pub spared : ℕ
-  pub advised : IsAdvised outside program advisers before after (record { admitted = admitted; spared = spared })
+  pub advised : AreAdmitted voices given program outside admitted
   pub shown : SameShown (silenced (named program) (outer_of program outside) (admitted_in program admitted)) (named left) (outer_of program outside)
   pub formed : is_well_formed left ≡ true
   pub typed : IsTyped (named left)
   pub folded : NoneKnown outside admitted left ⊎ KeepsForms outside admitted left
   pub bound : NoneBindable outside admitted left ⊎ KeepsForms outside admitted left
+  pub quieted : NoneQuiet outside admitted left ⊎ KeepsForms outside admitted left
   pub squeezed : NothingLeft admitted left
   pub cleaned : NoneDead (is_quiet_field left) admitted left
   pub fresh : has_narrow_classes left ≡ true → AllFresh admitted left
   pub packed : has_narrow_classes left ≡ true → AllPacked admitted left
-  pub stays : Stays admitted program left
+  pub stays : StaysFor inline admitted program left
 
 -- The file spells a program, the rules that their text spells make a table of it, which is closed, with the methods shut that the
--- library shuts where there is one, and the output is the file that is written for a program that keeps its meaning. Not said yet:
+-- library shuts where there is one, and the output is the file that is written for a program that keeps its meaning, when advisers who
+-- reply so at first were told this and then asked. Not said yet:
 -- which conditions of the table are taken for met, and that the written file spells that program and is valid.
-pub record Shrinks (inputs : Inputs) (output : List ℕ) : Type 0 where
+pub record Shrinks (inline : Bool) (voices : List Voice) (tells : List Tell) (inputs : Inputs) (output : List ℕ) : Type 0 where
   pub program : Program
   pub reads : program_at inputs.file ≡ Ok program
   pub outside : Outside
   pub table : IsTableWith inputs.rules inputs.library program outside
+  pub told : List Voice
+  pub are_told : AreTold tells voices told
   pub left : Program
   pub written : IsWritten left output
-  pub keeps : KeepsMeaning program outside left
+  pub keeps : KeepsMeaning inline told [] program outside left
 
--- The words don't ask that calls are inlined. Of a program whose calls are inlined no law says yet what it shows.
-abbrev pub InlinesNothing : List (List ℕ) → Type 0
-InlinesNothing words = (asked : OptimiseWords) → Spells words (Optimise asked) → asked.inline ≡ false
-
--- The words spell `optimise`, and the output is such a one of what the names hold.
-pub record Headline (words : List (List ℕ)) (held : Held) (output : List ℕ) : Type 0 where
+-- The words spell `optimise`, and the output is such a one of what the names hold, with advisers who reply so at first.
+pub record Headline (words : List (List ℕ)) (voices : List Voice) (held : Held) (output : List ℕ) : Type 0 where
   pub asked : OptimiseWords
   pub spelled : Spells words (Optimise asked)
   pub inputs : Inputs
   pub are : AreHeld true held asked.rules asked.input asked.library inputs
-  pub shrinks : Shrinks inputs output
+  pub shrinks : Shrinks asked.inline voices asked.tells inputs output

@@ -14,7 +14,7 @@
 //! else stays. `count` is how many of the asks every adviser answered with yes, and where it is 0 the program is the same.
 //! `answers` grew by one answer of each adviser for each ask, and those of one adviser are what it would have replied at the
 //! beginning to these asks in order (`specs/Asked.antt`). After want of memory the first of these asks were made, and no other.
-//! That the meaning stays is the law of inlining (`inline_law`), and is not proved of this pass.
+//! That the meaning stays is the law of inlining (`inline_law`), and inline_kept has it of this pass.
 #![tactic(auto)]
 
 mod agreeing;
@@ -30,5 +30,9 @@ mod room;
 mod site;
 mod texts;
 
+pub use caller::{Accepted, Inliner};
+pub use done::Done;
+pub use editing::Edit;
 pub use laws::candidates_law;
 pub use pass::apply;
+pub use site::{Caller, Known};

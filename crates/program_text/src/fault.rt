@@ -3,14 +3,14 @@
 use std::alloc::AllocError;
 
 /// The line, from 1, that can't be read, or want of memory.
-#[derive(Clone, Copy, PartialEq, Eq, Debug, Drop)]
+#[derive(Clone, Copy, Debug, Drop)]
 pub enum TextFault {
     Line { number: u32 },
     NoMemory,
 }
 
 /// What is wrong with a line: its words, or want of memory.
-#[derive(Clone, Copy, PartialEq, Eq, Debug, Drop)]
+#[derive(Clone, Copy, Drop)]
 pub enum Trouble {
     Words,
     NoMemory,

@@ -46,6 +46,8 @@ nops_written p quiet frames m b live es small is e = record {
       let w = nothing_is p quiet (frame_at frames m.name n) b n live is i at in
       ((λ h. record { small = small; nothing = w.0 (sym same ∙ h) }), (λ x. same ∙ w.1 x.nothing)));
   edits = e;
+  live = live;
+  live_in = λ s. is;
 }
 
 -- a body that is too large is left alone
@@ -54,6 +56,8 @@ nops_none p quiet frames m b es large e = record {
   idle = λ n. false;
   are_idle = λ n i at. ((λ h. absurd (false≢true h)), (λ x. clash (is_small b) x.small large));
   edits = e ∙ sym (none_upto (length b.insns));
+  live = None;
+  live_in = λ small. clash (is_small b) small large;
 }
 
 pub none_dropped : (b : Body) (es : List Edit) → es ≡ [] → AreDropped b es

@@ -9,6 +9,7 @@ use Rattle.program_model.specs.declared.program.MethodAt.{MethodAt}
 use Rattle.program_model.specs.declared.program.Program.{Program}
 use Rattle.hierarchy.specs.Shapes.{IsResolved}
 use Rattle.hierarchy.specs.declared.build.Hierarchy.{Hierarchy}
+use Rattle.live_regs.specs.declared.table.Live.{Live}
 use Rattle.dom_frame.specs.declared.frames.Frame.{Frame}
 use Rattle.facts.specs.Lent.{frame_at}
 use Rattle.facts.specs.declared.facts.Facts.{Facts}
@@ -16,7 +17,7 @@ use Rattle.rewrite_pass.specs.declared.edit.Edit.{Edit}
 use Rattle.rewrite_pass.specs.Plans.{IsPlan, IsRewrittenBy}
 use Rattle.quiet_methods.specs.Quiet.{AreQuiet}
 use Rattle.quiet_code.specs.Quiet.{AreDropped, nop_if}
-use Rattle.quiet_code.specs.Idle.{IsIdle}
+use Rattle.quiet_code.specs.Idle.{IsIdle, LiveIn, is_small}
 
 abbrev pub Frames : Type 0
 Frames = List (List (Option Frame))
@@ -27,11 +28,13 @@ nops_upto idle zero = []
 nops_upto idle (suc k) = nops_upto idle k ++ nop_if (idle k) k
 
 -- Just the instructions that do nothing become nops in the body of a method, where these methods are quiet and these registers are
--- known.
+-- known. What is live in the body is told where it has a division and 32 bits number its positions and regions.
 pub record AreNops (p : Program) (quiet : List Bool) (frames : Frames) (m : Method) (b : Body) (es : List Edit) : Type 0 where
   pub idle : ℕ → Bool
   pub are_idle : (n : ℕ) (i : Insn) → slice_get b.insns n ≡ Some i → (idle n ≡ true) ↔ IsIdle p quiet (frame_at frames m.name n) b n i
   pub edits : es ≡ nops_upto idle (length b.insns)
+  pub live : Option Live
+  pub live_in : is_small b ≡ true → LiveIn b live
 
 -- What is written whatever the hierarchy is, and where it is that of the program's classes.
 pub record NopsWell (p : Program) (h : Hierarchy) (quiet : List Bool) (frames : Frames) (m : Method) (b : Body) (es : List Edit) : Type 0 where

@@ -45,7 +45,7 @@ enters_taken : (w : World) (c : Classes) (k : MethodKey) (vs : List Value) (b : 
     → enters_body (Some b) w c k vs rest script ≡ On w c (Method (entry_frame k vs b) ∷ rest) script
 enters_taken w c k vs b rest script e = ap (λ q. elim q as (λ q. State) [ true ↦ On w c (Method (entry_frame k vs b) ∷ rest) script | false ↦ Ended ]) (eq-eqb (length vs) b.ins e)
 
-module _ (s : Setting) (find : Bodies) (quiet : MethodKey → Bool) (rank : Rank) (gone : Gone) (I : State → Type 0) (runs : QuietRuns s find quiet rank gone I) where
+module _ (s : Setting) (find : Bodies) (quiet : MethodKey → Type 0) (rank : Rank) (gone spare : Gone) (I : State → Type 0) (runs : QuietRuns s find quiet rank gone spare I) where
   -- the end of a method comes in silence
   pub record Finishes (w : World) (c : Classes) (f : Frame) : Type 0 where
     pub steps : ℕ
@@ -92,14 +92,14 @@ module _ (s : Setting) (find : Bodies) (quiet : MethodKey → Bool) (rank : Rank
 
   -- so it is from each position whose rank is below this one
   abbrev Within : ℕ → Type 0
-  Within n = (w : World) (c : Classes) (f : Frame) (rest : List Waiting) (script : List Move) → rank f.method f.position < n → quiet f.method ≡ true → I (On w c (Method f ∷ rest) script) → Finishes w c f
+  Within n = (w : World) (c : Classes) (f : Frame) (rest : List Waiting) (script : List Move) → rank f.method f.position < n → quiet f.method → I (On w c (Method f ∷ rest) script) → Finishes w c f
 
-  advanced : (n : ℕ) → Within n → (w : World) (c : Classes) (f : Frame) (rest : List Waiting) (script : List Move) → rank f.method f.position < suc n → quiet f.method ≡ true → I (On w c (Method f ∷ rest) script)
+  advanced : (n : ℕ) → Within n → (w : World) (c : Classes) (f : Frame) (rest : List Waiting) (script : List Move) → rank f.method f.position < suc n → quiet f.method → I (On w c (Method f ∷ rest) script)
       → Advances s find quiet rank w c f → Finishes w c f
   advanced n within w c f rest script l q i (EndsIt v e) = record { steps = 0; last = f; value = v; glides = glide_none s find w c f; ends = e }
   advanced n within w c f rest script l q i (GoesOn g e m r) = gone_on w c f g 1 (glide_stay s find w c f w g e) (within w c g rest script
       (below_more (rank g.method g.position) (rank f.method f.position) n (subst (λ k. rank k g.position < rank f.method f.position) (sym m) r) l)
-      (ap quiet m ∙ q) (subst I (step_stays w c f g rest script e) (runs.keeps (On w c (Method f ∷ rest) script) i)))
+      (subst quiet (sym m) q) (subst I (step_stays w c f g rest script e) (runs.keeps (On w c (Method f ∷ rest) script) i)))
   advanced n within w c f rest script l q i (CallsOne x r r') =
       let e = within w c (entry_frame x.method x.values x.body) (Method f ∷ rest) script (below_more (rank x.method 0) (rank f.method f.position) n r l) x.is_quiet (entered w c f rest script x i) in
       let b = come_back w c f x e in

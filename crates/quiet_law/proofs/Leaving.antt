@@ -27,11 +27,11 @@ use Rattle.quiet_law.proofs.Gliding.{given, behind, ComesBack, comes_back}
 
 -- ---- the registers
 
-pub call_leaps : (s : Setting) (find : Bodies) (quiet : MethodKey → Bool) (rank : Rank) (gone : Gone) (I : State → Type 0) (runs : QuietRuns s find quiet rank gone I)
+pub call_leaps : (s : Setting) (find : Bodies) (quiet : MethodKey → Type 0) (rank : Rank) (gone spare : Gone) (I : State → Type 0) (runs : QuietRuns s find quiet rank gone spare I)
     (w : World) (c : Classes) (f : Frame) (rest : List Waiting) (script : List Move) (kind : InvokeKind) (k : MethodKey) (args : List ℕ)
-    → I (On w c (Method f ∷ rest) script) → gone f.method f.position ≡ true → Leaps s find w c f (form.Invoke kind k args) (f.position + 1)
-call_leaps s find quiet rank gone I runs w c f rest script kind k args i g =
-    let b = comes_back s find quiet rank gone I runs w c f rest script i (runs.enters w c f rest script i g) in
+    → I (On w c (Method f ∷ rest) script) → gone f.method f.position → Leaps s find w c f (form.Invoke kind k args) (f.position + 1)
+call_leaps s find quiet rank gone spare I runs w c f rest script kind k args i g =
+    let b = comes_back s find quiet rank gone spare I runs w c f rest script i (runs.enters w c f rest script i g) in
     record {
       registers = f.registers;
       result = given b.value;

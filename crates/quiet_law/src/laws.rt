@@ -1,6 +1,6 @@
 //! The law of a program without quiet calls.
 
-ghost use Rattle.std.specs.Prelude.{◌≡◌, Bool, true, List, suc, length};
+ghost use Rattle.std.specs.Prelude.{◌≡◌, ℕ, Bool, true, List, suc, length};
 ghost use Rattle.dalvik_defs.specs.Face.{face_of, bodies_of};
 ghost use Rattle.dalvik_defs.specs.Outer.{Outer};
 ghost use Rattle.dalvik_defs.specs.Quiet.{quiet_within, calm_opening};
@@ -15,16 +15,17 @@ ghost use Rattle.dalvik_defs.specs.declared.tables.Framework.{Framework};
 ghost use Rattle.bodies_law.specs.Others.{OtherBodies};
 ghost use Rattle.thin_law.specs.Cleaning.{IsSound};
 ghost use Rattle.thin_law.specs.Thins.{Thins};
-ghost use Rattle.quiet_law.specs.Calls.{Rank, Gone, QuietRuns, IsQuietCleaning};
+ghost use Rattle.quiet_law.specs.Calls.{Rank, QuietRuns, IsQuietCleaning};
 
-/// A program shows the same without calls that enter quiet methods and whose results nobody takes, and without dead code,
-/// where a test that a run keeps from its opening on, with trivially initialised classes done, says that steps in quiet methods
-/// advance and that these calls enter quiet methods.
+/// A program shows the same without calls that enter quiet methods and whose results nobody takes, without other forms that do
+/// no more than write registers which nobody reads, and without dead code, where a test that a run keeps from its opening on,
+/// with trivially initialised classes done, says that steps in quiet methods advance, that these calls enter quiet methods, and
+/// that these forms do no more.
 pub fn quiet_law()
-    ensures { (p q : NamedProgram) (o : Outer) (gone : Gone) (quiet : MethodKey → Bool) (rank : Rank) (reached : Framework → Floats → List Move → State → Bool)
-        → IsSound p → OtherBodies (Thins (λ k fs b. IsQuietCleaning p (gone k) fs b)) p q
+    ensures { (p q : NamedProgram) (o : Outer) (gone spare : MethodKey → ℕ → Bool) (quiet : MethodKey → Bool) (rank : Rank) (reached : Framework → Floats → List Move → State → Bool)
+        → IsSound p → OtherBodies (Thins (λ k fs b. IsQuietCleaning p (λ n. gone k n ≡ true) (λ n. spare k n ≡ true) fs b)) p q
         → ((f : Framework) (a : Floats) (script : List Move) → Fit p o f script
-        → QuietRuns (setting_of p o f a) (bodies_of p) quiet rank gone (λ t. reached f a script t ≡ true)
+        → QuietRuns (setting_of p o f a) (bodies_of p) (λ k. quiet k ≡ true) rank (λ k n. gone k n ≡ true) (λ k n. spare k n ≡ true) (λ t. reached f a script t ≡ true)
         × (reached f a script (calm_opening (quiet_within (face_of p f) (suc (length p.classes))) script) ≡ true))
         → SameShown p q o }
 {}

@@ -1,7 +1,6 @@
--- What is left of a program, and what is handed on of an outside.
-use Rattle.std.specs.Prelude.{◌≡◌, ℕ, ◌+◌, ◌-◌, Bool, false, List, [], filter, map, length, sum_by, slice_index_or}
+-- What is left of a program.
+use Rattle.std.specs.Prelude.{ℕ, ◌+◌, ◌-◌, Bool, false, List, filter, map, length, sum_by, slice_index_or}
 use Rattle.call_graph.specs.declared.live_set.LiveSet.{LiveSet}
-use Rattle.program_model.specs.declared.pass.Outside.{Outside}
 use Rattle.program_model.specs.declared.program.Program.{Program}
 use Rattle.program_model.specs.declared.program.Class.{Class}
 
@@ -35,13 +34,3 @@ class_size c = 1 + length c.fields + length c.methods
 -- how many classes and members there are
 abbrev pub size_of : Program → ℕ
 size_of p = sum_by class_size p.classes
-
--- no condition is left, and flags and marked methods are the same
-pub record Closes (o c : Outside) : Type 0 where
-  pub no_classes : c.classes_if ≡ []
-  pub no_fields : c.fields_if ≡ []
-  pub no_methods : c.methods_if ≡ []
-  pub silent : c.silent ≡ o.silent
-  pub shut : c.shut ≡ o.shut
-  pub shrink : c.shrink ≡ o.shrink
-  pub optimise : c.optimise ≡ o.optimise

@@ -4,10 +4,12 @@ use Rattle.redex_outside.specs.Counts.{NoneFell}
 use Rattle.rule_text.specs.Fault.{IsFault}
 use Rattle.rule_text.specs.declared.fault.RuleFault.{RuleFault}
 use Rattle.redex_outside.specs.Held.{Held, AllSame, OthersSame, OldOrPrefix}
+use Rattle.redex_outside.specs.Voices.{Voice}
 use Rattle.dex_read.specs.declared.fault.DexFault.{DexFault}
 use Rattle.program_model.specs.declared.limits.Counted.{Counted}
 use Rattle.command_line.specs.declared.command.CommandWords.{CommandWords}
 use Rattle.command_line.specs.declared.command.OptimiseWords.{OptimiseWords}
+use Rattle.command_line.specs.declared.command.Tell.{Tell}
 use Rattle.redex_cli.specs.Commands.{Fetch, fetches, file_alone, input_files, library_file, output_of, script_alone, trace_files}
 use Rattle.redex_cli.specs.Fetching.{Failures, AllWithin, FirstTooLong, FetchRefused, HoldsBadLine, OneBadLine, PutRefused}
 use Rattle.redex_cli.specs.Files.{AllFilesRead, AllLibrariesRead, AllRead, AreHeld, AreRead, BytesRefused, FileCause, FileRefused, HasLibrary, HoldsBadRules, HoldsLibrary, HoldsNamed, HoldsRead, HoldsRefused, IsDeclared, IsRead, LibraryRefused, OneBadLibrary, RulesCause}
@@ -428,52 +430,57 @@ put_refuses names IsFinal name tells tells' old mid new f g p m q bytes summary 
   stays = λ told. put_stays IsFinal name tells' old mid new p m q bytes summary status final fell (e ∙ told) (same told) (others (e ∙ told)) r;
 }
 
+-- the advisers were told what is found to be in the words
+pub told_words : (words : OptimiseWords) (voices : List Voice) (tells : List Tell) (inputs : Inputs) (bytes summary : List ℕ) → tells ≡ words.tells
+    → Finished words.inline voices tells inputs bytes summary → Finished words.inline voices words.tells inputs bytes summary
+told_words words voices tells inputs bytes summary e finished = subst (λ (l : List Tell). Finished words.inline voices l inputs bytes summary) e finished
+
 -- the finished output of what the names hold, put from bytes that are found to be these
-pub output_refuses : (words : OptimiseWords) (inputs : Inputs) (tells tells' : Bool) (old mid new : Held) (f g p m q : Failures) (bytes content summary : List ℕ) (status : Status)
+pub output_refuses : (words : OptimiseWords) (voices : List Voice) (inputs : Inputs) (tells tells' : Bool) (old mid new : Held) (f g p m q : Failures) (bytes content summary : List ℕ) (status : Status)
     → content ≡ bytes → AreHeld tells old words.rules words.input words.library inputs → (IsTrue tells → AllWithin old (input_files words.rules words.input words.library))
-    → Finished words.inline inputs bytes summary → tells' ≡ tells → (IsTrue tells → AllSame old mid) → NoneFell p m
+    → Finished words.inline voices words.tells inputs bytes summary → tells' ≡ tells → (IsTrue tells → AllSame old mid) → NoneFell p m
     → PutRefused tells' (m words.output) (q words.output) (mid words.output) (new words.output) content status → (IsTrue tells' → OthersSame words.output mid new)
-    → Refuses (input_files words.rules words.input words.library) (Some words.output) (FinishedOf tells old words) tells old new f g p q status
-output_refuses words inputs tells tells' old mid new f g p m q bytes content summary status is are within finished e same fell r others =
-    put_refuses (input_files words.rules words.input words.library) (FinishedOf tells old words) words.output tells tells' old mid new f g p m q bytes summary status within
+    → Refuses (input_files words.rules words.input words.library) (Some words.output) (FinishedOf voices tells old words) tells old new f g p q status
+output_refuses words voices inputs tells tells' old mid new f g p m q bytes content summary status is are within finished e same fell r others =
+    put_refuses (input_files words.rules words.input words.library) (FinishedOf voices tells old words) words.output tells tells' old mid new f g p m q bytes summary status within
     (record { inputs = inputs; are = are; finished = finished }) e same fell
     (subst (λ (bs : List ℕ). PutRefused tells' (m words.output) (q words.output) (mid words.output) (new words.output) bs status) is r) others
 
-put_gives : (words : OptimiseWords) (inputs : Inputs) (tells tells' : Bool) (old mid new : Held) (bytes summary : List ℕ)
+put_gives : (words : OptimiseWords) (voices : List Voice) (inputs : Inputs) (tells tells' : Bool) (old mid new : Held) (bytes summary : List ℕ)
     → AreRead inputs → AreHeld tells old words.rules words.input words.library inputs → (IsTrue tells → AllWithin old (input_files words.rules words.input words.library))
-    → Finished words.inline inputs bytes summary → tells' ≡ tells → (IsTrue tells → AllSame old mid)
+    → Finished words.inline voices words.tells inputs bytes summary → tells' ≡ tells → (IsTrue tells → AllSame old mid)
     → (IsTrue tells' → new words.output ≡ Some bytes) → (IsTrue tells' → OthersSame words.output mid new)
-    → Gives (input_files words.rules words.input words.library) (Some words.output) (FinishedOf tells old words) (IsSummary (FinishedOf tells old words)) tells old new summary
-put_gives words inputs tells tells' old mid new bytes summary read are within finished e same put others =
-    let final : FinishedOf tells old words bytes summary = record { inputs = inputs; are = are; finished = finished } in record {
+    → Gives (input_files words.rules words.input words.library) (Some words.output) (FinishedOf voices tells old words) (IsSummary (FinishedOf voices tells old words)) tells old new summary
+put_gives words voices inputs tells tells' old mid new bytes summary read are within finished e same put others =
+    let final : FinishedOf voices tells old words bytes summary = record { inputs = inputs; are = are; finished = finished } in record {
       within = within;
       read = λ told. (inputs_are tells old words.rules words.input words.library inputs are).read told read;
       answer = record { output = bytes; final = final };
       others = λ told. others_since words.output old mid new (same told) (others (e ∙ told));
-      put = λ told other is. subst (λ (n : List ℕ). HoldsSummed (FinishedOf tells old words) summary (new n)) (same_name words.output other is)
+      put = λ told other is. subst (λ (n : List ℕ). HoldsSummed (FinishedOf voices tells old words) summary (new n)) (same_name words.output other is)
           (record { output = bytes; final = final; there = put (e ∙ told) });
     }
 
-pub output_gives : (words : OptimiseWords) (inputs : Inputs) (tells tells' : Bool) (old mid new : Held) (bytes content summary text : List ℕ)
+pub output_gives : (words : OptimiseWords) (voices : List Voice) (inputs : Inputs) (tells tells' : Bool) (old mid new : Held) (bytes content summary text : List ℕ)
     → content ≡ bytes → text ≡ summary
     → AreRead inputs → AreHeld tells old words.rules words.input words.library inputs → (IsTrue tells → AllWithin old (input_files words.rules words.input words.library))
-    → Finished words.inline inputs bytes summary → tells' ≡ tells → (IsTrue tells → AllSame old mid)
+    → Finished words.inline voices words.tells inputs bytes summary → tells' ≡ tells → (IsTrue tells → AllSame old mid)
     → (IsTrue tells' → new words.output ≡ Some content) → (IsTrue tells' → OthersSame words.output mid new)
-    → Gives (input_files words.rules words.input words.library) (Some words.output) (FinishedOf tells old words) (IsSummary (FinishedOf tells old words)) tells old new text
-output_gives words inputs tells tells' old mid new bytes content summary text is_bytes is_text read are within finished e same put others =
-    subst (λ (t : List ℕ). Gives (input_files words.rules words.input words.library) (Some words.output) (FinishedOf tells old words) (IsSummary (FinishedOf tells old words)) tells old new t) (sym is_text)
-    (put_gives words inputs tells tells' old mid new bytes summary read are within finished e same (λ told. put told ∙ ap Some is_bytes) others)
+    → Gives (input_files words.rules words.input words.library) (Some words.output) (FinishedOf voices tells old words) (IsSummary (FinishedOf voices tells old words)) tells old new text
+output_gives words voices inputs tells tells' old mid new bytes content summary text is_bytes is_text read are within finished e same put others =
+    subst (λ (t : List ℕ). Gives (input_files words.rules words.input words.library) (Some words.output) (FinishedOf voices tells old words) (IsSummary (FinishedOf voices tells old words)) tells old new t) (sym is_text)
+    (put_gives words voices inputs tells tells' old mid new bytes summary read are within finished e same (λ told. put told ∙ ap Some is_bytes) others)
 
 -- ---- a command that is found to be this one
 
-pub found_gives : (command other : CommandWords) (tells : Bool) (old new : Held) (text : List ℕ) → command ≡ other
-    → Gives (fetches other) (output_of other) (IsOutputOf tells old other) (IsResult tells old other) tells old new text
-    → Gives (fetches command) (output_of command) (IsOutputOf tells old command) (IsResult tells old command) tells old new text
-found_gives command other tells old new text e gives =
-    subst (λ (c : CommandWords). Gives (fetches c) (output_of c) (IsOutputOf tells old c) (IsResult tells old c) tells old new text) (sym e) gives
+pub found_gives : (voices : List Voice) (command other : CommandWords) (tells : Bool) (old new : Held) (text : List ℕ) → command ≡ other
+    → Gives (fetches other) (output_of other) (IsOutputOf voices tells old other) (IsResult voices tells old other) tells old new text
+    → Gives (fetches command) (output_of command) (IsOutputOf voices tells old command) (IsResult voices tells old command) tells old new text
+found_gives voices command other tells old new text e gives =
+    subst (λ (c : CommandWords). Gives (fetches c) (output_of c) (IsOutputOf voices tells old c) (IsResult voices tells old c) tells old new text) (sym e) gives
 
-pub found_refuses : (command other : CommandWords) (tells : Bool) (old new : Held) (f g p q : Failures) (status : Status) → command ≡ other
-    → Refuses (fetches other) (output_of other) (IsOutputOf tells old other) tells old new f g p q status
-    → Refuses (fetches command) (output_of command) (IsOutputOf tells old command) tells old new f g p q status
-found_refuses command other tells old new f g p q status e refuses =
-    subst (λ (c : CommandWords). Refuses (fetches c) (output_of c) (IsOutputOf tells old c) tells old new f g p q status) (sym e) refuses
+pub found_refuses : (voices : List Voice) (command other : CommandWords) (tells : Bool) (old new : Held) (f g p q : Failures) (status : Status) → command ≡ other
+    → Refuses (fetches other) (output_of other) (IsOutputOf voices tells old other) tells old new f g p q status
+    → Refuses (fetches command) (output_of command) (IsOutputOf voices tells old command) tells old new f g p q status
+found_refuses voices command other tells old new f g p q status e refuses =
+    subst (λ (c : CommandWords). Refuses (fetches c) (output_of c) (IsOutputOf voices tells old c) tells old new f g p q status) (sym e) refuses

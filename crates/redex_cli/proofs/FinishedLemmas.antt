@@ -3,6 +3,7 @@ use Rattle.std.proofs.Common.{◌≡◌, ◌≤◌, ℕ, List, [], Bool, length,
 use Rattle.std.specs.Prelude.{IfOk}
 use Rattle.call_graph.specs.Closed.{IsClosedSet}
 use Rattle.call_graph.specs.declared.live_set.LiveSet.{LiveSet}
+use Rattle.command_line.specs.declared.command.Tell.{Tell}
 use Rattle.dex_base.specs.Reading.{Gives}
 use Rattle.dex_read.specs.Faults.{is_free}
 use Rattle.dex_read.specs.File.{program_at}
@@ -11,7 +12,7 @@ use Rattle.dex_write.specs.Written.{IsWritten}
 use Rattle.hierarchy.specs.Shapes.{IsCause}
 use Rattle.hierarchy.specs.declared.fault.HierarchyFault.{HierarchyFault}
 use Rattle.pipeline.specs.Inlined.{IsOptimisedInlined}
-use Rattle.pipeline.specs.Rounds.{IsOptimised}
+use Rattle.pipeline.specs.Rounds.{IsOptimisedBy}
 use Rattle.program_model.specs.ProgramRules.{is_well_formed}
 use Rattle.program_model.specs.declared.pass.Origin.{Origin}
 use Rattle.program_model.specs.declared.pass.Outside.{Outside}
@@ -19,7 +20,7 @@ use Rattle.program_model.specs.declared.program.Program.{Program}
 use Rattle.redex_outside.specs.Voices.{Voice}
 use Rattle.redex_cli.specs.Accepted.{IsAccepted}
 use Rattle.redex_cli.specs.Files.{AreRead, BytesRefused, FileRefused, HasGraphFault, IsDeclared, IsRead}
-use Rattle.redex_cli.specs.Finished.{Checks, Finished, IsWorkload, LeavesBy, Shrunk, program_text, sizes_in, summary_text}
+use Rattle.redex_cli.specs.Finished.{AreTold, Checks, Finished, IsWorkload, LeavesBy, Shrunk, program_text, sizes_in, summary_text}
 use Rattle.redex_cli.specs.Lists.{ListsFile, live_text}
 use Rattle.redex_cli.specs.Refusals.{IsDexFault, IsLibraryFault, IsLibraryRefusal, LibraryEnds, MadeRefused, ReadRefused, WorkRefused}
 use Rattle.redex_cli.specs.Tables.{IsTableWith}
@@ -35,21 +36,21 @@ pub well_formed_if : (bytes : List ℕ) (result : Result Program DexFault) → (
 well_formed_if bytes (Ok p) formed gives = formed p gives
 well_formed_if bytes (Err e) formed gives = tt
 
-pub leaves : (inline : Bool) (program : Program) (outside : Outside) (left : Program) (rounds spared advisers : ℕ) (old new : List Bool) (origins : List (List Origin))
-    → inline ≡ false → IsOptimised outside program advisers old new spared left origins rounds → LeavesBy inline program outside left rounds spared
-leaves inline program outside left rounds spared advisers old new origins none optimised =
-    subst (λ (chosen : Bool). LeavesBy chosen program outside left rounds spared) (sym none) (record { advisers = advisers; before = old; after = new; origins = origins; optimised = optimised })
+pub leaves : (inline : Bool) (voices news : List Voice) (given answers : List Bool) (program : Program) (outside : Outside) (left : Program) (rounds spared : ℕ) (origins : List (List Origin))
+    → inline ≡ false → IsOptimisedBy outside program voices news given answers spared left origins rounds → LeavesBy inline voices given program outside left rounds spared
+leaves inline voices news given answers program outside left rounds spared origins none optimised =
+    subst (λ (chosen : Bool). LeavesBy chosen voices given program outside left rounds spared) (sym none) (record { news = news; answers = answers; origins = origins; optimised = optimised })
 
-pub leaves_inlined : (inline : Bool) (program : Program) (outside : Outside) (left : Program) (rounds spared : ℕ) (olds news : List Voice) (old new : List Bool) (origins : List (List Origin))
-    → inline ≡ true → IsOptimisedInlined outside program olds news old new spared left origins rounds → LeavesBy inline program outside left rounds spared
-leaves_inlined inline program outside left rounds spared olds news old new origins some optimised =
-    subst (λ (chosen : Bool). LeavesBy chosen program outside left rounds spared) (sym some) (record { olds = olds; news = news; before = old; after = new; origins = origins; optimised = optimised })
+pub leaves_inlined : (inline : Bool) (voices news : List Voice) (given answers : List Bool) (program : Program) (outside : Outside) (left : Program) (rounds spared : ℕ) (origins : List (List Origin))
+    → inline ≡ true → IsOptimisedInlined outside program voices news given answers spared left origins rounds → LeavesBy inline voices given program outside left rounds spared
+leaves_inlined inline voices news given answers program outside left rounds spared origins some optimised =
+    subst (λ (chosen : Bool). LeavesBy chosen voices given program outside left rounds spared) (sym some) (record { news = news; answers = answers; origins = origins; optimised = optimised })
 
-pub shrunk : (inline : Bool) (program : Program) (outside : Outside) (before after : Sizes) (left : Program) (rounds spared : ℕ) (output summary : List ℕ)
-    → LeavesBy inline program outside left rounds spared
+pub shrunk : (inline : Bool) (voices : List Voice) (given : List Bool) (program : Program) (outside : Outside) (before after : Sizes) (left : Program) (rounds spared : ℕ) (output summary : List ℕ)
+    → LeavesBy inline voices given program outside left rounds spared
     → IsWritten left output → after ≡ sizes_in left (length output) → summary ≡ summary_text before after rounds spared → 1 ≤ rounds
-    → Shrunk inline program outside before output summary
-shrunk inline program outside before after left rounds spared output summary leaves written sizes says one_round = record {
+    → Shrunk inline voices given program outside before output summary
+shrunk inline voices given program outside before after left rounds spared output summary leaves written sizes says one_round = record {
   left = left;
   rounds = rounds;
   spared = spared;
@@ -59,21 +60,29 @@ shrunk inline program outside before after left rounds spared output summary lea
   one_round = one_round;
 }
 
--- the file is found to have so many bytes
-pub finished : (inline : Bool) (program : Program) (outside : Outside) (inputs : Inputs) (bytes : ℕ) (output summary : List ℕ) → bytes ≡ length inputs.file
-    → program_at inputs.file ≡ Ok program → IsAccepted program → IsTableWith inputs.rules inputs.library program outside
-    → Shrunk inline program outside (sizes_in program bytes) output summary → Finished inline inputs output summary
-finished inline program outside inputs bytes output summary same reads accepted table shrunk = record {
+-- the file is found to have so many bytes, and the advisers were told and not yet asked
+pub finished : (inline : Bool) (voices told : List Voice) (tells : List Tell) (given : List Bool) (program : Program) (outside : Outside) (inputs : Inputs) (bytes : ℕ) (output summary : List ℕ) → bytes ≡ length inputs.file
+    → program_at inputs.file ≡ Ok program → IsAccepted program → IsTableWith inputs.rules inputs.library program outside → AreTold tells voices told → given ≡ []
+    → Shrunk inline told given program outside (sizes_in program bytes) output summary → Finished inline voices tells inputs output summary
+finished inline voices told tells given program outside inputs bytes output summary same reads accepted table are_told unasked shrunk = record {
   program = program;
   reads = reads;
   accepted = accepted;
   outside = outside;
   table = table;
-  shrunk = subst (λ (n : ℕ). Shrunk inline program outside (sizes_in program n) output summary) same shrunk;
+  told = told;
+  are_told = are_told;
+  shrunk = subst (λ (n : ℕ). Shrunk inline told [] program outside (sizes_in program n) output summary) same
+      (subst (λ (answers : List Bool). Shrunk inline told answers program outside (sizes_in program bytes) output summary) unasked shrunk);
 }
 
-pub is_workload : (inputs : Inputs) (output text : List ℕ) → inputs.library ≡ None → Finished false inputs output text → IsWorkload text
-is_workload inputs output text alone finished = record { inputs = inputs; alone = alone; output = output; finished = finished }
+pub is_workload : (voices : List Voice) (tells : List Tell) (inputs : Inputs) (output text : List ℕ) → tells ≡ [] → inputs.library ≡ None → Finished false voices tells inputs output text → IsWorkload voices text
+is_workload voices tells inputs output text none alone finished = record {
+  inputs = inputs;
+  alone = alone;
+  output = output;
+  finished = subst (λ (l : List Tell). Finished false voices l inputs output text) none finished;
+}
 
 pub made : (inputs : Inputs) (status : Status) → inputs.library ≡ None → WorkRefused inputs status → BytesRefused inputs status → MadeRefused status
 made inputs status alone refused bytes = record { inputs = inputs; alone = alone; refused = refused; bytes = bytes }

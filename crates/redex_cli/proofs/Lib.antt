@@ -7,3 +7,4 @@ pub mod SaidLemmas
 pub mod ScriptLemmas
 pub mod Traced
 pub mod WordsLemmas
+pub mod Tells

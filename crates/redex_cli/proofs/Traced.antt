@@ -17,7 +17,7 @@ use Rattle.keep_rules.specs.Table.{IsTable}
 use Rattle.program_model.specs.declared.pass.Outside.{Outside}
 use Rattle.program_model.specs.declared.program.Program.{Program}
 use Rattle.program_model.specs.ProgramRules.{is_well_formed}
-use Rattle.reach.specs.Kept.{Closes}
+use Rattle.reach.specs.Closing.{Closes}
 use Rattle.rule_text.specs.ReadEntries.{IsReading}
 use Rattle.rule_text.specs.Related.{AreEntriesOf}
 use Rattle.rule_text.specs.Rules.{Entry}
@@ -49,7 +49,7 @@ subject p o f a script accepted =
 -- what the table of the rules is, from what is answered for all entries that are those of the rules
 pub table_for : (rules : Rules) (text : List ℕ) (p : Program) (h : Hierarchy) (ruled outside : Outside) → is_well_formed p ≡ true → IsResolved p h
     → ((es : List Entry) → is_well_formed p ≡ true → IsOf p h → AreEntriesOf rules.entries.items es → IsTable p es ruled)
-    → IsReading text rules → Closes ruled outside → IsTableFor text p outside
+    → IsReading text rules → Closes p ruled outside → IsTableFor text p outside
 table_for rules text p h ruled outside well resolved tables reading closes = record {
   entries = reading.entries;
   spells = reading.spells;

@@ -1,6 +1,7 @@
 -- From what a command says to what the words say.
 use Rattle.std.proofs.Common.{◌≡◌, ◌≤◌, ℕ, List, [], ◌∷◌, Bool, true, false, IsTrue, Option, None, Some, refl, sym, ap, subst, ◌∙◌, inl, inr}
 use Rattle.redex_outside.specs.Held.{Held}
+use Rattle.redex_outside.specs.Voices.{Voice}
 use Rattle.program_model.specs.declared.limits.Counted.{Counted}
 use Rattle.command_line.specs.Spelling.{Spells, AsksFor, sorted_of}
 use Rattle.command_line.specs.Spelling as spelling
@@ -59,63 +60,63 @@ output_by_words : (words : List (List ℕ)) (command : CommandWords) (name : Lis
 output_by_words words command name only puts =
     subst (λ (c : CommandWords). output_of c ≡ Some name) (only puts.command puts.spelled) puts.output
 
-output_by : (words : List (List ℕ)) (command : CommandWords) (tells : Bool) (held : Held) → Spells words command
-    → (output summary : List ℕ) → IsOutputOf tells held command output summary → OutputBy words tells held output summary
-output_by words command tells held spelled output summary final = record { command = command; spelled = spelled; final = final }
+output_by : (words : List (List ℕ)) (voices : List Voice) (command : CommandWords) (tells : Bool) (held : Held) → Spells words command
+    → (output summary : List ℕ) → IsOutputOf voices tells held command output summary → OutputBy words voices tells held output summary
+output_by words voices command tells held spelled output summary final = record { command = command; spelled = spelled; final = final }
 
-holds_finished : (words : List (List ℕ)) (command : CommandWords) (tells : Bool) (old : Held) → Spells words command → (new : Option (List ℕ))
-    → HoldsFinished (IsOutputOf tells old command) new → HoldsFinished (OutputBy words tells old) new
-holds_finished words command tells old spelled new h =
-    record { output = h.output; summary = h.summary; final = output_by words command tells old spelled h.output h.summary h.final; there = h.there }
+holds_finished : (words : List (List ℕ)) (voices : List Voice) (command : CommandWords) (tells : Bool) (old : Held) → Spells words command → (new : Option (List ℕ))
+    → HoldsFinished (IsOutputOf voices tells old command) new → HoldsFinished (OutputBy words voices tells old) new
+holds_finished words voices command tells old spelled new h =
+    record { output = h.output; summary = h.summary; final = output_by words voices command tells old spelled h.output h.summary h.final; there = h.there }
 
 -- what the output's name holds, from what a command says to what its words say
-output_holds : (words : List (List ℕ)) (command : CommandWords) (tells : Bool) (held : Held) → Spells words command → (status : Status) (p q : ℕ) (old new : Option (List ℕ))
-    → OutputHolds (IsOutputOf tells held command) status p q old new → OutputHolds (OutputBy words tells held) status p q old new
-output_holds words command tells held spelled Done p q old new h = holds_finished words command tells held spelled new h
-output_holds words command tells held spelled WriteFault p q old new (inl h) = inl (holds_finished words command tells held spelled new h)
-output_holds words command tells held spelled WriteFault p q old new (inr h) = inr (record {
+output_holds : (words : List (List ℕ)) (voices : List Voice) (command : CommandWords) (tells : Bool) (held : Held) → Spells words command → (status : Status) (p q : ℕ) (old new : Option (List ℕ))
+    → OutputHolds (IsOutputOf voices tells held command) status p q old new → OutputHolds (OutputBy words voices tells held) status p q old new
+output_holds words voices command tells held spelled Done p q old new h = holds_finished words voices command tells held spelled new h
+output_holds words voices command tells held spelled WriteFault p q old new (inl h) = inl (holds_finished words voices command tells held spelled new h)
+output_holds words voices command tells held spelled WriteFault p q old new (inr h) = inr (record {
   output = h.output;
   summary = h.summary;
-  final = output_by words command tells held spelled h.output h.summary h.final;
+  final = output_by words voices command tells held spelled h.output h.summary h.final;
   rose = h.rose;
   there = h.there;
 })
-output_holds words command tells held spelled NoMemory p q old new (inl e) = inl e
-output_holds words command tells held spelled NoMemory p q old new (inr h) = inr (holds_finished words command tells held spelled new h)
-output_holds words command tells held spelled Usage p q old new e = e
-output_holds words command tells held spelled (BadRules fault) p q old new e = e
-output_holds words command tells held spelled (BadDex fault) p q old new e = e
-output_holds words command tells held spelled (Limit fault) p q old new e = e
-output_holds words command tells held spelled ReadFault p q old new e = e
-output_holds words command tells held spelled (BadScript line) p q old new e = e
+output_holds words voices command tells held spelled NoMemory p q old new (inl e) = inl e
+output_holds words voices command tells held spelled NoMemory p q old new (inr h) = inr (holds_finished words voices command tells held spelled new h)
+output_holds words voices command tells held spelled Usage p q old new e = e
+output_holds words voices command tells held spelled (BadRules fault) p q old new e = e
+output_holds words voices command tells held spelled (BadDex fault) p q old new e = e
+output_holds words voices command tells held spelled (Limit fault) p q old new e = e
+output_holds words voices command tells held spelled ReadFault p q old new e = e
+output_holds words voices command tells held spelled (BadScript line) p q old new e = e
 
-pub words_refuse : (words : List (List ℕ)) (command : CommandWords) (tells : Bool) (old new : Held) (f g p q : Failures) (status : Status)
+pub words_refuse : (words : List (List ℕ)) (voices : List Voice) (command : CommandWords) (tells : Bool) (old new : Held) (f g p q : Failures) (status : Status)
     → Spells words command → ((c : CommandWords) → Spells words c → c ≡ command)
-    → Refuses (fetches command) (output_of command) (IsOutputOf tells old command) tells old new f g p q status
-    → RefusesFor words tells old new f g p q status
-words_refuse words command tells old new f g p q status spelled only r = record {
+    → Refuses (fetches command) (output_of command) (IsOutputOf voices tells old command) tells old new f g p q status
+    → RefusesFor words voices tells old new f g p q status
+words_refuse words voices command tells old new f g p q status spelled only r = record {
   cause = words_cause words command tells old f g p q status spelled r.cause;
   unspelled = λ none. absurd (none command spelled);
   too_long = λ counted told long. r.too_long counted told (long_of words command old counted only long);
   stays = λ told. record {
     refused = (r.stays told).refused;
     others = λ name differs. (r.stays told).others name (λ e. differs (record { command = command; spelled = spelled; output = e }));
-    output = λ name puts. output_holds words command tells old spelled status (p name) (q name) (old name) (new name)
+    output = λ name puts. output_holds words voices command tells old spelled status (p name) (q name) (old name) (new name)
         ((r.stays told).output name (output_by_words words command name only puts));
   };
 }
 
-pub words_give : (words : List (List ℕ)) (command : CommandWords) (tells : Bool) (old new : Held) (text : List ℕ)
+pub words_give : (words : List (List ℕ)) (voices : List Voice) (command : CommandWords) (tells : Bool) (old new : Held) (text : List ℕ)
     → Spells words command → ((c : CommandWords) → Spells words c → c ≡ command)
-    → Gives (fetches command) (output_of command) (IsOutputOf tells old command) (IsResult tells old command) tells old new text
-    → GivesFor words tells old new text
-words_give words command tells old new text spelled only g = record {
+    → Gives (fetches command) (output_of command) (IsOutputOf voices tells old command) (IsResult voices tells old command) tells old new text
+    → GivesFor words voices tells old new text
+words_give words voices command tells old new text spelled only g = record {
   answer = record { command = command; spelled = spelled; result = g.answer };
   read = λ told c is. subst (λ (d : CommandWords). AllRead old (fetches d)) (sym (only c is)) (g.read told);
   within = λ counted told long. within_or_long old (fetches command) counted (g.within told) (long_of words command old counted only long);
   others = λ told name differs. g.others told name (λ e. differs (record { command = command; spelled = spelled; output = e }));
   put = λ told name puts. let h = g.put told name (output_by_words words command name only puts) in
-      record { output = h.output; final = output_by words command tells old spelled h.output text h.final; there = h.there };
+      record { output = h.output; final = output_by words voices command tells old spelled h.output text h.final; there = h.there };
 }
 
 -- ---- words that are refused before anything is fetched
@@ -142,11 +143,11 @@ early_keeps words Usage r = tt
 early_keeps words NoMemory r = tt
 early_keeps words _ r = absurd r
 
-pub early_refuses : (words : List (List ℕ)) (tells : Bool) (held : Held) (f p : Failures) (status : Status)
-    → WordsRefused words status → RefusesFor words tells held held f f p p status
-early_refuses words tells held f p status r = record {
+pub early_refuses : (words : List (List ℕ)) (voices : List Voice) (tells : Bool) (held : Held) (f p : Failures) (status : Status)
+    → WordsRefused words status → RefusesFor words voices tells held held f f p p status
+early_refuses words voices tells held f p status r = record {
   cause = early_cause words tells held f p status r;
   unspelled = λ _. early_unspelled words status r;
   too_long = λ counted told long. early_long words held status counted r long;
-  stays = λ told. stays_same (Puts words) (OutputBy words tells held) status p p held held (early_keeps words status r) (λ name. refl);
+  stays = λ told. stays_same (Puts words) (OutputBy words voices tells held) status p p held held (early_keeps words status r) (λ name. refl);
 }

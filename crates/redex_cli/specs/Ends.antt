@@ -3,6 +3,7 @@ use Rattle.std.specs.Prelude.{◌≡◌, ◌⊎◌, ◌++◌, ℕ, List, Bool, I
 use Rattle.program_model.specs.declared.limits.Counted.{Counted}
 use Rattle.redex_outside.specs.Counts.{Rose}
 use Rattle.redex_outside.specs.Held.{Held}
+use Rattle.redex_outside.specs.Voices.{Voice}
 use Rattle.redex_cli.specs.Commands.{Puts, SpellsNothing}
 use Rattle.redex_cli.specs.Fetching.{Failures}
 use Rattle.redex_cli.specs.Finished.{Results}
@@ -26,19 +27,19 @@ Caused words tells held fetches_old fetches_new puts_old puts_new notes_old note
 
 -- The whole result of the words' command was said, and the name that it has put, if it has one, holds the finished
 -- output that this result sums up.
-pub record Delivers (words : List (List ℕ)) (tells : Bool) (old new : Held) (said_old said_new : List ℕ) : Type 0 where
+pub record Delivers (words : List (List ℕ)) (voices : List Voice) (tells : Bool) (old new : Held) (said_old said_new : List ℕ) : Type 0 where
   pub text : List ℕ
-  pub answer : Results words tells old text
+  pub answer : Results words voices tells old text
   pub said : said_new ≡ said_old ++ text
-  pub put : (name : List ℕ) → Puts words name → HoldsSummed (OutputBy words tells old) text (new name)
+  pub put : (name : List ℕ) → Puts words name → HoldsSummed (OutputBy words voices tells old) text (new name)
 
 -- All of it together.
-pub record Ends (words : List (List ℕ)) (tells : Bool) (old new : Held) (fetches_old fetches_new puts_old puts_new : Failures)
+pub record Ends (words : List (List ℕ)) (voices : List Voice) (tells : Bool) (old new : Held) (fetches_old fetches_new puts_old puts_new : Failures)
     (notes_tell : Bool) (said_old said_new : List ℕ) (notes_old notes_new : ℕ) (status : Status) : Type 0 where
   pub cause : Caused words tells old fetches_old fetches_new puts_old puts_new notes_old notes_new status
   pub unspelled : SpellsNothing words → EndsUnspelled status
   pub too_long : (counted : Counted) → IsTrue tells → TooLong words old counted → EndsTooLong counted status
-  pub stays : IsTrue tells → Stays (Puts words) (OutputBy words tells old) status puts_old puts_new old new
-  pub said : IsTrue notes_tell → Said (Results words tells old) status notes_old notes_new said_old said_new
+  pub stays : IsTrue tells → Stays (Puts words) (OutputBy words voices tells old) status puts_old puts_new old new
+  pub said : IsTrue notes_tell → Said (Results words voices tells old) status notes_old notes_new said_old said_new
   pub read : status ≡ Done → IsTrue tells → ReadsAll words old
-  pub done : status ≡ Done → IsTrue tells → IsTrue notes_tell → Delivers words tells old new said_old said_new
+  pub done : status ≡ Done → IsTrue tells → IsTrue notes_tell → Delivers words voices tells old new said_old said_new

@@ -1,15 +1,20 @@
 -- What a command gives: a file to be put, and a text to be said.
-use Rattle.std.specs.Prelude.{◌≡◌, ◌≤◌, ℕ, Bool, true, false, IsTrue, Ok, None, Some, Option, List, ◌++◌, length, sum_by, codes}
+use Rattle.std.specs.Prelude.{◌≡◌, ◌≤◌, ℕ, Bool, true, false, IsTrue, Ok, None, Some, Option, List, [], ◌++◌, length, map, sum_by, codes}
 use Rattle.std.specs.Fmt.{decimal}
 use Rattle.command_line.specs.Spelling.{Spells}
 use Rattle.command_line.specs.declared.command.CommandWords.{CommandWords}
 use Rattle.command_line.specs.declared.command.CommandWords.TheVariants.{Nothing, Optimise, Check, Live, Trace, Workload}
 use Rattle.command_line.specs.declared.command.OptimiseWords.{OptimiseWords}
+use Rattle.command_line.specs.declared.command.Tell.{Tell}
+use Rattle.command_line.specs.declared.command.Tell.TheVariants as say
 use Rattle.redex_cli.specs.FaultLines.{usage_text}
 use Rattle.dex_read.specs.File.{program_at}
 use Rattle.dex_write.specs.Written.{IsWritten}
 use Rattle.redex_outside.specs.Held.{Held}
+use Rattle.redex_outside.specs.Panels.{HasRun}
+use Rattle.redex_outside.specs.Turns.{Turn, Told}
 use Rattle.redex_outside.specs.Voices.{Voice}
+use Rattle.redex_outside.specs.declared.adviser.Key.TheVariants as key
 use Rattle.redex_cli.specs.Files.{AreHeld, HoldsProgram}
 use Rattle.program_model.specs.declared.pass.Origin.{Origin}
 use Rattle.program_model.specs.declared.pass.Outside.{Outside}
@@ -17,7 +22,7 @@ use Rattle.program_model.specs.declared.program.Program.{Program}
 use Rattle.program_model.specs.Cells.{capped}
 use Rattle.pipeline.specs.Counts.{insns_of, members_of}
 use Rattle.pipeline.specs.Inlined.{IsOptimisedInlined}
-use Rattle.pipeline.specs.Rounds.{IsOptimised}
+use Rattle.pipeline.specs.Rounds.{IsOptimisedBy}
 use Rattle.redex_cli.specs.Accepted.{IsAccepted}
 use Rattle.redex_cli.specs.Lists.{IsListed}
 use Rattle.redex_cli.specs.Tables.{IsTableWith}
@@ -52,72 +57,84 @@ sizes_in program bytes = record {
   bytes = bytes;
 }
 
--- What is left of the program in so many rounds, with so many methods spared, whatever the advisers were and answered, and wherever
--- its positions come from.
-pub record Leaves (program : Program) (outside : Outside) (left : Program) (rounds spared : ℕ) : Type 0 where
-  pub advisers : ℕ
-  pub before : List Bool
-  pub after : List Bool
-  pub origins : List (List Origin)
-  pub optimised : IsOptimised outside program advisers before after spared left origins rounds
+-- ---- what is left
 
--- The same where calls are inlined before the rounds, whatever the advisers reply.
-pub record LeavesInlined (program : Program) (outside : Outside) (left : Program) (rounds spared : ℕ) : Type 0 where
-  pub olds : List Voice
+-- The turn that each adviser takes when it is told something.
+abbrev pub turn_told : Tell → Turn
+turn_told (say.Spare prefix) = Told key.Spare 0 prefix
+turn_told (say.AtMost number) = Told key.AtMost number []
+
+-- Advisers who reply so at first were told this, and nothing was asked; they reply so then, as they would have behind what they were
+-- told.
+abbrev pub AreTold : List Tell → List Voice → List Voice → Type 0
+AreTold tells voices told = HasRun (map turn_told tells) voices told [] []
+
+-- What is left of the program in so many rounds, with so many methods spared, wherever its positions come from. Advisers who reply so,
+-- and whose answers stand behind those that were given, were asked about methods.
+pub record Leaves (voices : List Voice) (given : List Bool) (program : Program) (outside : Outside) (left : Program) (rounds spared : ℕ) : Type 0 where
   pub news : List Voice
-  pub before : List Bool
-  pub after : List Bool
+  pub answers : List Bool
   pub origins : List (List Origin)
-  pub optimised : IsOptimisedInlined outside program olds news before after spared left origins rounds
+  pub optimised : IsOptimisedBy outside program voices news given answers spared left origins rounds
+
+-- The same where calls are inlined before the rounds, about which they were asked too.
+pub record LeavesInlined (voices : List Voice) (given : List Bool) (program : Program) (outside : Outside) (left : Program) (rounds spared : ℕ) : Type 0 where
+  pub news : List Voice
+  pub answers : List Bool
+  pub origins : List (List Origin)
+  pub optimised : IsOptimisedInlined outside program voices news given answers spared left origins rounds
 
 -- The one or the other, as the words ask.
-abbrev pub LeavesBy : Bool → Program → Outside → Program → ℕ → ℕ → Type 0
-LeavesBy false program outside left rounds spared = Leaves program outside left rounds spared
-LeavesBy true program outside left rounds spared = LeavesInlined program outside left rounds spared
+abbrev pub LeavesBy : Bool → List Voice → List Bool → Program → Outside → Program → ℕ → ℕ → Type 0
+LeavesBy false voices given program outside left rounds spared = Leaves voices given program outside left rounds spared
+LeavesBy true voices given program outside left rounds spared = LeavesInlined voices given program outside left rounds spared
 
--- The output is the file that is written for what is left of the program by this table, and the summary counts the program,
--- whose sizes are these, what is left, its file, the rounds and the spared methods.
-pub record Shrunk (inline : Bool) (program : Program) (outside : Outside) (before : Sizes) (output summary : List ℕ) : Type 0 where
+-- The output is the file that is written for what is left of the program by this table, when such advisers are asked, and the summary
+-- counts the program, whose sizes are these, what is left, its file, the rounds and the spared methods.
+pub record Shrunk (inline : Bool) (voices : List Voice) (given : List Bool) (program : Program) (outside : Outside) (before : Sizes) (output summary : List ℕ) : Type 0 where
   pub left : Program
   pub rounds : ℕ
   pub spared : ℕ
-  pub leaves : LeavesBy inline program outside left rounds spared
+  pub leaves : LeavesBy inline voices given program outside left rounds spared
   pub written : IsWritten left output
   pub says : summary ≡ summary_text before (sizes_in left (length output)) rounds spared
   pub one_round : 1 ≤ rounds
 
 -- The output is the finished one of these inputs, and this is its summary: the file spells a program that is accepted, and the
--- output is what is written for what is left of it by the table of the rules and the library.
-pub record Finished (inline : Bool) (inputs : Inputs) (output summary : List ℕ) : Type 0 where
+-- output is what is written for what is left of it by the table of the rules and the library. The advisers, who reply so at first, were
+-- told this, and asked then.
+pub record Finished (inline : Bool) (voices : List Voice) (tells : List Tell) (inputs : Inputs) (output summary : List ℕ) : Type 0 where
   pub program : Program
   pub reads : program_at inputs.file ≡ Ok program
   pub accepted : IsAccepted program
   pub outside : Outside
   pub table : IsTableWith inputs.rules inputs.library program outside
-  pub shrunk : Shrunk inline program outside (sizes_in program (length inputs.file)) output summary
+  pub told : List Voice
+  pub are_told : AreTold tells voices told
+  pub shrunk : Shrunk inline told [] program outside (sizes_in program (length inputs.file)) output summary
 
--- The same of what the names hold that these words have fetched, where the shelf tells it.
-pub record FinishedOf (tells : Bool) (held : Held) (words : OptimiseWords) (output summary : List ℕ) : Type 0 where
+-- The same of what the names hold that these words have fetched, where the shelf tells it, with the advisers told what the words say.
+pub record FinishedOf (voices : List Voice) (tells : Bool) (held : Held) (words : OptimiseWords) (output summary : List ℕ) : Type 0 where
   pub inputs : Inputs
   pub are : AreHeld tells held words.rules words.input words.library inputs
-  pub finished : Finished words.inline inputs output summary
+  pub finished : Finished words.inline voices words.tells inputs output summary
 
--- The output and the summary that a command may have, on what the names hold. The workload's is put nowhere.
-abbrev pub IsOutputOf : Bool → Held → CommandWords → List ℕ → List ℕ → Type 0
-IsOutputOf tells held (Optimise words) output summary = FinishedOf tells held words output summary
-IsOutputOf tells held _ output summary = ⊥
+-- The output and the summary that a command may have, on what the names hold, with advisers who reply so at first. The workload's is put nowhere.
+abbrev pub IsOutputOf : List Voice → Bool → Held → CommandWords → List ℕ → List ℕ → Type 0
+IsOutputOf voices tells held (Optimise words) output summary = FinishedOf voices tells held words output summary
+IsOutputOf voices tells held _ output summary = ⊥
 
 -- A text that is the summary of such an output.
 pub record IsSummary (IsOutput : List ℕ → List ℕ → Type 0) (text : List ℕ) : Type 0 where
   pub output : List ℕ
   pub final : IsOutput output text
 
--- The same of some inputs without a library, which the workload makes itself. Nothing is inlined.
-pub record IsWorkload (text : List ℕ) : Type 0 where
+-- The same of some inputs without a library, which the workload makes itself. Nothing is inlined, and the advisers are told nothing.
+pub record IsWorkload (voices : List Voice) (text : List ℕ) : Type 0 where
   pub inputs : Inputs
   pub alone : inputs.library ≡ None
   pub output : List ℕ
-  pub finished : Finished false inputs output text
+  pub finished : Finished false voices [] inputs output text
 
 -- `ok: C classes, M methods, I instructions`
 abbrev pub checked_text : ℕ → ℕ → ℕ → List ℕ
@@ -145,17 +162,17 @@ pub record IsChecked (tells : Bool) (held : Held) (name text : List ℕ) : Type 
   pub accepted : IsAccepted program
   pub says : text ≡ program_text program
 
--- The text is the command's result on what the names hold.
-abbrev pub IsResult : Bool → Held → CommandWords → List ℕ → Type 0
-IsResult tells held Nothing text = text ≡ usage_text
-IsResult tells held (Optimise words) text = IsSummary (FinishedOf tells held words) text
-IsResult tells held (Check input) text = IsChecked tells held input text
-IsResult tells held (Live rules input library) text = IsListed tells held rules input library text
-IsResult tells held (Trace rules input script steps library) text = IsTraced tells held rules input library script steps text
-IsResult tells held (Workload count) text = IsWorkload text
+-- The text is the command's result on what the names hold, with advisers who reply so at first.
+abbrev pub IsResult : List Voice → Bool → Held → CommandWords → List ℕ → Type 0
+IsResult voices tells held Nothing text = text ≡ usage_text
+IsResult voices tells held (Optimise words) text = IsSummary (FinishedOf voices tells held words) text
+IsResult voices tells held (Check input) text = IsChecked tells held input text
+IsResult voices tells held (Live rules input library) text = IsListed tells held rules input library text
+IsResult voices tells held (Trace rules input script steps library) text = IsTraced tells held rules input library script steps text
+IsResult voices tells held (Workload count) text = IsWorkload voices text
 
 -- The text is the result of the command that the words spell.
-pub record Results (words : List (List ℕ)) (tells : Bool) (held : Held) (text : List ℕ) : Type 0 where
+pub record Results (words : List (List ℕ)) (voices : List Voice) (tells : Bool) (held : Held) (text : List ℕ) : Type 0 where
   pub command : CommandWords
   pub spelled : Spells words command
-  pub result : IsResult tells held command text
+  pub result : IsResult voices tells held command text

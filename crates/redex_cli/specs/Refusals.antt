@@ -17,6 +17,7 @@ use Rattle.program_model.specs.declared.limits.Counted.{Counted}
 use Rattle.program_model.specs.declared.limits.LimitFault.{LimitFault}
 use Rattle.redex_outside.specs.Counts.{Rose}
 use Rattle.redex_outside.specs.Held.{Held}
+use Rattle.redex_outside.specs.Voices.{Voice}
 use Rattle.command_line.specs.declared.command.CommandWords.{CommandWords}
 use Rattle.command_line.specs.Spelling.{Spells}
 use Rattle.redex_cli.specs.Commands.{Fetch, Puts, SpellsNothing, fetches, output_of}
@@ -209,11 +210,11 @@ pub record HasRulesFault (words : List (List ℕ)) (tells : Bool) (held : Held) 
   pub spelled : Spells words command
   pub cause : RulesFault tells held (fetches command) fault
 
--- The words' command may have this output, with this summary.
-pub record OutputBy (words : List (List ℕ)) (tells : Bool) (held : Held) (output summary : List ℕ) : Type 0 where
+-- The words' command may have this output, with this summary, with advisers who reply so at first.
+pub record OutputBy (words : List (List ℕ)) (voices : List Voice) (tells : Bool) (held : Held) (output summary : List ℕ) : Type 0 where
   pub command : CommandWords
   pub spelled : Spells words command
-  pub final : IsOutputOf tells held command output summary
+  pub final : IsOutputOf voices tells held command output summary
 
 -- The files that the words have fetched spell programs that are accepted, and the library declares one.
 abbrev pub ReadsAll : List (List ℕ) → Held → Type 0
@@ -256,17 +257,17 @@ CauseFor words tells held fetches_old fetches_new puts_old puts_new NoMemory = U
 CauseFor words tells held fetches_old fetches_new puts_old puts_new (BadScript line) = HasBadLine words tells held line
 
 -- These words are refused with this status.
-pub record RefusesFor (words : List (List ℕ)) (tells : Bool) (old new : Held)
+pub record RefusesFor (words : List (List ℕ)) (voices : List Voice) (tells : Bool) (old new : Held)
     (fetches_old fetches_new puts_old puts_new : Failures) (status : Status) : Type 0 where
   pub cause : CauseFor words tells old fetches_old fetches_new puts_old puts_new status
   pub unspelled : SpellsNothing words → EndsUnspelled status
   pub too_long : (counted : Counted) → IsTrue tells → TooLong words old counted → EndsTooLong counted status
-  pub stays : IsTrue tells → Stays (Puts words) (OutputBy words tells old) status puts_old puts_new old new
+  pub stays : IsTrue tells → Stays (Puts words) (OutputBy words voices tells old) status puts_old puts_new old new
 
 -- These words give this text to be said.
-pub record GivesFor (words : List (List ℕ)) (tells : Bool) (old new : Held) (text : List ℕ) : Type 0 where
-  pub answer : Results words tells old text
+pub record GivesFor (words : List (List ℕ)) (voices : List Voice) (tells : Bool) (old new : Held) (text : List ℕ) : Type 0 where
+  pub answer : Results words voices tells old text
   pub read : IsTrue tells → ReadsAll words old
   pub within : (counted : Counted) → IsTrue tells → TooLong words old counted → ⊥
   pub others : IsTrue tells → (name : List ℕ) → (Puts words name → ⊥) → new name ≡ old name
-  pub put : IsTrue tells → (name : List ℕ) → Puts words name → HoldsSummed (OutputBy words tells old) text (new name)
+  pub put : IsTrue tells → (name : List ℕ) → Puts words name → HoldsSummed (OutputBy words voices tells old) text (new name)

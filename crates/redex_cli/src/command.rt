@@ -1,6 +1,6 @@
 //! What each command fetches and puts.
 
-ghost use Rattle.std.specs.Prelude.{◌≡◌, ◌≤◌, [], None, Some, IsTrue, IfOk, IfErr};
+ghost use Rattle.std.specs.Prelude.{◌≡◌, ◌≤◌, [], None, Some, IsTrue, IfOk, IfErr, map};
 ghost use Rattle.redex_cli.specs.Commands.{CountsWithin, fetches, file_alone, input_files, output_of, trace_files};
 ghost use Rattle.redex_cli.specs.FaultLines.{usage_text};
 ghost use Rattle.redex_cli.specs.Finished.{FinishedOf, IsChecked, IsOutputOf, IsResult, IsSummary, IsWorkload};
@@ -24,11 +24,12 @@ fn run_optimise<H: Shelf>(
     advisers: Vec<Box<dyn Adviser>>,
 ) -> Result<Vec<u8>, Status>
     ensures given { IfOk result (λ text. Gives (input_files words.now.rules words.now.input words.now.library) (Some words.now.output)
-        (FinishedOf (H.tells shelf.old) (H.held shelf.old) words.now)
-        (IsSummary (FinishedOf (H.tells shelf.old) (H.held shelf.old) words.now))
+        (FinishedOf (map (λ b. (⟦<dyn Adviser as Adviser>⟧ b.vtable).replies b.value) advisers.items) (H.tells shelf.old) (H.held shelf.old) words.now)
+        (IsSummary (FinishedOf (map (λ b. (⟦<dyn Adviser as Adviser>⟧ b.vtable).replies b.value) advisers.items)
+        (H.tells shelf.old) (H.held shelf.old) words.now))
         (H.tells shelf.old) (H.held shelf.old) (H.held shelf.new) text.items) }
     ensures refused { IfErr result (λ status. Refuses (input_files words.now.rules words.now.input words.now.library) (Some words.now.output)
-        (FinishedOf (H.tells shelf.old) (H.held shelf.old) words.now)
+        (FinishedOf (map (λ b. (⟦<dyn Adviser as Adviser>⟧ b.vtable).replies b.value) advisers.items) (H.tells shelf.old) (H.held shelf.old) words.now)
         (H.tells shelf.old) (H.held shelf.old) (H.held shelf.new) (H.fetch_faults shelf.old) (H.fetch_faults shelf.new) (H.put_faults shelf.old) (H.put_faults shelf.new) status) }
 {
     let inputs = match fetch_inputs(alloc, shelf, &words.rules, &words.input, &words.library) {
@@ -139,7 +140,7 @@ fn run_workload(
     advisers: Vec<Box<dyn Adviser>>,
 ) -> Result<Vec<u8>, Status>
     requires { count ≤ 2000 }
-    ensures summary { IfOk result (λ text. IsWorkload text.items) }
+    ensures summary { IfOk result (λ text. IsWorkload (map (λ b. (⟦<dyn Adviser as Adviser>⟧ b.vtable).replies b.value) advisers.items) text.items) }
     ensures refused { IfErr result MadeRefused }
 {
     match optimise_workload(alloc, count, advisers) {
@@ -158,9 +159,11 @@ pub fn perform<H: Shelf>(
 ) -> Result<Vec<u8>, Status>
     requires { CountsWithin command.now }
     ensures given { IfOk result (λ text. Gives (fetches command.now) (output_of command.now)
-        (IsOutputOf (H.tells shelf.old) (H.held shelf.old) command.now) (IsResult (H.tells shelf.old) (H.held shelf.old) command.now)
+        (IsOutputOf (map (λ b. (⟦<dyn Adviser as Adviser>⟧ b.vtable).replies b.value) advisers.items) (H.tells shelf.old) (H.held shelf.old) command.now)
+        (IsResult (map (λ b. (⟦<dyn Adviser as Adviser>⟧ b.vtable).replies b.value) advisers.items) (H.tells shelf.old) (H.held shelf.old) command.now)
         (H.tells shelf.old) (H.held shelf.old) (H.held shelf.new) text.items) }
-    ensures refused { IfErr result (λ status. Refuses (fetches command.now) (output_of command.now) (IsOutputOf (H.tells shelf.old) (H.held shelf.old) command.now)
+    ensures refused { IfErr result (λ status. Refuses (fetches command.now) (output_of command.now)
+        (IsOutputOf (map (λ b. (⟦<dyn Adviser as Adviser>⟧ b.vtable).replies b.value) advisers.items) (H.tells shelf.old) (H.held shelf.old) command.now)
         (H.tells shelf.old) (H.held shelf.old) (H.held shelf.new) (H.fetch_faults shelf.old) (H.fetch_faults shelf.new) (H.put_faults shelf.old) (H.put_faults shelf.new) status) }
 {
     match command {

@@ -41,8 +41,10 @@ fn obey<H: Shelf>(
     shelf: &mut H,
     advisers: Vec<Box<dyn Adviser>>,
 ) -> Result<Vec<u8>, Status>
-    ensures given { IfOk result (λ text. GivesFor (map string_bytes words.now) (H.tells shelf.old) (H.held shelf.old) (H.held shelf.new) text.items) }
-    ensures refused { IfErr result (λ status. RefusesFor (map string_bytes words.now) (H.tells shelf.old) (H.held shelf.old) (H.held shelf.new) (H.fetch_faults shelf.old)
+    ensures given { IfOk result (λ text. GivesFor (map string_bytes words.now) (map (λ b. (⟦<dyn Adviser as Adviser>⟧ b.vtable).replies b.value) advisers.items)
+        (H.tells shelf.old) (H.held shelf.old) (H.held shelf.new) text.items) }
+    ensures refused { IfErr result (λ status. RefusesFor (map string_bytes words.now) (map (λ b. (⟦<dyn Adviser as Adviser>⟧ b.vtable).replies b.value) advisers.items)
+        (H.tells shelf.old) (H.held shelf.old) (H.held shelf.new) (H.fetch_faults shelf.old)
         (H.fetch_faults shelf.new) (H.put_faults shelf.old) (H.put_faults shelf.new) status) }
 {
     let command = match asked(alloc, words) {
@@ -101,7 +103,8 @@ fn answer<H: Shelf, N: Notes>(
     notes: &mut N,
     advisers: Vec<Box<dyn Adviser>>,
 ) -> Status
-    ensures { Ends (map string_bytes words.now) (H.tells shelf.old) (H.held shelf.old) (H.held shelf.new) (H.fetch_faults shelf.old) (H.fetch_faults shelf.new)
+    ensures { Ends (map string_bytes words.now) (map (λ b. (⟦<dyn Adviser as Adviser>⟧ b.vtable).replies b.value) advisers.items)
+        (H.tells shelf.old) (H.held shelf.old) (H.held shelf.new) (H.fetch_faults shelf.old) (H.fetch_faults shelf.new)
         (H.put_faults shelf.old) (H.put_faults shelf.new) (N.tells notes.old) (N.said notes.old) (N.said notes.new) (N.faults notes.old) (N.faults notes.new) result }
 {
     match obey(alloc, words, shelf, advisers) {
@@ -141,13 +144,17 @@ pub fn run<H: Shelf, N: Notes>(
 
     // What the names hold, and what was said: of `check` the counts of the program that the file spells, of `live` the list
     // of what is live, of `trace` the lines of what that program shows in so many steps of the play that the script spells
-    // (`specs/Finished.antt`).
-    ensures stays { IsTrue (H.tells shelf.old) → Stays (Puts (map string_bytes words.now)) (OutputBy (map string_bytes words.now) (H.tells shelf.old) (H.held shelf.old))
+    // (`specs/Finished.antt`). The advisers that were told and asked are these.
+    ensures stays { IsTrue (H.tells shelf.old) → Stays (Puts (map string_bytes words.now))
+        (OutputBy (map string_bytes words.now) (map (λ b. (⟦<dyn Adviser as Adviser>⟧ b.vtable).replies b.value) advisers.items)
+        (H.tells shelf.old) (H.held shelf.old))
         result (H.put_faults shelf.old) (H.put_faults shelf.new) (H.held shelf.old) (H.held shelf.new) }
     ensures said { IsTrue (N.tells notes.old)
-        → Said (Results (map string_bytes words.now) (H.tells shelf.old) (H.held shelf.old)) result (N.faults notes.old) (N.faults notes.new) (N.said notes.old) (N.said notes.new) }
+        → Said (Results (map string_bytes words.now) (map (λ b. (⟦<dyn Adviser as Adviser>⟧ b.vtable).replies b.value) advisers.items)
+        (H.tells shelf.old) (H.held shelf.old)) result (N.faults notes.old) (N.faults notes.new) (N.said notes.old) (N.said notes.new) }
     ensures done { result ≡ Status.Done → IsTrue (H.tells shelf.old) → IsTrue (N.tells notes.old)
-        → Delivers (map string_bytes words.now) (H.tells shelf.old) (H.held shelf.old) (H.held shelf.new) (N.said notes.old) (N.said notes.new) }
+        → Delivers (map string_bytes words.now) (map (λ b. (⟦<dyn Adviser as Adviser>⟧ b.vtable).replies b.value) advisers.items)
+        (H.tells shelf.old) (H.held shelf.old) (H.held shelf.new) (N.said notes.old) (N.said notes.new) }
 {
     answer(alloc, words, shelf, notes, advisers)
 }

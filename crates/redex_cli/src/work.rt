@@ -1,6 +1,6 @@
 //! What the commands do between fetching and putting: values in, a value or a status out.
 
-ghost use Rattle.std.specs.Prelude.{◌≡◌, ◌<◌, ◌≤◌, ◌^◌, ℕ, List, true, None, Option, Ok, length, vec_len, string_bytes, IfOk, IfErr, OnOk};
+ghost use Rattle.std.specs.Prelude.{◌≡◌, ◌<◌, ◌≤◌, ◌^◌, ◌∷◌, [], ℕ, List, true, None, Option, Ok, length, map, vec_len, string_bytes, IfOk, IfErr, OnOk};
 ghost use Rattle.dalvik_defs.specs.Naming.{named};
 ghost use Rattle.dalvik_defs.specs.Outer.{outer_of};
 ghost use Rattle.dalvik_defs.specs.Step.{shows};
@@ -11,13 +11,14 @@ ghost use Rattle.dex_read.specs.File.{program_at};
 ghost use Rattle.dex_read.specs.Kept.{KeepsLimits};
 ghost use Rattle.hierarchy.specs.Shapes.{IsCause, IsResolved};
 ghost use Rattle.program_model.specs.ProgramRules.{is_well_formed};
+ghost use Rattle.redex_outside.specs.Panels.{HasRun};
 ghost use Rattle.stub_library.specs.Stubs.{library_at};
 ghost use Rattle.text_defs.specs.Plays.{play_of};
 ghost use Rattle.redex_cli.specs.Accepted.{IsAccepted};
 ghost use Rattle.redex_cli.specs.Files.{AreRead, BytesRefused, FileRefused, HasGraphFault, HasTypeFault, LibraryRefused};
 ghost use Rattle.rule_text.specs.Fault.{IsFault};
 ghost use Rattle.rule_text.specs.ReadEntries.{IsReading};
-ghost use Rattle.redex_cli.specs.Finished.{Checks, Finished, IsWorkload, LeavesBy, Shrunk, program_text, sizes_in};
+ghost use Rattle.redex_cli.specs.Finished.{AreTold, Checks, Finished, IsWorkload, LeavesBy, Shrunk, program_text, sizes_in, turn_told};
 ghost use Rattle.redex_cli.specs.Refusals.{IsLibraryRefusal, LibraryEnds, MadeRefused, ReadRefused, TraceRefused, WorkRefused};
 ghost use Rattle.redex_cli.specs.Lists.{ListsFile};
 ghost use Rattle.redex_cli.specs.Tables.{IsTableBy, IsTableFor, IsTableWith};
@@ -281,13 +282,28 @@ fn read_input(alloc: Global, inputs: Inputs) -> Result<Input, Status>
     }
 }
 
+/// Tells the advisers one thing that the words say.
+fn tell_one(alloc: Global, panel: &mut Panel, tell: &Tell) -> Result<(), AllocError>
+    ensures { OnOk result (HasRun (turn_told tell.now ∷ [])
+        (map (λ b. (⟦<dyn Adviser as Adviser>⟧ b.vtable).replies b.value) panel.old.advisers.items)
+        (map (λ b. (⟦<dyn Adviser as Adviser>⟧ b.vtable).replies b.value) panel.new.advisers.items)
+        panel.old.answers.items panel.new.answers.items) }
+{
+    match tell {
+        Tell::Spare(prefix) => panel.tell(alloc, Key::Spare, 0, prefix.as_str()),
+        Tell::AtMost(number) => panel.tell(alloc, Key::AtMost, *number, ""),
+    }
+}
+
 /// Tells the advisers what the words say, in their order.
-fn tell_all(alloc: Global, panel: &mut Panel, tells: &[Tell]) -> Result<(), AllocError> {
+fn tell_all(alloc: Global, panel: &mut Panel, tells: &[Tell]) -> Result<(), AllocError>
+    ensures { OnOk result (HasRun (map turn_told tells.now)
+        (map (λ b. (⟦<dyn Adviser as Adviser>⟧ b.vtable).replies b.value) panel.old.advisers.items)
+        (map (λ b. (⟦<dyn Adviser as Adviser>⟧ b.vtable).replies b.value) panel.new.advisers.items)
+        panel.old.answers.items panel.new.answers.items) }
+{
     for tell in tells {
-        match tell {
-            Tell::Spare(prefix) => panel.tell(alloc, Key::Spare, 0, prefix.as_str())?,
-            Tell::AtMost(number) => panel.tell(alloc, Key::AtMost, *number, "")?,
-        }
+        tell_one(alloc, panel, tell)?;
     }
     Ok(())
 }
@@ -310,7 +326,9 @@ fn left_of(
 ) -> Result<Outcome, AllocError>
     requires advisers { 0 ≤ vec_len panel.old.advisers }
     requires formed { is_well_formed program ≡ true }
-    ensures leaves { IfOk result (λ outcome. LeavesBy inline program outside.now outcome.program outcome.rounds outcome.spared) }
+    ensures leaves { IfOk result (λ outcome. LeavesBy inline
+        (map (λ b. (⟦<dyn Adviser as Adviser>⟧ b.vtable).replies b.value) panel.old.advisers.items)
+        panel.old.answers.items program outside.now outcome.program outcome.rounds outcome.spared) }
     ensures rounds { IfOk result (λ outcome. 1 ≤ outcome.rounds) }
 {
     if inline {
@@ -331,7 +349,9 @@ fn optimise_program(
     panel: &mut Panel,
 ) -> Result<Optimised, AllocError>
     requires { is_well_formed program ≡ true }
-    ensures { IfOk result (λ optimised. Shrunk inline program outside.now before optimised.bytes.items (string_bytes optimised.summary)) }
+    ensures { IfOk result (λ optimised. Shrunk inline
+        (map (λ b. (⟦<dyn Adviser as Adviser>⟧ b.vtable).replies b.value) panel.old.advisers.items)
+        panel.old.answers.items program outside.now before optimised.bytes.items (string_bytes optimised.summary)) }
 {
     let outcome = left_of(alloc, program, outside, inline, panel)?;
     let bytes = write_dex(alloc, &outcome.program)?;
@@ -345,7 +365,12 @@ fn told(
     alloc: Global,
     tells: &[Tell],
     advisers: Vec<Box<dyn Adviser>>,
-) -> Result<Panel, AllocError> {
+) -> Result<Panel, AllocError>
+    ensures told { IfOk result (λ panel. AreTold tells.now
+        (map (λ b. (⟦<dyn Adviser as Adviser>⟧ b.vtable).replies b.value) advisers.items)
+        (map (λ b. (⟦<dyn Adviser as Adviser>⟧ b.vtable).replies b.value) panel.advisers.items)) }
+    ensures unasked { IfOk result (λ panel. panel.answers.items ≡ []) }
+{
     let mut panel = Panel::new(alloc, advisers);
     tell_all(alloc, &mut panel, tells)?;
     Ok(panel)
@@ -360,7 +385,9 @@ fn optimise_input(
     panel: &mut Panel,
 ) -> Result<Optimised, AllocError>
     requires { is_well_formed input.program ≡ true }
-    ensures { IfOk result (λ optimised. Shrunk inline input.program input.outside (sizes_in input.program length) optimised.bytes.items (string_bytes optimised.summary)) }
+    ensures { IfOk result (λ optimised. Shrunk inline
+        (map (λ b. (⟦<dyn Adviser as Adviser>⟧ b.vtable).replies b.value) panel.old.advisers.items)
+        panel.old.answers.items input.program input.outside (sizes_in input.program length) optimised.bytes.items (string_bytes optimised.summary)) }
 {
     let before = sizes_of(&input.program, length);
     optimise_program(alloc, input.program, &input.outside, inline, before, panel)
@@ -376,7 +403,9 @@ pub fn optimise_file(
     advisers: Vec<Box<dyn Adviser>>,
 ) -> Result<Optimised, Status>
     requires { length inputs.rules < 2 ^ 32 }
-    ensures finished { IfOk result (λ optimised. Finished inline inputs optimised.bytes.items (string_bytes optimised.summary)) }
+    ensures finished { IfOk result (λ optimised. Finished inline
+        (map (λ b. (⟦<dyn Adviser as Adviser>⟧ b.vtable).replies b.value) advisers.items)
+        tells.now inputs optimised.bytes.items (string_bytes optimised.summary)) }
     ensures read { OnOk result (AreRead inputs) }
     ensures refused { IfErr result (WorkRefused inputs) }
     ensures bytes { IfErr result (BytesRefused inputs) }
@@ -426,7 +455,7 @@ pub fn optimise_workload(
     advisers: Vec<Box<dyn Adviser>>,
 ) -> Result<String, Status>
     requires { count ≤ 2000 }
-    ensures summary { IfOk result (λ text. IsWorkload (string_bytes text)) }
+    ensures summary { IfOk result (λ text. IsWorkload (map (λ b. (⟦<dyn Adviser as Adviser>⟧ b.vtable).replies b.value) advisers.items) (string_bytes text)) }
     ensures refused { IfErr result MadeRefused }
 {
     let inputs = match workload_inputs(alloc, count) {

@@ -32,7 +32,7 @@ use Rattle.compact.specs.Narrow.{has_narrow_classes}
 use Rattle.compact.specs.Renamed.{IsCompactedProgram}
 use Rattle.kept_bridge.proofs.Compacted.{compacted_kept}
 use Rattle.copy_kept.proofs.Kept.{propagated_kept}
-use Rattle.pipeline.specs.Passes.{Pass, Reach, ConstProp, Devirt, CopyProp, DeadCode, Squeeze, Compact, Removes, IsBarred, IsRemoval, Folds, KeepsForms, IsFolding, Rebinds, IsRebinding, Propagates, KeepsReads, IsPropagation, Thins, IsCleaning, IsCompaction}
+use Rattle.pipeline.specs.Passes.{Pass, Reach, ConstProp, Devirt, QuietCalls, CopyProp, DeadCode, Squeeze, Compact, Removes, IsBarred, IsRemoval, Folds, KeepsForms, IsFolding, Rebinds, IsRebinding, Quiets, IsQuieting, Propagates, KeepsReads, IsPropagation, Thins, IsCleaning, IsCompaction}
 use Rattle.reach_bridge.specs.Names.{family_of}
 use Rattle.reach_bridge.proofs.Kept.{kept_named}
 use Rattle.reach_bridge.proofs.Within.{shows_the_same, keeps_shuts, keeps_typing}
@@ -40,6 +40,8 @@ use Rattle.shut_bridge.proofs.Passes.{thinned_keeps, compacted_keeps, propagated
 use Rattle.shut_bridge.proofs.Folded.{folded_keeps}
 use Rattle.rebind_kept.proofs.Shuts.{rebound_holds}
 use Rattle.rebind_kept.proofs.Kept.{rebound_kept}
+use Rattle.quiet_kept.proofs.Kept.{quieted_kept}
+use Rattle.quiet_kept.proofs.Shuts.{quieted_shut}
 use Rattle.rounds_bridge.specs.Owed.{IsSound, Owes, Keeps}
 use Rattle.rounds_bridge.proofs.Heads.{others_define}
 use Rattle.rounds_bridge.proofs.Owing.{owes_same}
@@ -91,7 +93,7 @@ module _ (o : Outside) where
   -- ---- passes on bodies
 
   -- a pass that keeps a program but for bodies and lines, as this outside sees it, and what a table of shut methods owes
-  kept_for_owes : (p q : Program) → IsSound p → IsKeptFor o p q → (ShutsHold (named p) (outer_of p o) → ShutsHold (named q) (outer_of p o)) → Owes o p q
+  pub kept_for_owes : (p q : Program) → IsSound p → IsKeptFor o p q → (ShutsHold (named p) (outer_of p o) → ShutsHold (named q) (outer_of p o)) → Owes o p q
   kept_for_owes p q sound kept shuts = record {
     sound = record {
       formed = kept.formed;
@@ -139,6 +141,19 @@ module _ (o : Outside) where
   pub devirt_keeps : (admitted : List Bool) → Keeps o admitted Devirt
   devirt_keeps admitted = record { owes = rebinding_owes admitted }
 
+  quieting_owes : (admitted : List Bool) (p q : Program) (moved : List (List Origin)) → IsSound p → IsQuieting o admitted p q moved → Owes o p q
+  quieting_owes admitted p q moved sound h = by h.quieting
+    where
+      by : Quiets o admitted p q ⊎ ((q ≡ p) × KeepsForms o admitted p) → Owes o p q
+      by (inl z) = subst (λ (x : Program). Owes o p x) (sym z.left) (kept_for_owes p z.changed.program sound
+          (let k = z.known.certified in
+          quieted_kept p z.hierarchy o sound.formed z.resolved sound.grounded sound.typed z.facts admitted z.changed z.quieted z.known.words z.known.makers z.known.plain k.live k.targets k.fits k.live_closed k.targeted k.closed)
+          (quieted_shut p z.facts admitted z.changed (outer_of p o) z.quieted))
+      by (inr none) = subst (λ (x : Program). Owes o p x) (sym none.0) (owes_same o p sound)
+
+  pub quiet_calls_keeps : (admitted : List Bool) → Keeps o admitted QuietCalls
+  quiet_calls_keeps admitted = record { owes = quieting_owes admitted }
+
   propagation_owes : (admitted : List Bool) (p q : Program) (moved : List (List Origin)) → IsSound p → IsPropagation admitted p q moved → Owes o p q
   propagation_owes admitted p q moved sound h = by h.propagation
     where
@@ -183,6 +198,7 @@ module _ (o : Outside) where
   each_keeps admitted Reach = reach_keeps admitted
   each_keeps admitted ConstProp = const_prop_keeps admitted
   each_keeps admitted Devirt = devirt_keeps admitted
+  each_keeps admitted QuietCalls = quiet_calls_keeps admitted
   each_keeps admitted CopyProp = copy_prop_keeps admitted
   each_keeps admitted DeadCode = dead_code_keeps admitted
   each_keeps admitted Squeeze = squeeze_keeps admitted

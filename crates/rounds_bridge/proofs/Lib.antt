@@ -1,5 +1,6 @@
 pub mod Ends
 pub mod Heads
+pub mod Inlining
 pub mod Keeping
 pub mod Owing
 pub mod Parts

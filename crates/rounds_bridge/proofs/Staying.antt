@@ -9,6 +9,7 @@ use Rattle.squeeze.specs.Needed.{NothingLeft}
 use Rattle.squeeze.specs.Skipping.{AreSkips}
 use Rattle.const_prop.specs.Folds.{AreFolds}
 use Rattle.devirt.specs.Rebound.{AreRebindings}
+use Rattle.quiet_code.specs.Quieted.{Nops}
 use Rattle.compact.specs.Narrow.{has_narrow_classes}
 use Rattle.compact.specs.Renamed.{IsCompactedProgram}
 use Rattle.stay_law.specs.Stays.{Stays}
@@ -16,7 +17,7 @@ use Rattle.stay_law.proofs.Staying.{stays_same, stays_on}
 use Rattle.stay_law.proofs.Rewritten.{rewritten_stays}
 use Rattle.stay_law.proofs.Passes.{removed_stays, thinned_stays, propagated_stays, compacted_stays}
 use Rattle.pipeline.specs.declared.traces.Traced.{Traced}
-use Rattle.pipeline.specs.Passes.{Pass, Reach, ConstProp, Devirt, CopyProp, DeadCode, Squeeze, Compact, Removes, IsBarred, Folds, KeepsForms, Rebinds, Propagates, KeepsReads, Thins, IsCleaning, Does, passes, Steps, Last, Then}
+use Rattle.pipeline.specs.Passes.{Pass, Reach, ConstProp, Devirt, QuietCalls, CopyProp, DeadCode, Squeeze, Compact, Removes, IsBarred, Folds, KeepsForms, Rebinds, Quiets, Propagates, KeepsReads, Thins, IsCleaning, Does, passes, Steps, Last, Then}
 use Rattle.pipeline.specs.Rounds.{Rounds, Ended, Next}
 use Rattle.rounds_bridge.specs.Owed.{IsSound, Owes}
 use Rattle.rounds_bridge.proofs.Keeping.{each_keeps}
@@ -38,6 +39,10 @@ module _ (o : Outside) (admitted : List Bool) where
   rebinding_stays p q (inl r) = subst (λ (x : Program). Stays admitted p x) (sym r.left) (rewritten_stays (AreRebindings p r.hierarchy r.facts) admitted p r.changed r.rebound)
   rebinding_stays p q (inr none) = same_stays p q none.0
 
+  quieting_stays : (p q : Program) → Quiets o admitted p q ⊎ ((q ≡ p) × KeepsForms o admitted p) → Stays admitted p q
+  quieting_stays p q (inl z) = subst (λ (x : Program). Stays admitted p x) (sym z.left) (rewritten_stays (Nops p z.quieted.quiet z.facts.frames.items) admitted p z.changed z.quieted.rewritten)
+  quieting_stays p q (inr none) = same_stays p q none.0
+
   propagation_stays : (p q : Program) → Propagates admitted p q ⊎ ((q ≡ p) × KeepsReads admitted p) → Stays admitted p q
   propagation_stays p q (inl c) = propagated_stays admitted p q c.propagated
   propagation_stays p q (inr none) = same_stays p q none.0
@@ -57,6 +62,7 @@ module _ (o : Outside) (admitted : List Bool) where
   pass_stays Reach p q moved h = removal_stays p q h.removal
   pass_stays ConstProp p q moved h = folding_stays p q h.folding
   pass_stays Devirt p q moved h = rebinding_stays p q h.rebinding
+  pass_stays QuietCalls p q moved h = quieting_stays p q h.quieting
   pass_stays CopyProp p q moved h = propagation_stays p q h.propagation
   pass_stays DeadCode p q moved h = cleaning_stays p q moved h
   pass_stays Squeeze p q moved h = squeezing_stays p q moved h

@@ -8,6 +8,8 @@ use Rattle.facts.specs.declared.facts.Facts.{Facts}
 use Rattle.const_prop.specs.Folds.{NoneLeft}
 use Rattle.receivers.specs.Receiving.{is_straight}
 use Rattle.devirt.specs.Left.{NoneLeft as NoCallLeft}
+use Rattle.quiet_methods.specs.Quiet.{AreQuiet}
+use Rattle.quiet_code.specs.Quieted.{NoneIdle}
 use Rattle.pipeline.specs.Passes.{AreKnown}
 
 -- Facts that are known of the program leave nothing to write in the bodies of admitted methods.
@@ -26,3 +28,12 @@ pub record NoneBindable (o : Outside) (admitted : List Bool) (p : Program) : Typ
   pub facts : Facts
   pub known : AreKnown o p facts
   pub none_left : is_straight p ≡ true → NoCallLeft p hierarchy facts admitted
+
+-- Such facts leave no call and no division in these bodies that does nothing, where just the methods are quiet that are so by the
+-- registers that they know.
+pub record NoneQuiet (o : Outside) (admitted : List Bool) (p : Program) : Type 0 where
+  pub facts : Facts
+  pub known : AreKnown o p facts
+  pub quiet : List Bool
+  pub are_quiet : AreQuiet p facts.frames.items quiet
+  pub none_left : NoneIdle p quiet facts.frames.items admitted

@@ -31,7 +31,7 @@ use Rattle.removal_law.specs.Reach.{is_new, makes_new, may_be_made, ShutsHold}
 use Rattle.removal_law.proofs.Lists.{clash, and_left, and_behind}
 use Rattle.removal_law.proofs.Outward.{any_here}
 use Rattle.removal_law.proofs.ShutLeft.{any_code, some_code}
-use Rattle.bodies_law.specs.Others.{Pairwise, OtherMethod, OtherClass, OtherBodies}
+use Rattle.bodies_law.specs.Others.{Codes, Pairwise, OtherMethod, OtherClass, OtherBodies}
 use Rattle.bodies_law.proofs.Faces.{blank, blank_coded, program_blank, others_face}
 use Rattle.shut_law.specs.Said.{Said, Quiet, called, said, any_said, SaysNoMore}
 use Rattle.shut_law.proofs.Tests.{says_new, says_outside, new_said, outside_said, any_alike}
@@ -44,15 +44,17 @@ partner R (x ∷ xs) [] r y i = absurd r
 partner R (x ∷ xs) (y ∷ ys) r _ (here zs) = (x, (here xs, r.0))
 partner R (x ∷ xs) (z ∷ ys) r y (there u zs i) = let w = partner R xs ys r.1 y i in (w.0, (there x xs w.1.0, w.1.1))
 
-module _ (p q : NamedProgram) (o : Outer) (others : OtherBodies (SaysNoMore p) p q) where
+-- What matters alone is that the program as a whole says no more.
+module _ (R : Codes) (p q : NamedProgram) (o : Outer) (others : OtherBodies R p q)
+    (was_said : (test : Said → Bool) → test Quiet ≡ false → any_code q (λ x. test (said p x)) ≡ true → any_code p (λ x. test (said p x)) ≡ true) where
   same_blank : changed blank q ≡ changed blank p
-  same_blank = program_blank (SaysNoMore p) p q others
+  same_blank = program_blank R p q others
 
   bare : Framework
   bare = record { rows = [] }
 
   faces : face_of q bare ≡ face_of p bare
-  faces = others_face (SaysNoMore p) p q others bare
+  faces = others_face R p q others bare
 
   -- ---- what is the same
 
@@ -85,15 +87,6 @@ module _ (p q : NamedProgram) (o : Outer) (others : OtherBodies (SaysNoMore p) p
   version_same = ap (λ (x : NamedProgram). x.version) others.same
 
   -- ---- what is said
-
-  was_said : (test : Said → Bool) → test Quiet ≡ false → any_code q (λ x. test (said p x)) ≡ true → any_code p (λ x. test (said p x)) ≡ true
-  was_said test quiet e =
-      let w = some_code q (λ x. test (said p x)) e in
-      let c = partner (OtherClass (SaysNoMore p)) p.classes q.classes others.classes w.class w.class_in in
-      let m = partner (OtherMethod (SaysNoMore p) c.0) c.0.methods w.class.methods c.1.1.methods w.method w.stands in
-      any_here (λ (c : NamedClass). list_any (λ (m : NamedMethod). any_said p test m.body) c.methods) c.0 p.classes c.1.0
-      (any_here (λ (m : NamedMethod). any_said p test m.body) m.0 c.0.methods m.1.0
-      (m.1.1.related test quiet (ap (any_said p test) w.coded ∙ any_here (λ x. test (said p x)) w.form w.body.forms w.says w.passes)))
 
   -- tests of forms that go by what they say
   test_code : (r : NamedProgram) (f : Form → Bool) (test : Said → Bool) → ((x : Form) → f x ≡ test (said p x)) → any_code r f ≡ any_code r (λ x. test (said p x))
@@ -147,9 +140,9 @@ module _ (p q : NamedProgram) (o : Outer) (others : OtherBodies (SaysNoMore p) p
         → may_be_made q o d.name ≡ true → (is_outward q d.name || is_common k.name k.signature) ≡ true → In e q.classes → is_own_under q d.name e.name ≡ true → In x e.methods
         → is_other k.class m e x ≡ true → (o.methods (key_of e x) || o.shut (key_of e x)) ≡ true
     other_methods k m d e x shut a b d_in finds made open_to e_in under stands other =
-        let d0 = partner (OtherClass (SaysNoMore p)) p.classes q.classes others.classes d d_in in
-        let e0 = partner (OtherClass (SaysNoMore p)) p.classes q.classes others.classes e e_in in
-        let x0 = partner (OtherMethod (SaysNoMore p) e0.0) e0.0.methods e.methods e0.1.1.methods x stands in
+        let d0 = partner (OtherClass R) p.classes q.classes others.classes d d_in in
+        let e0 = partner (OtherClass R) p.classes q.classes others.classes e e_in in
+        let x0 = partner (OtherMethod R e0.0) e0.0.methods e.methods e0.1.1.methods x stands in
         let d_name : d.name ≡ d0.0.name = ap (λ (c : NamedClass). c.name) d0.1.1.same in
         let e_name : e.name ≡ e0.0.name = ap (λ (c : NamedClass). c.name) e0.1.1.same in
         let x_name : x.name ≡ x0.0.name = ap (λ (y : NamedMethod). y.name) x0.1.1.same in
@@ -179,5 +172,15 @@ module _ (p q : NamedProgram) (o : Outer) (others : OtherBodies (SaysNoMore p) p
     pub other_holds : ShutsHold q o
     other_holds = record { uncalled = uncalled; others = other_methods; plain = plain }
 
+-- where the code of each method says no more, the program doesn't
+said_before : (p q : NamedProgram) → OtherBodies (SaysNoMore p) p q → (test : Said → Bool) → test Quiet ≡ false → any_code q (λ x. test (said p x)) ≡ true → any_code p (λ x. test (said p x)) ≡ true
+said_before p q others test quiet e =
+    let w = some_code q (λ x. test (said p x)) e in
+    let c = partner (OtherClass (SaysNoMore p)) p.classes q.classes others.classes w.class w.class_in in
+    let m = partner (OtherMethod (SaysNoMore p) c.0) c.0.methods w.class.methods c.1.1.methods w.method w.stands in
+    any_here (λ (c : NamedClass). list_any (λ (m : NamedMethod). any_said p test m.body) c.methods) c.0 p.classes c.1.0
+    (any_here (λ (m : NamedMethod). any_said p test m.body) m.0 c.0.methods m.1.0
+    (m.1.1.related test quiet (ap (any_said p test) w.coded ∙ any_here (λ x. test (said p x)) w.form w.body.forms w.says w.passes)))
+
 pub shuts_kept : (p q : NamedProgram) (o : Outer) → OtherBodies (SaysNoMore p) p q → ShutsHold p o → ShutsHold q o
-shuts_kept p q o others holds = other_holds p q o others holds
+shuts_kept p q o others holds = other_holds (SaysNoMore p) p q o others (said_before p q others) holds

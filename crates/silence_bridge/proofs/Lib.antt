@@ -4,3 +4,4 @@ pub mod Silenced
 pub mod Unfaulted
 pub mod Staying
 pub mod Optimised
+pub mod Inlined

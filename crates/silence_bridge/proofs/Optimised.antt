@@ -27,9 +27,9 @@ use Rattle.copy_bridge.specs.Bridged.{AllFresh}
 use Rattle.squeeze.specs.Needed.{NothingLeft}
 use Rattle.pipeline.specs.Passes.{KeepsForms}
 use Rattle.pipeline.specs.Rounds.{first_of, IsOptimised}
-use Rattle.rounds_bridge.specs.Ended.{NoneKnown, NoneBindable}
+use Rattle.rounds_bridge.specs.Ended.{NoneKnown, NoneBindable, NoneQuiet}
 use Rattle.rounds_bridge.specs.Owed.{IsSound, Owes}
-use Rattle.rounds_bridge.proofs.Ends.{all_folded, all_bound, none_skipped, none_dead, all_fresh, all_packed}
+use Rattle.rounds_bridge.proofs.Ends.{all_folded, all_bound, all_quiet, none_skipped, none_dead, all_fresh, all_packed}
 use Rattle.rounds_bridge.proofs.Parts.{Part, mapped_head, mapped_part, still_once, still_grounded}
 use Rattle.rounds_bridge.proofs.Splits.{whole_left}
 use Rattle.rounds_bridge.proofs.Repeated.{all_rounds_owe}
@@ -54,7 +54,7 @@ module _ (p : Program) (h : Hierarchy) (formed : is_well_formed p ≡ true) (res
   silent_named admitted q silent = ap named (is_silenced admitted q silent) ∙ silenced_named p o admitted formed
 
   -- its tables are the program's, so that what the outside names is the same
-  silent_outer : (admitted : List Bool) (q : Program) → IsSilent o.silent admitted p q → outer_of q o ≡ outer_of p o
+  pub silent_outer : (admitted : List Bool) (q : Program) → IsSilent o.silent admitted p q → outer_of q o ≡ outer_of p o
   silent_outer admitted q silent = ap (λ x. outer_of x o) (is_silenced admitted q silent)
 
   module _ (types : TypesAll p h) where
@@ -85,7 +85,7 @@ module _ (p : Program) (h : Hierarchy) (formed : is_well_formed p ≡ true) (res
     silent_part admitted q silent = subst (λ (x : Program). Part x.classes p.classes) (sym (is_silenced admitted q silent))
         (mapped_part (silenced_class (is_quiet p o.silent) admitted) (λ c. mapped_head (silenced_method (is_quiet p o.silent) admitted) (same_name admitted) (same_flags admitted) c) p.classes)
 
-    silent_sound : (admitted : List Bool) (q : Program) → IsSilent o.silent admitted p q → is_well_formed q ≡ true → IsSound q
+    pub silent_sound : (admitted : List Bool) (q : Program) → IsSilent o.silent admitted p q → is_well_formed q ≡ true → IsSound q
     silent_sound admitted q silent well = record {
       formed = well;
       once = still_once p q (silent_part admitted q silent) resolved.of.once;
@@ -95,7 +95,7 @@ module _ (p : Program) (h : Hierarchy) (formed : is_well_formed p ≡ true) (res
     }
 
     -- the table of shut methods holds what it says of what is left
-    silent_holds : (admitted : List Bool) (q : Program) → IsSilent o.silent admitted p q → ShutsHold (named p) (outer_of p o) → ShutsHold (named q) (outer_of q o)
+    pub silent_holds : (admitted : List Bool) (q : Program) → IsSilent o.silent admitted p q → ShutsHold (named p) (outer_of p o) → ShutsHold (named q) (outer_of q o)
     silent_holds admitted q silent h = subst (λ x. ShutsHold x (outer_of q o)) (sym (silent_named admitted q silent))
         (subst (ShutsHold (by_name.silenced (named p) (outer_of p o) (admitted_in p admitted))) (sym (silent_outer admitted q silent)) (silenced_holds (named p) (outer_of p o) (admitted_in p admitted) h))
 
@@ -116,6 +116,9 @@ module _ (p : Program) (h : Hierarchy) (formed : is_well_formed p ≡ true) (res
 
       pub optimised_bound : NoneBindable o done.admitted r ⊎ KeepsForms o done.admitted r
       optimised_bound = all_bound o done.admitted r rounds.sound done.ran.ends
+
+      pub optimised_quiet : NoneQuiet o done.admitted r ⊎ KeepsForms o done.admitted r
+      optimised_quiet = all_quiet o done.admitted r rounds.sound done.ran.ends
 
       pub optimised_skips : NothingLeft done.admitted r
       optimised_skips = none_skipped o done.admitted r rounds.sound done.ran.ends

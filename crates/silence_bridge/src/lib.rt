@@ -9,7 +9,7 @@
 //! - `Silenced`: from the instruction to the whole program (`silenced_named`).
 //! - `Unfaulted`: where a hierarchy was built, the class graph has no fault (`unfaulted`); a program with one `silence`
 //!   leaves whole.
-//! - `Optimised`: the rounds that follow.
+//! - `Optimised`: the rounds that follow, and `Inlined`: the same where calls are inlined before them.
 #![tactic(auto)]
 
 pub mod laws;

@@ -19,20 +19,22 @@ ghost use Rattle.compact.specs.Narrow.{has_narrow_classes};
 ghost use Rattle.compact_bridge.specs.Bridged.{AllPacked};
 ghost use Rattle.copy_bridge.specs.Bridged.{AllFresh};
 ghost use Rattle.squeeze.specs.Needed.{NothingLeft};
+ghost use Rattle.pipeline.specs.Inlined.{IsOptimisedInlined};
 ghost use Rattle.pipeline.specs.Passes.{KeepsForms};
 ghost use Rattle.pipeline.specs.Rounds.{IsOptimised};
+ghost use Rattle.redex_outside.specs.Voices.{Voice};
 ghost use Rattle.removal_law.specs.Reach.{ShutsHold};
-ghost use Rattle.rounds_bridge.specs.Ended.{NoneBindable, NoneKnown};
+ghost use Rattle.rounds_bridge.specs.Ended.{NoneBindable, NoneKnown, NoneQuiet};
 ghost use Rattle.rounds_bridge.specs.Owed.{IsSound};
-ghost use Rattle.stay_law.specs.Stays.{Stays};
+ghost use Rattle.stay_law.specs.Stays.{Stays, StaysInlined};
 ghost use Rattle.silence_bridge.specs.Admitted.{admitted_in};
 
 /// What `optimise` leaves of a well-formed program for any rules shows what the program shows without its silent calls in
 /// the methods that were admitted, and is sound, where the hierarchy was built of the program, the verifier has a typing of each
 /// method, and the table of shut methods holds what it says, as it does where no method is shut. What the rounds begin with is, by
-/// names, the program without these calls. Facts that are known leave nothing to write in the admitted methods, and no call in them
-/// to name another method, or there is a reason why none was written. Nothing is left in them that does nothing or is dead; and unless the program
-/// names a method of a wide type, no read of theirs is stale, and their registers are packed. A method that wasn't
+/// names, the program without these calls. Facts that are known leave nothing to write in the admitted methods, no call in them
+/// to name another method, and no call and no division that does nothing, or there is a reason why none was written. Nothing is left
+/// in them that a squeeze takes out or that is dead; and unless the program names a method of a wide type, no read of theirs is stale, and their registers are packed. A method that wasn't
 /// admitted stays whole, and no body has more registers than before. The premises are what `Hierarchy::build`,
 /// `verify_all` and `optimise` say where they accept.
 pub fn all_rules_law()
@@ -52,6 +54,9 @@ pub fn all_rules_law()
     ensures bound { (p r : Program) (origins : List (List Origin)) (h : Hierarchy) (o : Outside) (advisers spared rounds : ℕ) (before after : List Bool) → is_well_formed p ≡ true
         → IsResolved p h → IsAcyclic p → NoSplit p → TypesAll p h
         → (done : IsOptimised o p advisers before after spared r origins rounds) → NoneBindable o done.admitted r ⊎ KeepsForms o done.admitted r }
+    ensures quiet { (p r : Program) (origins : List (List Origin)) (h : Hierarchy) (o : Outside) (advisers spared rounds : ℕ) (before after : List Bool) → is_well_formed p ≡ true
+        → IsResolved p h → IsAcyclic p → NoSplit p → TypesAll p h
+        → (done : IsOptimised o p advisers before after spared r origins rounds) → NoneQuiet o done.admitted r ⊎ KeepsForms o done.admitted r }
     ensures skips { (p r : Program) (origins : List (List Origin)) (h : Hierarchy) (o : Outside) (advisers spared rounds : ℕ) (before after : List Bool) → is_well_formed p ≡ true
         → IsResolved p h → IsAcyclic p → NoSplit p → TypesAll p h
         → (done : IsOptimised o p advisers before after spared r origins rounds) → NothingLeft done.admitted r }
@@ -67,4 +72,40 @@ pub fn all_rules_law()
     ensures stays { (p r : Program) (origins : List (List Origin)) (h : Hierarchy) (o : Outside) (advisers spared rounds : ℕ) (before after : List Bool) → is_well_formed p ≡ true
         → IsResolved p h → IsAcyclic p → NoSplit p → TypesAll p h
         → (done : IsOptimised o p advisers before after spared r origins rounds) → Stays done.admitted p r }
+{}
+
+/// The same of what `optimise_inlined` leaves, which inlines calls before the rounds: but for what a body may come to, which has no
+/// more registers than before, or at most 16.
+pub fn all_rules_inlined_law()
+    ensures shown { (p r : Program) (origins : List (List Origin)) (h : Hierarchy) (o : Outside) (olds news : List Voice) (spared rounds : ℕ) (before after : List Bool) → is_well_formed p ≡ true
+        → IsResolved p h → IsAcyclic p → NoSplit p → TypesAll p h
+        → (done : IsOptimisedInlined o p olds news before after spared r origins rounds) → ShutsHold (named p) (outer_of p o)
+        → SameShown (silenced (named p) (outer_of p o) (admitted_in p done.admitted)) (named r) (outer_of p o) }
+    ensures sound { (p r : Program) (origins : List (List Origin)) (h : Hierarchy) (o : Outside) (olds news : List Voice) (spared rounds : ℕ) (before after : List Bool) → is_well_formed p ≡ true
+        → IsResolved p h → IsAcyclic p → NoSplit p → TypesAll p h
+        → IsOptimisedInlined o p olds news before after spared r origins rounds → IsSound r }
+    ensures folded { (p r : Program) (origins : List (List Origin)) (h : Hierarchy) (o : Outside) (olds news : List Voice) (spared rounds : ℕ) (before after : List Bool) → is_well_formed p ≡ true
+        → IsResolved p h → IsAcyclic p → NoSplit p → TypesAll p h
+        → (done : IsOptimisedInlined o p olds news before after spared r origins rounds) → NoneKnown o done.admitted r ⊎ KeepsForms o done.admitted r }
+    ensures bound { (p r : Program) (origins : List (List Origin)) (h : Hierarchy) (o : Outside) (olds news : List Voice) (spared rounds : ℕ) (before after : List Bool) → is_well_formed p ≡ true
+        → IsResolved p h → IsAcyclic p → NoSplit p → TypesAll p h
+        → (done : IsOptimisedInlined o p olds news before after spared r origins rounds) → NoneBindable o done.admitted r ⊎ KeepsForms o done.admitted r }
+    ensures quiet { (p r : Program) (origins : List (List Origin)) (h : Hierarchy) (o : Outside) (olds news : List Voice) (spared rounds : ℕ) (before after : List Bool) → is_well_formed p ≡ true
+        → IsResolved p h → IsAcyclic p → NoSplit p → TypesAll p h
+        → (done : IsOptimisedInlined o p olds news before after spared r origins rounds) → NoneQuiet o done.admitted r ⊎ KeepsForms o done.admitted r }
+    ensures skips { (p r : Program) (origins : List (List Origin)) (h : Hierarchy) (o : Outside) (olds news : List Voice) (spared rounds : ℕ) (before after : List Bool) → is_well_formed p ≡ true
+        → IsResolved p h → IsAcyclic p → NoSplit p → TypesAll p h
+        → (done : IsOptimisedInlined o p olds news before after spared r origins rounds) → NothingLeft done.admitted r }
+    ensures dead { (p r : Program) (origins : List (List Origin)) (h : Hierarchy) (o : Outside) (olds news : List Voice) (spared rounds : ℕ) (before after : List Bool) → is_well_formed p ≡ true
+        → IsResolved p h → IsAcyclic p → NoSplit p → TypesAll p h
+        → (done : IsOptimisedInlined o p olds news before after spared r origins rounds) → NoneDead (is_quiet_field r) done.admitted r }
+    ensures fresh { (p r : Program) (origins : List (List Origin)) (h : Hierarchy) (o : Outside) (olds news : List Voice) (spared rounds : ℕ) (before after : List Bool) → is_well_formed p ≡ true
+        → IsResolved p h → IsAcyclic p → NoSplit p → TypesAll p h
+        → (done : IsOptimisedInlined o p olds news before after spared r origins rounds) → has_narrow_classes r ≡ true → AllFresh done.admitted r }
+    ensures packed { (p r : Program) (origins : List (List Origin)) (h : Hierarchy) (o : Outside) (olds news : List Voice) (spared rounds : ℕ) (before after : List Bool) → is_well_formed p ≡ true
+        → IsResolved p h → IsAcyclic p → NoSplit p → TypesAll p h
+        → (done : IsOptimisedInlined o p olds news before after spared r origins rounds) → has_narrow_classes r ≡ true → AllPacked done.admitted r }
+    ensures stays { (p r : Program) (origins : List (List Origin)) (h : Hierarchy) (o : Outside) (olds news : List Voice) (spared rounds : ℕ) (before after : List Bool) → is_well_formed p ≡ true
+        → IsResolved p h → IsAcyclic p → NoSplit p → TypesAll p h
+        → (done : IsOptimisedInlined o p olds news before after spared r origins rounds) → StaysInlined done.admitted p r }
 {}

@@ -73,7 +73,7 @@ module _ (admitted : List Bool) where
     registers_with : (fs : List Fate) (m : Method) (o : Option Body) → m.body ≡ o → NoMoreRegisters m.body (with_body fs m o).body
     unfolding with_body
     registers_with fs m (Some b) e = subst (λ z. NoMoreRegisters z (Some (body_thinned (fates_of fs) b))) (sym e) (omega arith, refl)
-    registers_with fs m None e = no_more_same admitted m.body
+    registers_with fs m None e = no_more_same m.body
 
     is_with : (fs : List Fate) (m : Method) → with_body fs m m.body ≡ method_thinned fs m
     unfolding with_body
@@ -92,7 +92,7 @@ module _ (admitted : List Bool) where
         rest_by false = subst (IsRest m) (is_with fs m) (rest_with fs m m.body)
 
         registers_by : (z : Bool) → NoMoreRegisters m.body (if z then m else method_thinned fs m).body
-        registers_by true = no_more_same admitted m.body
+        registers_by true = no_more_same m.body
         registers_by false = subst (λ (n : Method). NoMoreRegisters m.body n.body) (is_with fs m) (registers_with fs m m.body refl)
 
     thinned_methods : (ms : List Method) (plan : List (List Fate)) → AreFor (HasFates wishes admitted) ms plan → (n : Method) → Stands (methods_by plan ms) n → (m : Method) × (Stands ms m × MethodStays admitted m n)
@@ -141,8 +141,8 @@ module _ (admitted : List Bool) where
     copied_registers true (Some b) None h = absurd h
     copied_registers true None q h = subst (λ z. NoMoreRegisters None z) (sym h) tt
     copied_registers false None q h = subst (λ z. NoMoreRegisters None z) (sym h) tt
-    copied_registers false (Some b) None h = subst (λ z. NoMoreRegisters (Some b) z) (sym h) (no_more_same admitted (Some b))
-    copied_registers false (Some b) (Some d) h = subst (λ z. NoMoreRegisters (Some b) z) (sym h) (no_more_same admitted (Some b))
+    copied_registers false (Some b) None h = subst (λ z. NoMoreRegisters (Some b) z) (sym h) (no_more_same (Some b))
+    copied_registers false (Some b) (Some d) h = subst (λ z. NoMoreRegisters (Some b) z) (sym h) (no_more_same (Some b))
 
     copied_method : (m n : Method) → copies.IsPropagatedMethod w admitted m n → MethodStays admitted m n
     copied_method m n h = record {
@@ -177,8 +177,8 @@ module _ (admitted : List Bool) where
     packed_registers true (Some b) None h = absurd h
     packed_registers true None q h = subst (λ z. NoMoreRegisters None z) (sym h) tt
     packed_registers false None q h = subst (λ z. NoMoreRegisters None z) (sym h) tt
-    packed_registers false (Some b) None h = subst (λ z. NoMoreRegisters (Some b) z) (sym h) (no_more_same admitted (Some b))
-    packed_registers false (Some b) (Some d) h = subst (λ z. NoMoreRegisters (Some b) z) (sym h) (no_more_same admitted (Some b))
+    packed_registers false (Some b) None h = subst (λ z. NoMoreRegisters (Some b) z) (sym h) (no_more_same (Some b))
+    packed_registers false (Some b) (Some d) h = subst (λ z. NoMoreRegisters (Some b) z) (sym h) (no_more_same (Some b))
 
     packed_method : (m n : Method) → packs.IsCompactedMethod w admitted m n → MethodStays admitted m n
     packed_method m n h = record {

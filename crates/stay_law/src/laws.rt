@@ -11,12 +11,14 @@ ghost use Rattle.dead_code.specs.Wishes.{AreCleaned};
 ghost use Rattle.squeeze.specs.Skipping.{AreSkips};
 ghost use Rattle.copy_prop.specs.Propagated.{IsPropagatedProgram};
 ghost use Rattle.compact.specs.Renamed.{IsCompactedProgram};
-ghost use Rattle.stay_law.specs.Stays.{Stays};
+ghost use Rattle.stay_law.specs.Stays.{Stays, StaysInlined};
 
-/// A program stays where nothing is done, and where it stays twice, it stays.
+/// A program stays where nothing is done, and where it stays twice, it stays, also where calls are inlined before or behind.
 pub fn stays_law()
     ensures same { (admitted : List Bool) (p : Program) → Stays admitted p p }
     ensures twice { (admitted : List Bool) (p q r : Program) → Stays admitted p q → Stays admitted q r → Stays admitted p r }
+    ensures behind { (admitted : List Bool) (p q r : Program) → Stays admitted p q → StaysInlined admitted q r → StaysInlined admitted p r }
+    ensures before { (admitted : List Bool) (p q r : Program) → StaysInlined admitted p q → Stays admitted q r → StaysInlined admitted p r }
 {}
 
 /// It stays where classes and members go, where positions go, where instructions are written over others, whatever they are,

@@ -7,7 +7,7 @@ ghost use Rattle.program_model.specs.ProgramRules.{is_well_formed};
 ghost use Rattle.verify.specs.Building.{AreChainsOf};
 ghost use Rattle.program_model.specs.MemberRules.{words_of};
 ghost use Rattle.program_model.specs.Texts.{string_text};
-ghost use Rattle.verify.specs.Descriptors.{same_text, short, width_in, shape_named, base_shape, without_brackets, item_number, item_named, object_text, AreTypesOf};
+ghost use Rattle.verify.specs.Descriptors.{same_text, short, width_in, shape_named, base_shape, without_brackets, item_number, item_named, object_text, AreNamed, AreTypesOf};
 ghost use Rattle.verify.specs.Flow.{greatest};
 ghost use Rattle.verify.specs.Meeting.{IsMeeting};
 ghost use Rattle.verify.specs.Types.{shape_in, shape_of, item_shape, item_of_class, kind_of_class, kind_of_shape, kind_of, reference_kind, cast_kind, kind_of_item, proto_words, is_constructor};
@@ -155,15 +155,19 @@ struct TypeTables {
     words: Vec<u32>,
 }
 
-/// The tables of the types of a program.
-fn types_of(alloc: Global, program: &Program) -> Result<TypeTables, AllocError>
+/// The tables of the types of a program whose types have these names.
+fn types_named(
+    alloc: Global,
+    program: &Program,
+    named: &Named<'_>,
+) -> Result<TypeTables, AllocError>
+    requires { AreNamed program.now named.now }
     ensures shapes { IfOk result (λ t. t.shapes.items ≡ map (λ s. shape_named program.now (string_text program.now s)) program.now.types) }
     ensures bases { IfOk result (λ t. t.bases.items ≡ map (λ s. base_shape program.now (without_brackets (string_text program.now s))) program.now.types) }
     ensures items { IfOk result (λ t. t.items.items ≡ map (λ s. item_number program.now (without_brackets (string_text program.now s))) program.now.types) }
     ensures object { IfOk result (λ t. t.object ≡ item_named program.now object_text) }
     ensures words { IfOk result (λ t. t.words.items ≡ map (λ q. short (sum_by (words_of program.now) q.parameters)) program.now.protos) }
 {
-    let named = Named::make(alloc, program)?;
     let shapes = named.shapes(alloc, program)?;
     let words = proto_words(alloc, program.protos.as_slice(), shapes.as_slice())?;
     let bases = named.bases(alloc, program)?;
@@ -175,6 +179,18 @@ fn types_of(alloc: Global, program: &Program) -> Result<TypeTables, AllocError>
         object: named.object(program),
         words,
     })
+}
+
+/// The tables of the types of a program.
+fn types_of(alloc: Global, program: &Program) -> Result<TypeTables, AllocError>
+    ensures shapes { IfOk result (λ t. t.shapes.items ≡ map (λ s. shape_named program.now (string_text program.now s)) program.now.types) }
+    ensures bases { IfOk result (λ t. t.bases.items ≡ map (λ s. base_shape program.now (without_brackets (string_text program.now s))) program.now.types) }
+    ensures items { IfOk result (λ t. t.items.items ≡ map (λ s. item_number program.now (without_brackets (string_text program.now s))) program.now.types) }
+    ensures object { IfOk result (λ t. t.object ≡ item_named program.now object_text) }
+    ensures words { IfOk result (λ t. t.words.items ≡ map (λ q. short (sum_by (words_of program.now) q.parameters)) program.now.protos) }
+{
+    let named = Named::make(alloc, program)?;
+    types_named(alloc, program, &named)
 }
 
 /// The names of the classes, and which methods are constructors.

@@ -1,4 +1,4 @@
-use Rattle.stay_law.proofs.Staying.{stays_same, stays_on}
+use Rattle.stay_law.proofs.Staying.{stays_same, stays_on, stays_behind, stays_before}
 use Rattle.stay_law.proofs.laws.stays_law.Goals as goal
 
 pub returns-clause-same : goal.returns-clause-same
@@ -6,3 +6,9 @@ returns-clause-same c = stays_same
 
 pub returns-clause-twice : goal.returns-clause-twice
 returns-clause-twice c = stays_on
+
+pub returns-clause-behind : goal.returns-clause-behind
+returns-clause-behind c = stays_behind
+
+pub returns-clause-before : goal.returns-clause-before
+returns-clause-before c = stays_before

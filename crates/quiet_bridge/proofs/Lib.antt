@@ -1,0 +1,3 @@
+pub mod Bodies
+pub mod Formed
+pub mod Programs

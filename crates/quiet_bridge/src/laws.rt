@@ -1,0 +1,22 @@
+//! The laws.
+
+ghost use Rattle.std.specs.Prelude.{◌≡◌, Bool, true, List};
+ghost use Rattle.program_model.specs.ProgramRules.{is_well_formed};
+ghost use Rattle.program_model.specs.declared.pass.Changed.{Changed};
+ghost use Rattle.program_model.specs.declared.program.Program.{Program};
+ghost use Rattle.bodies_law.specs.Numbered.{OtherNumberedBodies};
+ghost use Rattle.facts.specs.declared.facts.Facts.{Facts};
+ghost use Rattle.quiet_code.specs.Quieted.{IsQuieted};
+ghost use Rattle.quiet_bridge.specs.Nopped.{QuietedCode};
+
+/// What is left of a program has the same tables, and the same classes and members but for bodies, in which nops stand for just
+/// the instructions that do nothing by the facts.
+pub fn quieted_bodies_law()
+    ensures { (p : Program) (facts : Facts) (admitted : List Bool) (c : Changed) (q : IsQuieted p facts admitted c)
+        → OtherNumberedBodies (QuietedCode p q.quiet facts.frames.items) p c.program }
+{}
+
+/// What is left of a well-formed program is well-formed.
+pub fn quieted_formed_law()
+    ensures { (p : Program) (facts : Facts) (admitted : List Bool) (c : Changed) → is_well_formed p ≡ true → IsQuieted p facts admitted c → is_well_formed c.program ≡ true }
+{}

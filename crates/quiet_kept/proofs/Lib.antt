@@ -1,0 +1,11 @@
+pub mod Standing
+pub mod Ways
+pub mod Dividing
+pub mod Entering
+pub mod Advancing
+pub mod Veiling
+pub mod Runs
+pub mod Named
+pub mod Typing
+pub mod Shuts
+pub mod Kept

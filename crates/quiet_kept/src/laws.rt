@@ -1,0 +1,16 @@
+//! The laws.
+
+ghost use Rattle.quiet_kept.specs.Owed.{QuietedKept, QuietedShut};
+
+/// What is left of a well-formed and typed program once calls and divisions that do nothing by certified facts are nops is kept
+/// for the outside of these facts.
+#[tactic(auto, using(crate::proofs::Kept::quieted_kept))]
+pub fn quieted_kept_law()
+    ensures { QuietedKept }
+{}
+
+/// Whatever the facts are, it keeps what a table of shut methods owes: a nop calls nothing.
+#[tactic(auto, using(crate::proofs::Shuts::quieted_shut))]
+pub fn quieted_shut_law()
+    ensures { QuietedShut }
+{}

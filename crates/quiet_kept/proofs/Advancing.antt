@@ -88,8 +88,6 @@ use Rattle.cover_law.proofs.Waiting.{formed}
 use Rattle.value_law.specs.Operators.{operators}
 use Rattle.thin_rules.proofs.Tidied.{code_rules}
 use Rattle.thin_bridge.proofs.Inside.{some_position, get_contains}
-use Rattle.quiet_methods.specs.declared.forms.Demand.{Demand}
-use Rattle.quiet_methods.specs.declared.forms.Demand.TheVariants.{Nothing, Call, Loud}
 use Rattle.quiet_methods.specs.Forms.{quiet_if, starts_quietly, gets_quietly, method_demand, found_demand, call_demand, never_throws, form_demand, demand, ways}
 use Rattle.quiet_methods.specs.Settled.{rank_at, IsLower}
 use Rattle.quiet_methods.specs.Bodies.{frame_in, demand_in, ways_in}
@@ -197,7 +195,7 @@ module _ (program : Program) (facts : Facts) (o : Outer) (f : Framework) (floats
     small : Small i0
     small = by (nat_lt (length (targets_of i0)) 4294967296) refl met
       where
-        by : (c : Bool) → nat_lt (length (targets_of i0)) 4294967296 ≡ c → IsMet are.levels level (if c then form_demand program x i0 else Loud) → Small i0
+        by : (c : Bool) → nat_lt (length (targets_of i0)) 4294967296 ≡ c → IsMet are.levels level (if c then form_demand program x i0 else quiet_if false) → Small i0
         by true e h = record { few = e; asks = h }
         by false e h = absurd h
 
@@ -337,35 +335,46 @@ module _ (program : Program) (facts : Facts) (o : Outer) (f : Framework) (floats
         by None i j = none_some at j
         by (Some q) i j = got_short program.methods callee q i
 
-    -- the method that is called, with its first instruction
+    -- what a call asks for that finds a method with this code in a class that runs no code
+    abbrev coded : Method → Body → Method
+    coded method code' = record method { body = Some code' }
+
+    -- the method that is called
     record Called (callee : ℕ) : Type 0 where
       at : MethodAt
       found : finds_static program callee ≡ Some at
       method : Method
+      body : Body
       there : look.method_at program at ≡ Some method
-      coded : is_some method.body ≡ true
+      has_code : method.body ≡ Some body
       starts : starts_quietly program at.class ≡ true
-      asks : demand_in program (frame_in (frames_of frames m.name) n) i0 ≡ Call method.name
+      asks : demand_in program (frame_in (frames_of frames m.name) n) i0 ≡ method_demand true (Some (coded method body))
 
     called_so : (callee : ℕ) (args : List ℕ) (e : i0 ≡ insn.Invoke call.Static callee args) → IsMet are.levels level (found_demand program (finds_static program callee)) → Called callee
     called_so callee args e h = by (finds_static program callee) refl h
       where
+        in_code : (at : MethodAt) → finds_static program callee ≡ Some at → (m' : Method) → look.method_at program at ≡ Some m' → starts_quietly program at.class ≡ true
+            → (o : Option Body) → m'.body ≡ o → IsMet are.levels level (method_demand true (Some (record m' { body = o }))) → Called callee
+        in_code at i m' j z None l h = absurd h
+        in_code at i m' j z (Some code') l h = record {
+          at = at;
+          found = i;
+          method = m';
+          body = code';
+          there = j;
+          has_code = l;
+          starts = z;
+          asks = demand_is ∙ ap (demand program x) e ∙ ap (λ c. if c then form_demand program x (insn.Invoke call.Static callee args) else quiet_if false) (sym (ap (λ i. nat_lt (length (targets_of i)) 4294967296) e) ∙ small.few)
+              ∙ ap (found_demand program) i ∙ ap (method_demand (starts_quietly program at.class)) j ∙ ap (λ c. method_demand c (Some m')) z ∙ ap (λ (o : Option Body). method_demand true (Some (record m' { body = o }))) l;
+        }
+
+        in_class : (at : MethodAt) → finds_static program callee ≡ Some at → (m' : Method) → look.method_at program at ≡ Some m' → (c : Bool) → starts_quietly program at.class ≡ c → IsMet are.levels level (method_demand c (Some m')) → Called callee
+        in_class at i m' j false z h = absurd h
+        in_class at i m' j true z h = in_code at i m' j z m'.body refl h
+
         in_method : (at : MethodAt) → finds_static program callee ≡ Some at → (y : Option Method) → look.method_at program at ≡ y → IsMet are.levels level (method_demand (starts_quietly program at.class) y) → Called callee
         in_method at i None j k = absurd k
-        in_method at i (Some m') j k = in_test (starts_quietly program at.class && is_some m'.body) refl k
-          where
-            in_test : (c : Bool) → (starts_quietly program at.class && is_some m'.body) ≡ c → IsMet are.levels level (cond c (Call m'.name) Loud) → Called callee
-            in_test false l z = absurd z
-            in_test true l z = record {
-              at = at;
-              found = i;
-              method = m';
-              there = j;
-              coded = and_right (starts_quietly program at.class) (is_some m'.body) l;
-              starts = and_left (starts_quietly program at.class) (is_some m'.body) l;
-              asks = demand_is ∙ ap (demand program x) e ∙ ap (λ c. if c then form_demand program x (insn.Invoke call.Static callee args) else Loud) (sym (ap (λ i. nat_lt (length (targets_of i)) 4294967296) e) ∙ small.few)
-                  ∙ ap (found_demand program) i ∙ ap (method_demand (starts_quietly program at.class)) j ∙ ap (λ c. cond c (Call m'.name) Loud) l;
-            }
+        in_method at i (Some m') j k = in_class at i m' j (starts_quietly program at.class) refl k
 
         by : (y : Option MethodAt) → finds_static program callee ≡ y → IsMet are.levels level (found_demand program y) → Called callee
         by None i k = absurd k
@@ -381,7 +390,7 @@ module _ (program : Program) (facts : Facts) (o : Outer) (f : Framework) (floats
         marked = falls.marked m b is_code (alone program run.fits run.once m b is_code) on n i0 st.number.here.has_insn c.method.name c.asks
 
         target : QuietTarget program marks c.at
-        target = target_of program facts o f floats script run marks c.at c.method c.there c.coded marked c.starts
+        target = target_of program facts o f floats script run marks c.at c.method c.there (ap is_some c.has_code) marked c.starts
 
         enters : EntersIt program facts o f floats script run marks w cs g st c.at target
         enters = static_enters program facts o f floats script run marks w cs g st c.at target callee args (here_is (insn.Invoke call.Static callee args) e) (low_of callee c.at c.found) c.found
@@ -402,7 +411,7 @@ module _ (program : Program) (facts : Facts) (o : Outer) (f : Framework) (floats
         below : rank enters.call.method 0 < rank g.method n
         below =
             let l = falls.call m b is_code (alone program run.fits run.once m b is_code) on n i0 st.number.here.has_insn target.method target.body entry.0 code' (alone program run.fits run.once target.method target.body code') entry.1
-            (c.asks ∙ ap Call (sym same_name)) in
+            (c.asks ∙ ap (λ (k : ℕ). method_demand true (Some (record c.method { name = k; body = Some c.body }))) (sym same_name)) in
             omega (arith, rank_is enters.call.method target.method.name 0 enters.is_number, here_rank n, l)
 
     -- ---- all forms

@@ -80,20 +80,26 @@ module _ (p : Program) (fits : is_well_formed p ≡ true) (marks : List Bool) (f
 
     goes : (n : ℕ) (i : Insn) → slice_get b.insns n ≡ Some i → DoesNothing p marks (frame_at frames m.name n) b n i
         → (form_of p (nop_for true i) ≡ form.Nop) × (IsCallGone (gone k) (body_of p b) n (form_of p i) ⊎ IsSpare (spare k) (body_of p b) n (form_of p i))
-    goes n (insn.Invoke kind callee args) e d = (refl, inl (record {
-      marked = record { method = m; body = b; code = code; is_number = number_is; kind = kind; callee = callee; args = args; there = e; idle = d.1 };
-      kind = kind;
-      named = naming.method_at p callee;
-      args = args;
-      call = refl;
-      untaken = ap takes_result (form_there p b (n + 1)) ∙ (same_takes p (slice_get b.insns (n + 1)) ∙ d.0);
-    }))
-    goes n (insn.Binary op to x y) e d = (refl, inr (record {
-      marked = record { method = m; body = b; code = code; is_number = number_is; op = op; to = to; x = x; y = y; there = e; well = d.1 };
-      goes_on = refl;
-      gives_none = refl;
-      unread = λ r w h. d.2.unread r w ((read_after_by_number p b r n).0 h);
-    }))
+    goes n (insn.Invoke kind callee args) e d = (
+      refl,
+      inl (record {
+        marked = record { method = m; body = b; code = code; is_number = number_is; kind = kind; callee = callee; args = args; there = e; idle = d.1 };
+        kind = kind;
+        named = naming.method_at p callee;
+        args = args;
+        call = refl;
+        untaken = ap takes_result (form_there p b (n + 1)) ∙ (same_takes p (slice_get b.insns (n + 1)) ∙ d.0);
+      }),
+    )
+    goes n (insn.Binary op to x y) e d = (
+      refl,
+      inr (record {
+        marked = record { method = m; body = b; code = code; is_number = number_is; op = op; to = to; x = x; y = y; there = e; well = d.1 };
+        goes_on = refl;
+        gives_none = refl;
+        unread = λ r w h. d.2.unread r w ((read_after_by_number p b r n).0 h);
+      }),
+    )
     goes n i e d = absurd d
 
     in_after : (n : ℕ) → form_at (body_of p after) n ≡ option_map (form_of p) (option_map (nop_for (idle n)) (slice_get b.insns n))

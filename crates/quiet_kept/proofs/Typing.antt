@@ -363,9 +363,10 @@ module _ (p : Program) (fits : is_well_formed p ≡ true) (marks : List Bool) wh
         by _ _ (Quieted class c' m' a is_class in_class has_code is_key idle are live live_in) e n =
             let t = typed.bodies c m (body_of p a) i j e in
             let l = living a live live_in in
-            subst (λ z. (t : Table) × IsTyping (named p) c m z t) (sym (some_same b (body_of p (body_nopped idle a)) n))
-            (veiled_table l.live (raised (named p) (body_of p a).forms t.0),
-            nopped_typing a (well_placed p fits c m (body_of p a) i j e) (λ n. frame_at frames m'.name n) idle are l c m t.0 t.1)
+            subst (λ z. (t : Table) × IsTyping (named p) c m z t) (sym (some_same b (body_of p (body_nopped idle a)) n)) (
+              veiled_table l.live (raised (named p) (body_of p a).forms t.0),
+              nopped_typing a (well_placed p fits c m (body_of p a) i j e) (λ n. frame_at frames m'.name n) idle are l c m t.0 t.1,
+            )
 
     pub quieted_typed : (q : Program) → OtherNumberedBodies (QuietedCode p marks frames) p q → IsTyped (named q)
     quieted_typed q h = others_typed NopsNamed (named p) (named q) (others_named (QuietedCode p marks frames) NopsNamed p nops_named q h) new_typed

@@ -361,11 +361,7 @@ fn optimise_program(
 }
 
 /// A panel of the advisers that were told what the words say.
-fn told(
-    alloc: Global,
-    tells: &[Tell],
-    advisers: Vec<Box<dyn Adviser>>,
-) -> Result<Panel, AllocError>
+fn told(alloc: Global, tells: &[Tell], advisers: Vec<Box<dyn Adviser>>) -> Result<Panel, AllocError>
     ensures told { IfOk result (λ panel. AreTold tells.now
         (map (λ b. (⟦<dyn Adviser as Adviser>⟧ b.vtable).replies b.value) advisers.items)
         (map (λ b. (⟦<dyn Adviser as Adviser>⟧ b.vtable).replies b.value) panel.advisers.items)) }

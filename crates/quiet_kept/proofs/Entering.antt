@@ -97,9 +97,6 @@ use Rattle.receivers.specs.Receiving.{agreed_under, found_by, handed_down, inter
 use Rattle.receivers.proofs.Handed.{handed}
 use Rattle.receivers.proofs.Ranges.{in_contains, filter_in, numbers_in}
 use Rattle.receivers.proofs.Walks.{under_self}
-use Rattle.devirt.specs.declared.binding.Call.{Call}
-use Rattle.devirt.proofs.Bound.{agree}
-use Rattle.verify.specs.declared.kinds.Kind.TheVariants as kinds
 use Rattle.rebind_law.specs.Receivers.{Renames, finds_listed}
 use Rattle.rebind_law.proofs.ByClass.{received}
 use Rattle.rebind_law.proofs.ByClass as by_class
@@ -109,6 +106,7 @@ use Rattle.quiet_methods.specs.Forms.{starts_quietly}
 use Rattle.quiet_methods.specs.Quiet.{is_on, IsCode}
 use Rattle.quiet_code.specs.Calls.{is_constructor, is_called_so, is_quiet_at, is_quiet_target, is_quiet_found, is_quiet_named, is_quiet_for_all, is_quiet_under, is_quiet_virtual, is_no_null, holds_object, has_object, is_idle_call, is_init}
 use Rattle.quiet_law.specs.Calls.{EntersQuietly}
+use Rattle.quiet_kept.proofs.Agreed.{all_agree}
 use Rattle.quiet_kept.proofs.Standing.{Run, Stands, Framed, stands_there, framed, same_code, form_same, form_there, code, insn as insn_of, method as method_of, body as code_of, A, T, S, settled, based, Reaches, calm, setting, find}
 
 -- ---- what isn't null
@@ -358,11 +356,8 @@ module _ (program : Program) (facts : Facts) (o : Outer) (f : Framework) (floats
               (filter_in (λ d. is_under program d class && not (nat_eq d class)) (range_with_len 0 (length program.classes)) c (numbers_in 0 (length program.classes) c (omega arith) (omega (arith, l)))
               (and_both (is_under program c class) (not (nat_eq c class)) u (not_of_false (nat_eq c class) e))))
 
-      abbrev any_call : Call
-      any_call = record { caller = 0; kind = call.Virtual; method = 0; receiver = kinds.Zero }
-
       all_find_it : (c : ℕ) → c < length program.classes → is_under program c class ≡ true → found_by program q c ≡ Some at
-      all_find_it c l u = (agree program any_call q (class ∷ subclasses_of program class) at agreed_at).each c (among c l u)
+      all_find_it c l u = all_agree program q (class ∷ subclasses_of program class) at agreed_at c (among c l u)
 
       abbrev key : MethodKey
       key = naming.method_at program callee

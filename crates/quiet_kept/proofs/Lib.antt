@@ -1,6 +1,7 @@
 pub mod Standing
 pub mod Ways
 pub mod Dividing
+pub mod Agreed
 pub mod Entering
 pub mod Advancing
 pub mod Veiling

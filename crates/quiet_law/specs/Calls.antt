@@ -67,7 +67,8 @@ pub record WorksAlone (s : Setting) (find : Bodies) (w : World) (c : Classes) (f
 pub record QuietRuns (s : Setting) (find : Bodies) (quiet : MethodKey → Type 0) (rank : Rank) (gone spare : Gone) (I : State → Type 0) : Type 0 where
   pub advances : (w : World) (c : Classes) (f : Frame) (rest : List Waiting) (script : List Move) → I (On w c (Method f ∷ rest) script) → quiet f.method → Advances s find quiet rank w c f
   pub enters : (w : World) (c : Classes) (f : Frame) (rest : List Waiting) (script : List Move) → I (On w c (Method f ∷ rest) script) → gone f.method f.position → EntersQuietly s find quiet w c f
-  pub works : (w : World) (c : Classes) (f : Frame) (rest : List Waiting) (script : List Move) (x : Form) → I (On w c (Method f ∷ rest) script) → form_here find f ≡ Some x → spare f.method f.position → WorksAlone s find w c f x
+  pub works : (w : World) (c : Classes) (f : Frame) (rest : List Waiting) (script : List Move) (x : Form) → I (On w c (Method f ∷ rest) script) → form_here find f ≡ Some x
+      → spare f.method f.position → WorksAlone s find w c f x
   pub keeps : (t : State) → I t → I (step s find t).0
 
 -- a call that goes, whose result isn't taken

@@ -1,0 +1,5 @@
+pub mod Fit
+pub mod In
+pub mod Naming
+pub mod Used
+pub mod Texts

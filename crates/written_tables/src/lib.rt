@@ -1,0 +1,4 @@
+//! The tables of a written file: laws.
+#![tactic(auto)]
+
+pub mod laws;

@@ -4,3 +4,15 @@ pub mod Plans
 pub mod Parts
 pub mod Sorting
 pub mod Pairs
+pub mod Grouped
+pub mod Members
+pub mod SetTexts
+pub mod Rising
+pub mod ValueTexts
+pub mod Marks
+pub mod Kinds
+pub mod FineSets
+pub mod Few
+pub mod Firsts
+pub mod Small
+pub mod Filed

@@ -13,8 +13,9 @@ use Rattle.program_model.specs.declared.program.Class.{Class}
 use Rattle.dex_write.specs.declared.ordered.MethodPart.{MethodPart}
 use Rattle.dex_write.specs.declared.tables.ClassOffsets.{ClassOffsets}
 use Rattle.dex_write.specs.Numbers.{at_place}
-use Rattle.dex_write.specs.Plans.{Plan, Numbered, is_before, insert, in_order}
-use Rattle.dex_write.specs.Codes.{codes_behind, lines_behind}
+use Rattle.code_write.specs.Pairs.{Numbered, is_before, insert, in_order}
+use Rattle.dex_write.specs.Plans.{Plan}
+use Rattle.dex_write.specs.Codes.{code_behind, codes_behind, lines_behind}
 use Rattle.dex_write.specs.Sets.{pair_list, field_pairs, method_pairs, ref_counts, own_count, parameter_count, own_offsets, behind_class, set_counts}
 use Rattle.dex_defs.specs.ClassData.{Entry}
 use Rattle.dex_defs.specs.Annotations.{offset_for}
@@ -24,7 +25,8 @@ use Rattle.write_laws.proofs.Fitting.{plan_long}
 use Rattle.written_tables.proofs.In.{In}
 use Rattle.written_classes.proofs.Places.{has}
 use Rattle.written_classes.proofs.Sorting.{Differ, order_all}
-use Rattle.written_classes.proofs.Parts.{split_by, class_part, class_parts, each_from, each_is, methods_are}
+use Rattle.written_classes.specs.Parts.{split_by, class_part, class_parts}
+use Rattle.written_classes.proofs.Parts.{each_from, each_is, methods_are}
 
 -- ---- pairs of numbers and offsets
 
@@ -143,7 +145,7 @@ field_numbers c (f ∷ fs) = ap (λ (l : List ℕ). f.0 ∷ l) (field_numbers c 
 
 method_numbers : (c : Class) (at : ℕ) (ms : List MethodPart) → map (λ e. e.number) (method_entries c at ms) ≡ map (λ m. m.number) ms
 method_numbers c at [] = refl
-method_numbers c at (m ∷ ms) = ap (λ (l : List ℕ). m.number ∷ l) (method_numbers c _ ms)
+method_numbers c at (m ∷ ms) = ap (λ (l : List ℕ). m.number ∷ l) (method_numbers c (code_behind at m) ms)
 
 map_both : {X Y : Type 0} (f : X → Y) (xs ys : List X) → map f (xs ++ ys) ≡ map f xs ++ map f ys
 map_both f [] ys = refl
@@ -176,31 +178,35 @@ map_long : {X Y : Type 0} (f : X → Y) (xs : List X) → length (map f xs) ≡ 
 map_long f [] = refl
 map_long f (x ∷ xs) = ap suc (map_long f xs)
 
-split_concat : (ns xs : List ℕ) → concat (split_by ns xs) ≡ take (sum ns) xs
-split_concat [] xs = refl
-split_concat (n ∷ ns) xs = ap (λ (l : List ℕ). take n xs ++ l) (split_concat ns (drop n xs)) ∙ (both n (sum ns) xs ∙ ap (λ (k : ℕ). take k xs) (sym (sum_by-cons (λ (x : ℕ). x) n ns)))
-  where
-    both : (a b : ℕ) (ys : List ℕ) → take a ys ++ take b (drop a ys) ≡ take (a + b) ys
-    both zero b ys = ap (λ (k : ℕ). take k ys) (omega arith)
-    both (suc a) b [] = nothing b ∙ sym (nothing (suc a + b))
-      where
-        nothing : (k : ℕ) → take k [] ≡ []
-        nothing zero = refl
-        nothing (suc k) = refl
-    both (suc a) b (y ∷ ys) = let e : suc a + b ≡ suc (a + b) = omega arith in ap (λ (l : List ℕ). y ∷ l) (both a b ys) ∙ ap (λ (k : ℕ). take k (y ∷ ys)) (sym e)
+none_taken : (k : ℕ) → take k [] ≡ []
+none_taken zero = refl
+none_taken (suc k) = refl
+
+none_dropped : (k : ℕ) → drop k [] ≡ []
+none_dropped zero = refl
+none_dropped (suc k) = refl
 
 taken : (a b : ℕ) (ys : List ℕ) → take a ys ++ take b (drop a ys) ≡ take (a + b) ys
-taken zero b ys = ap (λ (k : ℕ). take k ys) (omega arith)
-taken (suc a) b [] = nothing b ∙ sym (nothing (suc a + b))
-  where
-    nothing : (k : ℕ) → take k [] ≡ []
-    nothing zero = refl
-    nothing (suc k) = refl
+taken zero b ys = let e : b ≡ 0 + b = omega arith in ap (λ (k : ℕ). take k ys) e
+taken (suc a) b [] = none_taken b ∙ sym (none_taken (suc a + b))
 taken (suc a) b (y ∷ ys) = let e : suc a + b ≡ suc (a + b) = omega arith in ap (λ (l : List ℕ). y ∷ l) (taken a b ys) ∙ ap (λ (k : ℕ). take k (y ∷ ys)) (sym e)
+
+dropped : (a b : ℕ) (xs : List ℕ) → drop a (drop b xs) ≡ drop (b + a) xs
+dropped a zero xs = let e : a ≡ 0 + a = omega arith in ap (λ (k : ℕ). drop k xs) e
+dropped a (suc b) [] = none_dropped a ∙ sym (none_dropped (suc b + a))
+dropped a (suc b) (x ∷ xs) = let e : suc b + a ≡ suc (b + a) = omega arith in dropped a b xs ∙ ap (λ (k : ℕ). drop k (x ∷ xs)) (sym e)
+
+split_concat : (ns xs : List ℕ) → concat (split_by ns xs) ≡ take (sum ns) xs
+split_concat [] xs = refl
+split_concat (n ∷ ns) xs = ap (λ (l : List ℕ). take n xs ++ l) (split_concat ns (drop n xs)) ∙ (taken n (sum ns) xs ∙ ap (λ (k : ℕ). take k xs) (sym (sum_by-cons (λ (x : ℕ). x) n ns)))
 
 first_taken : (xs : List ℕ) → 1 ≤ length xs → at_place xs 0 ∷ [] ≡ take 1 xs
 first_taken [] le = absurd (omega (arith, le))
 first_taken (x ∷ xs) le = refl
+
+refs_counted : (x : Plan) → length (ref_counts x) ≡ length x.methods
+unfolding ref_counts
+refs_counted x = map_long _ x.methods
 
 module _ (r : Renumber) (offsets : ClassOffsets) (values : Plan → List EncValue) where
   own_refs : (place code_at lines_at : ℕ) (sets refs : List ℕ) (p : Plan) → HasOwn p → length p.methods ≤ length refs → ref_offsets (class_part r offsets values place code_at lines_at sets refs p) ≡ take (length p.methods) refs
@@ -217,15 +223,11 @@ module _ (r : Renumber) (offsets : ClassOffsets) (values : Plan → List EncValu
   refs_named place code_at lines_at sets [] [] own e = refl
   refs_named place code_at lines_at sets (x ∷ xs) [] own e = absurd (omega (arith, e))
   refs_named place code_at lines_at sets refs (p ∷ ps) own e =
-      let le : length refs ≡ length p.methods + length (flat_map (λ q. ref_counts q) ps) = e ∙ (length-append (ref_counts p) (flat_map (λ q. ref_counts q) ps) ∙ ap (λ (n : ℕ). n + length (flat_map (λ q. ref_counts q) ps)) (counts_long p)) in
+      let le : length refs ≡ length p.methods + length (flat_map (λ q. ref_counts q) ps) = e ∙ (length-append (ref_counts p) (flat_map (λ q. ref_counts q) ps) ∙ ap (λ (n : ℕ). n + length (flat_map (λ q. ref_counts q) ps)) (refs_counted p)) in
       let rest : List ClassPart = class_parts r offsets values (suc place) (codes_behind code_at p.methods) (lines_behind lines_at p.methods) (behind_class p sets) (drop (length p.methods) refs) ps in
       ap (λ (l : List ℕ). l ++ flat_map ref_offsets rest) (own_refs place code_at lines_at sets refs p own.0 (omega (arith, le)))
       ∙ ap (λ (l : List ℕ). take (length p.methods) refs ++ l) (refs_named (suc place) (codes_behind code_at p.methods) (lines_behind lines_at p.methods) (behind_class p sets) (drop (length p.methods) refs) ps own.1 (omega (arith, le, length-drop (length p.methods) refs)))
       ∙ take_rest (length p.methods) refs
-    where
-      counts_long : (x : Plan) → length (ref_counts x) ≡ length x.methods
-      unfolding ref_counts
-      counts_long x = map_long _ x.methods
 
   own_sets : (place code_at lines_at : ℕ) (sets refs : List ℕ) (p : Plan) → HasOwn p → own_count p + parameter_count p ≤ length sets → set_offsets (class_part r offsets values place code_at lines_at sets refs p) ≡ take (own_count p + parameter_count p) sets
   own_sets place code_at lines_at sets refs p own le =
@@ -248,8 +250,9 @@ module _ (r : Renumber) (offsets : ClassOffsets) (values : Plan → List EncValu
           ∙ offsets_back ms at2 own.methods (omega (arith, some_methods, le, length-drop 1 sets, length-drop (length p.fields) at1))
           ∙ ap (λ (k : ℕ). take k at2) some_methods in
       let own_part : List ℕ = own_offsets p sets in
+      let all_of_them : 1 + (length p.fields + (length p.methods + parameter_count p)) ≡ own_count p + parameter_count p = omega arith in
       let parameters : concat (split_by (ref_counts p) own_part) ≡ own_part = split_concat (ref_counts p) own_part ∙ whole (parameter_count p) (drop (own_count p) sets) in
-      let same3 : drop (own_count p) sets ≡ drop (length p.methods) at2 = sym (drop-drop' (length p.methods) (length p.fields) at1 ∙ drop-drop' (length p.fields + length p.methods) 1 sets) in
+      let same3 : drop (own_count p) sets ≡ drop (length p.methods) at2 = sym (dropped (length p.methods) (length p.fields) at1 ∙ dropped (length p.fields + length p.methods) 1 sets) in
       ap (λ (l : List ℕ). at_place sets 0 ∷ (l ++ (map (λ e. offset_for e.number (in_order (method_pairs p.methods 0 at2))) (methods_of (lists_in p code_at)) ++ concat (split_by (ref_counts p) own_part)))) fields
       ∙ ap (λ (l : List ℕ). at_place sets 0 ∷ (take (length p.fields) at1 ++ (l ++ concat (split_by (ref_counts p) own_part)))) methods
       ∙ ap (λ (l : List ℕ). at_place sets 0 ∷ (take (length p.fields) at1 ++ (take (length p.methods) at2 ++ l))) (parameters ∙ ap (λ (l : List ℕ). take (parameter_count p) l) same3)
@@ -257,21 +260,12 @@ module _ (r : Renumber) (offsets : ClassOffsets) (values : Plan → List EncValu
       ∙ ap (λ (l : List ℕ). at_place sets 0 ∷ l) (taken (length p.fields) (length p.methods + parameter_count p) at1)
       ∙ ap (λ (l : List ℕ). l ++ take (length p.fields + (length p.methods + parameter_count p)) at1) (first_taken sets (omega (arith, le)))
       ∙ taken 1 (length p.fields + (length p.methods + parameter_count p)) sets
-      ∙ ap (λ (k : ℕ). take k sets) (omega arith)
+      ∙ ap (λ (k : ℕ). take k sets) all_of_them
     where
       whole : (n : ℕ) (xs : List ℕ) → take n (take n xs) ≡ take n xs
       whole zero xs = refl
       whole (suc n) [] = refl
       whole (suc n) (x ∷ xs) = ap (λ (l : List ℕ). x ∷ l) (whole n xs)
-
-      drop-drop' : (a b : ℕ) (xs : List ℕ) → drop a (drop b xs) ≡ drop (b + a) xs
-      drop-drop' a zero xs = ap (λ (k : ℕ). drop k xs) (omega arith)
-      drop-drop' a (suc b) [] = nothing a ∙ sym (nothing (suc b + a))
-        where
-          nothing : (k : ℕ) → drop k [] ≡ []
-          nothing zero = refl
-          nothing (suc k) = refl
-      drop-drop' a (suc b) (x ∷ xs) = let e : suc b + a ≡ suc (b + a) = omega arith in drop-drop' a b xs ∙ ap (λ (k : ℕ). drop k (x ∷ xs)) (sym e)
 
   pub sets_named : (place code_at lines_at : ℕ) (sets refs : List ℕ) (ps : List Plan) → AllByRecursion HasOwn ps → length sets ≡ length (flat_map set_counts ps) → flat_map set_offsets (class_parts r offsets values place code_at lines_at sets refs ps) ≡ sets
   sets_named place code_at lines_at [] refs [] own e = refl
@@ -283,12 +277,3 @@ module _ (r : Renumber) (offsets : ClassOffsets) (values : Plan → List EncValu
       ap (λ (l : List ℕ). l ++ flat_map set_offsets rest) (own_sets place code_at lines_at sets refs p own.0 (omega (arith, le)))
       ∙ ap (λ (l : List ℕ). take (own_count p + parameter_count p) sets ++ l) (sets_named (suc place) (codes_behind code_at p.methods) (lines_behind lines_at p.methods) (behind_class p sets) (drop (length p.methods) refs) ps own.1 (omega (arith, le, ap (λ (l : List ℕ). length l) behind, length-drop (own_count p + parameter_count p) sets)) ∙ behind)
       ∙ take_rest (own_count p + parameter_count p) sets
-    where
-      dropped : (a b : ℕ) (xs : List ℕ) → drop a (drop b xs) ≡ drop (b + a) xs
-      dropped a zero xs = ap (λ (k : ℕ). drop k xs) (omega arith)
-      dropped a (suc b) [] = nothing a ∙ sym (nothing (suc b + a))
-        where
-          nothing : (k : ℕ) → drop k [] ≡ []
-          nothing zero = refl
-          nothing (suc k) = refl
-      dropped a (suc b) (x ∷ xs) = let e : suc b + a ≡ suc (b + a) = omega arith in dropped a b xs ∙ ap (λ (k : ℕ). drop k (x ∷ xs)) (sym e)

@@ -3,7 +3,7 @@ use Rattle.std.proofs.Common.{◌≡◌, ◌≤◌, ◌<◌, ◌+◌, ℕ, zero,
 use Rattle.std.specs.Prelude.{nat_eq, ◌&&◌, if◌then◌else◌}
 use Rattle.std.specs.List.{flat_map}
 use Rattle.std.proofs.Math.Seq.{drop-cons}
-use Rattle.std.proofs.lemmas.Bool.{eq-eqb, ne_eqb}
+use Rattle.std.proofs.lemmas.Bool.{eqb-true, eqb-false, ne_eqb}
 use Rattle.std.proofs.lemmas.List.{length-map, length-drop}
 use Rattle.dex_pools.specs.declared.interner.Interner.{Interner}
 use Rattle.program_model.specs.declared.pass.Renumber.{Renumber}
@@ -25,42 +25,9 @@ use Rattle.dex_defs.specs.Valid.{CodePart, ClassPart, methods_of, codes_of, entr
 use Rattle.dex_defs.specs.Arranged.{Both}
 use Rattle.write_laws.specs.Placing.{item_text, item_texts, code_offsets, line_offsets}
 use Rattle.write_laws.specs.Listing.{method_entry, method_entries, lists_in, all_lists_in}
-use Rattle.write_laws.proofs.Defs.{def_of}
+use Rattle.write_laws.specs.Listing.{def_of}
+use Rattle.written_classes.specs.Parts.{split_by, directory_of, code_parts, class_part, class_parts}
 use Rattle.write_laws.proofs.Numbers.{same_words}
-
--- ---- the parts
-
--- where the first list has so many of these, and so on
-abbrev pub split_by : List ℕ → List ℕ → List (List ℕ)
-split_by [] xs = []
-split_by (n ∷ ns) xs = take n xs ∷ split_by ns (drop n xs)
-
-abbrev pub directory_of : Plan → List ℕ → List ℕ → Directory
-directory_of p sets refs = record {
-  class = at_place sets 0;
-  fields = in_order (field_pairs p.fields 0 (drop 1 sets));
-  methods = in_order (method_pairs p.methods 0 (drop (length p.fields) (drop 1 sets)));
-  parameters = in_order (method_pairs p.methods 0 refs);
-}
-
-abbrev pub code_parts : ℕ → List MethodPart → List CodePart
-code_parts at [] = []
-code_parts at (m ∷ ms) = record { debug = debug_offset at m; text = item_text (debug_offset at m) m; lines = m.lines } ∷ code_parts (at + length m.lines) ms
-
-abbrev pub class_part : Renumber → ClassOffsets → (Plan → List EncValue) → ℕ → ℕ → ℕ → List ℕ → List ℕ → Plan → ClassPart
-class_part r offsets values place code_at lines_at sets refs p = record {
-  def = def_of r p.class offsets place;
-  lists = lists_in p code_at;
-  directory = directory_of p sets refs;
-  values = values p;
-  codes = code_parts lines_at p.methods;
-  refs = split_by (ref_counts p) (own_offsets p sets);
-}
-
-abbrev pub class_parts : Renumber → ClassOffsets → (Plan → List EncValue) → ℕ → ℕ → ℕ → List ℕ → List ℕ → List Plan → List ClassPart
-class_parts r offsets values place code_at lines_at sets refs [] = []
-class_parts r offsets values place code_at lines_at sets refs (p ∷ ps) = class_part r offsets values place code_at lines_at sets refs p
-    ∷ class_parts r offsets values (suc place) (codes_behind code_at p.methods) (lines_behind lines_at p.methods) (behind_class p sets) (drop (length p.methods) refs) ps
 
 -- ---- offsets that are those of a list, one by one
 
@@ -103,12 +70,20 @@ module _ (r : Renumber) (offsets : ClassOffsets) (values : Plan → List EncValu
 
   -- ---- directories
 
+  both_zero : (a b : ℕ) → (nat_eq a 0 && nat_eq b 0) ≡ nat_eq (a + b) 0
+  both_zero a b = by_test (nat_eq a 0) refl
+    where
+      by_test : (t : Bool) → nat_eq a 0 ≡ t → (nat_eq a 0 && nat_eq b 0) ≡ nat_eq (a + b) 0
+      by_test true t =
+          let none : a ≡ 0 = eqb-true a 0 t in
+          let same : b ≡ a + b = omega (arith, none) in
+          rw t (ap (λ (n : ℕ). nat_eq n 0) same)
+      by_test false t =
+          let some : nat_eq (a + b) 0 ≡ false = ne_eqb (a + b) 0 (λ e. absurd (eqb-false a 0 t (omega (arith, e)))) in
+          rw t (sym some)
+
   bare_nothing : (a b c d : ℕ) → (nat_eq a 0 && (nat_eq b 0 && (nat_eq c 0 && nat_eq d 0))) ≡ nat_eq (a + (b + (c + d))) 0
-  bare_nothing zero zero zero zero = sym (eq-eqb (0 + (0 + (0 + 0))) 0 (omega arith))
-  bare_nothing zero zero zero (suc d) = sym (ne_eqb (0 + (0 + (0 + suc d))) 0 (λ e. absurd (omega (arith, e))))
-  bare_nothing zero zero (suc c) d = sym (ne_eqb (0 + (0 + (suc c + d))) 0 (λ e. absurd (omega (arith, e))))
-  bare_nothing zero (suc b) c d = sym (ne_eqb (0 + (suc b + (c + d))) 0 (λ e. absurd (omega (arith, e))))
-  bare_nothing (suc a) b c d = sym (ne_eqb (suc a + (b + (c + d))) 0 (λ e. absurd (omega (arith, e))))
+  bare_nothing a b c d = ap (λ (t : Bool). nat_eq a 0 && (nat_eq b 0 && t)) (both_zero c d) ∙ (ap (λ (t : Bool). nat_eq a 0 && t) (both_zero b (c + d)) ∙ both_zero a (b + (c + d)))
 
   directory_same : (p : Plan) (sets refs : List ℕ) → kept.directory_text (directory_of p sets refs) ≡ writer.directory_text p sets refs
   unfolding writer.directory_text words

@@ -12,7 +12,7 @@ use Rattle.program_model.specs.Distinct.{same_entry, differ_from}
 use Rattle.program_model.specs.MemberRules.{in_groups}
 use Rattle.names_law.proofs.Ascending.{is_at, one_place}
 use Rattle.dex_pools.specs.Finds.{Ascends}
-use Rattle.dex_write.specs.Plans.{Numbered, is_before, insert, in_order}
+use Rattle.code_write.specs.Pairs.{Numbered, is_before, insert, in_order}
 use Rattle.dex_defs.specs.Written as written
 use Rattle.dex_defs.specs.Annotations.{pair_below}
 use Rattle.written_tables.proofs.In.{In, in_got, Place, place_in, has_in}

@@ -1,1 +1,3 @@
 pub mod Behind
+pub mod Parts
+pub mod Left

@@ -35,11 +35,11 @@ pub element_named : (e : Element) → element_names e ≡ named.Text e.name ∷ 
 unfolding element_names value_names
 element_named e = fold_out-Element (List Named) (List Named) (List Named) names_of_value names_of_element names_of_note e
 
-value_named : (x : EncValue-F EncValue Element Note) → value_names (roll-EncValue x) ≡ names_of_value (folds.map-EncValue EncValue Element Note (List Named) (List Named) (List Named) value_names element_names note_names x)
+pub value_named : (x : EncValue-F EncValue Element Note) → value_names (roll-EncValue x) ≡ names_of_value (folds.map-EncValue EncValue Element Note (List Named) (List Named) (List Named) value_names element_names note_names x)
 unfolding value_names element_names note_names
 value_named x = fold-roll-EncValue (List Named) (List Named) (List Named) names_of_value names_of_element names_of_note x
 
-note_named : (class : ℕ) (es : List Element) → note_names (roll-Note (record { class = class; elements = es })) ≡ named.Kind class ∷ joined (map element_names es)
+pub note_named : (class : ℕ) (es : List Element) → note_names (roll-Note (record { class = class; elements = es })) ≡ named.Kind class ∷ joined (map element_names es)
 unfolding element_names note_names
 note_named class es = fold-roll-Note (List Named) (List Named) (List Named) names_of_value names_of_element names_of_note (record { class = class; elements = es })
 

@@ -1,5 +1,5 @@
 -- The sets of annotations of classes that are written are used ones of a well-formed program.
-use Rattle.std.proofs.Common.{◌≡◌, ◌<◌, inl, inr, ℕ, Bool, true, List, [], ◌∷◌, ◌++◌, length, map, refl, sym, ap, subst, ◌∙◌, arith, Option, Some, None, ltb-true}
+use Rattle.std.proofs.Common.{◌≡◌, ◌<◌, ◌≤◌, ◌+◌, inl, inr, ℕ, Bool, true, List, [], ◌∷◌, ◌++◌, length, map, take, drop, refl, sym, ap, subst, ◌∙◌, arith, Option, Some, None, ltb-true}
 use Rattle.std.specs.Prelude.{slice_get, nat_lt, ◌&&◌}
 use Rattle.std.specs.List.{flat_map, list_all, AllByRecursion}
 use Rattle.std.proofs.lemmas.Bool.{and_parts}
@@ -27,7 +27,7 @@ use Rattle.program_model.specs.MemberRules.{class_of_field, class_of_method, is_
 use Rattle.dex_write.specs.Plans.{Plan, Numbered, marks_in, method_marks_in, parameters_in, field_marks, method_marks, parameter_marks}
 use Rattle.dex_write.specs.declared.ordered.MethodPart.{MethodPart}
 use Rattle.dex_write.specs.Sets.{sets_of, marks_of, ordered_marks, mark_starts}
-use Rattle.dex_defs.specs.Written.{new_string, new_type, new_marks, written_by}
+use Rattle.dex_defs.specs.Written.{new_string, new_type, new_mark, new_marks, written_by}
 use Rattle.dex_defs.specs.ValueTexts as texts
 use Rattle.dex_defs.specs.Valid.{SetPart}
 use Rattle.names_law.specs.Used.{IsUsed, IsShort}
@@ -38,8 +38,16 @@ use Rattle.written_tables.proofs.In.{In, in_left, in_right, in_flat, in_got}
 use Rattle.written_classes.specs.Parts.{found_sets, sets_of_file}
 use Rattle.written_classes.proofs.Plans.{class_used}
 use Rattle.written_classes.proofs.Rising.{strings_rise}
-use Rattle.written_classes.proofs.Marks.{class_of, class_named, IsFine, sets_same}
-use Rattle.written_classes.proofs.SetTexts.{marks_are}
+use Rattle.written_classes.proofs.Marks.{class_of, class_named, IsFine, sets_same, set_ascends}
+use Rattle.written_classes.specs.Left.{Reads}
+use Rattle.written_classes.proofs.Standing.{IsGood}
+use Rattle.written_classes.proofs.SetTexts.{marks_are, counts_are}
+use Rattle.write_laws.proofs.Lying.{total}
+use Rattle.write_laws.proofs.Fitting.{sets_fit}
+use Rattle.dex_pools.specs.declared.scalar.TableSizes.{TableSizes}
+use Rattle.dex_pools.specs.Marks.{mark_below}
+use Rattle.std.proofs.lemmas.List.{length-map, length-take-le, length-drop}
+use Rattle.written_classes.proofs.Small.{order_long}
 use Rattle.written_classes.proofs.Kinds.{HasPlan}
 
 -- ---- what a class names
@@ -185,3 +193,27 @@ module _ (p : Program) (i : Interner) (few : IsShort p) (h : IsInterned p i) (fi
       found_texts _ (flat_map sets_of plans) _
       ∙ (sets_same p i.numbers UsedText UsedKind (strings_rise p i few h old new) one_kind (flat_map sets_of plans) (all_fine plans a)
       ∙ ap (λ (l : List Mark). map (mark_text i.numbers) l) (sym (marks_are i.numbers plans)))
+
+  -- each set that is found is one that ascends, with as many offsets as annotations
+  found_good : (bytes : List ℕ) (sizes : TableSizes) (base : ℕ) (old : Ascends list_below p.strings) (new : Ascends list_below (written_by i p).strings) (mss : List (List Mark)) (starts : List ℕ) → AllByRecursion (IsFine p UsedText UsedKind) mss → total (map length mss) ≤ length starts
+      → AllByRecursion (Reads bytes sizes) (flat_map (λ s. s.marks) (found_sets i.numbers base mss starts)) → AllByRecursion (IsGood bytes sizes) (found_sets i.numbers base mss starts)
+  found_good bytes sizes base old new [] starts fine le reads = tt
+  found_good bytes sizes base old new (ms ∷ mss) starts fine le reads =
+      let many : length (map (λ s. base + s) (take (length ms) starts)) ≡ length (new_marks i.numbers ms) = length-map (take (length ms) starts) (λ s. base + s) ∙ (length-take-le (length ms) starts (omega (arith, le)) ∙ sym (marks_long ms)) in
+      let apart = all_split (Reads bytes sizes) (new_marks i.numbers ms) (flat_map (λ s. s.marks) (found_sets i.numbers base mss (drop (length ms) starts))) reads in
+      ((many, set_ascends p i.numbers UsedText UsedKind (strings_rise p i few h old new) one_kind ms fine.0, apart.0), found_good bytes sizes base old new mss (drop (length ms) starts) fine.1 (omega (arith, le, length-drop (length ms) starts)) apart.1)
+    where
+      marks_long : (ms : List Mark) → length (new_marks i.numbers ms) ≡ length ms
+      marks_long ms = order_long mark_below (map (new_mark i.numbers) ms) ∙ length-map ms (new_mark i.numbers)
+
+      all_split : {X : Type 0} (P : X → Type 0) (xs ys : List X) → AllByRecursion P (xs ++ ys) → AllByRecursion P xs × AllByRecursion P ys
+      all_split P [] ys a = (tt, a)
+      all_split P (x ∷ xs) ys a = let more = all_split P xs ys a.1 in ((a.0, more.0), more.1)
+
+  -- the sets that are found stand where they are named, where their annotations can be read
+  pub sets_found : (bytes : List ℕ) (sizes : TableSizes) (plans : List Plan) → AllByRecursion (HasPlan p i few h fits) plans → Ascends list_below p.strings → Ascends list_below (written_by i p).strings
+      → AllByRecursion (Reads bytes sizes) (flat_map (λ s. s.marks) (sets_of_file p i plans)) → AllByRecursion (IsGood bytes sizes) (sets_of_file p i plans)
+  sets_found bytes sizes plans a old new reads =
+      let starts : List ℕ = mark_starts i.numbers 0 (flat_map (marks_of i.numbers) plans) in
+      let enough : total (map length (flat_map sets_of plans)) ≤ length starts = subst (λ (l : List ℕ). total l ≤ length starts) (counts_are plans) (sets_fit i.numbers plans) in
+      found_good bytes sizes _ old new (flat_map sets_of plans) starts (all_fine plans a) enough reads

@@ -125,7 +125,7 @@ module _ (p : Program) (i : Interner) (plans : List Plan) where
   unfolding front_of words_behind
   refs_long = counts_long _ (flat_map ref_counts plans)
 
-  sets_long : length (front_of p i plans (data_at (counts_of i plans))).sets.offsets ≡ length (flat_map set_counts plans)
+  pub sets_long : length (front_of p i plans (data_at (counts_of i plans))).sets.offsets ≡ length (flat_map set_counts plans)
   unfolding front_of words_behind
   sets_long = counts_long _ (flat_map set_counts plans)
 
@@ -180,7 +180,7 @@ module _ (p : Program) (i : Interner) (plans : List Plan) where
   pub uses_are : (places : List ℕ) → class_order p ≡ places → ArePlans p i.numbers (flat_map (classes_at p) places) plans → classes_use i plans ≡ map (λ c. c.interfaces) (written_by i p).classes
   uses_are places same are = plans_use p i.numbers (flat_map (classes_at p) places) plans are ∙ ap (λ (l : List Class). map (λ c. c.interfaces) l) (sym (ap (λ (l : List ℕ). entries (written_class i.numbers p) p.classes l) same ∙ classes_written i.numbers p places))
 
-  interfaces_are : (offsets_of p i plans).interfaces ≡ map (used_offset (list_starts (data_at (counts_of i plans)) (all_lists (all_lists [] (protos_use p i)) (classes_use i plans)))) (indexes_of (all_lists [] (protos_use p i)) (classes_use i plans))
+  pub interfaces_are : (offsets_of p i plans).interfaces ≡ map (used_offset (list_starts (data_at (counts_of i plans)) (all_lists (all_lists [] (protos_use p i)) (classes_use i plans)))) (indexes_of (all_lists [] (protos_use p i)) (classes_use i plans))
   unfolding front_of lists_at type_lists
   interfaces_are = refl
 

@@ -11,8 +11,15 @@ pub mod Rising
 pub mod ValueTexts
 pub mod Marks
 pub mod Kinds
-pub mod FineSets
 pub mod Few
 pub mod Firsts
 pub mod Small
+pub mod Standing
+pub mod FineSets
+pub mod ClassTable
+pub mod Directories
+pub mod DataItems
+pub mod Ending
+pub mod ClassParts
 pub mod Filed
+pub mod Nothing

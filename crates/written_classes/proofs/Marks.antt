@@ -1,15 +1,16 @@
 -- The annotations that are written are those of the written program, in its order.
-use Rattle.std.proofs.Common.{◌≡◌, ◌<◌, ◌+◌, inl, inr, ℕ, zero, suc, Bool, true, false, List, [], ◌∷◌, ◌++◌, length, map, refl, sym, ap, subst, ◌∙◌, arith, append-nil, Option, Some, None, ltb-true}
+use Rattle.std.proofs.Common.{◌≡◌, ◌<◌, ◌≤◌, ◌+◌, inl, inr, ℕ, zero, suc, Bool, true, false, List, [], ◌∷◌, ◌++◌, length, map, refl, sym, ap, subst, ◌∙◌, arith, append-nil, Option, Some, None, ltb-true}
 use Rattle.std.specs.Prelude.{nat_eq, nat_lt, slice_get, ◌&&◌}
 use Rattle.std.specs.List.{flat_map, list_all, AllByRecursion}
-use Rattle.std.proofs.lemmas.Bool.{and_parts}
+use Rattle.std.proofs.lemmas.Bool.{and_parts, eqb-false, ltb-false, lt-ltb}
 use Rattle.lemmas.proofs.Lists.{get_map}
 use Rattle.lemmas.proofs.Options.{before_map}
-use Rattle.lemmas.proofs.Bools.{clash}
+use Rattle.lemmas.proofs.Bools.{clash, neither_of}
 use Rattle.code_write.specs.Pairs.{Numbered, in_order}
 use Rattle.dex_pools.specs.declared.used.Named.{Named}
 use Rattle.dex_pools.specs.declared.used.Named.TheVariants as named
 use Rattle.dex_pools.specs.Used.{joined, names_of_value, names_of_element, names_of_note, element_names, note_names, mark_names, marks_names}
+use Rattle.dex_pools.specs.Finds.{Ascends}
 use Rattle.dex_pools.specs.Marks.{mark_below}
 use Rattle.dex_pools.specs.Value.{element_below}
 use Rattle.dex_pools.specs.Written.{renumbered, mark_text}
@@ -72,6 +73,39 @@ insert_map f low below same x (y ∷ ys) = by_test (low x y) refl (insert_map f 
 order_map : {X Y : Type 0} (f : X → Y) (low : X → X → Bool) (below : Y → Y → Bool) → ((x y : X) → low x y ≡ below (f x) (f y)) → (xs : List X) → map f (written.in_order low xs) ≡ written.in_order below (map f xs)
 order_map f low below same [] = refl
 order_map f low below same (x ∷ xs) = insert_map f low below same x (written.in_order low xs) ∙ ap (λ l. written.insert below (f x) l) (order_map f low below same xs)
+
+-- ---- lists that ascend by a number that differs
+
+module _ {X : Type 0} (num : X → ℕ) where
+  abbrev by_number : X → X → Bool
+  by_number x y = nat_lt (num x) (num y)
+
+  abbrev pub Strict : List X → Type 0
+  Strict [] = Unit {0}
+  Strict (x ∷ xs) = AllByRecursion (λ y. num x < num y) xs × Strict xs
+
+  lower_all : (x y : X) (ys : List X) → num x < num y → AllByRecursion (λ z. num y < num z) ys → AllByRecursion (λ z. num x < num z) ys
+  lower_all x y [] lt a = tt
+  lower_all x y (z ∷ ys) lt a = (omega (arith, lt, a.0), lower_all x y ys lt a.1)
+
+  insert_strict : (x : X) (ys : List X) → Strict ys → AllByRecursion (λ y. nat_eq (num x) (num y) ≡ false) ys → Strict (written.insert by_number x ys)
+  insert_strict x [] s d = (tt, tt)
+  insert_strict x (y ∷ ys) s d = by_test (nat_lt (num x) (num y)) refl (insert_strict x ys s.1 d.1)
+    where
+      by_test : (t : Bool) → nat_lt (num x) (num y) ≡ t → Strict (written.insert by_number x ys) → Strict (written.insert by_number x (y ∷ ys))
+      by_test true t rest = let lt : num x < num y = ltb-true (num x) (num y) t in rw t ((lt, lower_all x y ys lt s.0), s)
+      by_test false t rest =
+          let other = eqb-false (num x) (num y) d.0 in
+          let le : num y ≤ num x = ltb-false (num x) (num y) t in
+          rw t (insert_all (λ z. num y < num z) by_number x ys (omega (arith, other, le)) s.0, rest)
+
+  apart_from : (x : X) (ys : List X) → has (num x) (map num ys) ≡ false → AllByRecursion (λ y. nat_eq (num x) (num y) ≡ false) ys
+  apart_from x [] h = tt
+  apart_from x (y ∷ ys) h = let both = neither_of (nat_eq (num x) (num y)) (has (num x) (map num ys)) h in (both.0, apart_from x ys both.1)
+
+  pub order_strict : (xs : List X) → Differ (map num xs) → Strict (written.in_order by_number xs)
+  order_strict [] d = tt
+  order_strict (x ∷ xs) d = insert_strict x (written.in_order by_number xs) (order_strict xs d.1) (order_all (λ y. nat_eq (num x) (num y) ≡ false) by_number xs (apart_from x xs d.0))
 
 -- ---- types of a set
 
@@ -192,6 +226,18 @@ module _ (p : Program) (r : Renumber) (Used : ℕ → Type 0) (UsedKind : ℕ �
       let each : AllByRecursion (λ m. texts.mark_text (new_mark r m) ≡ mark_text r m) (written.in_order low ms) = order_all (λ m. texts.mark_text (new_mark r m) ≡ mark_text r m) low ms (all_of (λ m. texts.mark_text (new_mark r m) ≡ mark_text r m) ms (λ m i. mark_same m (fits_each ms both.0 m i) (fine.texts m i))) in
       ap (λ (l : List Mark). map texts.mark_text l) (sym (order_map (new_mark r) low mark_below below_same ms))
       ∙ (each_same (written.in_order low ms) each ∙ ap (λ (l : List Mark). map (mark_text r) l) (sym order))
+
+  strict_ascends : (ms : List Mark) → Strict num ms → Ascends mark_below (map (new_mark r) ms)
+  strict_ascends [] s = tt
+  strict_ascends (x ∷ []) s = tt
+  strict_ascends (x ∷ y ∷ ms) s = (sym (below_same x y) ∙ lt-ltb (num x) (num y) s.0.0, strict_ascends (y ∷ ms) s.1)
+
+  -- and it ascends
+  pub set_ascends : (ms : List Mark) → IsFine p Used UsedKind ms → Ascends mark_below (new_marks r ms)
+  unfolding marks_fit
+  set_ascends ms fine =
+      let both = and_parts (list_all (mark_fits p) ms) (list_all typed_in_order (neighbours ms)) fine.fits in
+      subst (Ascends mark_below) (order_map (new_mark r) low mark_below below_same ms) (strict_ascends (written.in_order low ms) (order_strict num ms (types_differ ms both.1 fine.kinds)))
 
   map_both : {X Y : Type 0} (f : X → Y) (xs ys : List X) → map f (xs ++ ys) ≡ map f xs ++ map f ys
   map_both f [] ys = refl

@@ -123,6 +123,12 @@ method_short p class m h = by_name (slice_get p.methods m.name) refl
     by_name None e = clash (is_class_number (class_of_method (slice_get p.methods m.name)) class) own (ap (λ (o : Option MethodName). is_class_number (class_of_method o) class) e)
     by_name (Some x) e = slice_get_within p.methods m.name x e
 
+pub field_used : (p : Program) (k : ℕ) (c : Class) (f : Field) → slice_get p.classes k ≡ Some c → In f c.fields → IsUsed (used_in p) (named.Field f.name)
+field_used p k c f e a = class_used p k c e (named.Field f.name) (field_named c f (named.Field f.name) a (field_name_in f))
+
+pub method_used : (p : Program) (k : ℕ) (c : Class) (m : Method) → slice_get p.classes k ≡ Some c → In m c.methods → IsUsed (used_in p) (named.Method m.name)
+method_used p k c m e a = class_used p k c e (named.Method m.name) (method_named c m (named.Method m.name) a (method_name_in m))
+
 module _ (p : Program) (i : Interner) (few : IsShort p) (h : IsInterned p i) (k : ℕ) (c : Class) (fit : FitsClass p c) (is_class : slice_get p.classes k ≡ Some c) where
   abbrev r : Renumber
   r = i.numbers

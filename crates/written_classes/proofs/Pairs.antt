@@ -178,11 +178,11 @@ map_long : {X Y : Type 0} (f : X → Y) (xs : List X) → length (map f xs) ≡ 
 map_long f [] = refl
 map_long f (x ∷ xs) = ap suc (map_long f xs)
 
-none_taken : (k : ℕ) → take k [] ≡ []
+none_taken : (k : ℕ) → ◌≡◌ {A = List ℕ} (take k []) []
 none_taken zero = refl
 none_taken (suc k) = refl
 
-none_dropped : (k : ℕ) → drop k [] ≡ []
+none_dropped : (k : ℕ) → ◌≡◌ {A = List ℕ} (drop k []) []
 none_dropped zero = refl
 none_dropped (suc k) = refl
 

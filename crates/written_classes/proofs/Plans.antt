@@ -120,11 +120,11 @@ names_left n [] ys i = absurd i
 names_left n (x ∷ xs) ys (inl e) = inl e
 names_left n (x ∷ xs) ys (inr i) = inr (names_left n xs ys i)
 
-named_name : (c : Class) → In (named.Kind c.name) (class_names c)
+pub named_name : (c : Class) → In (named.Kind c.name) (class_names c)
 unfolding class_names
 named_name c = inl refl
 
-named_super : (c : Class) → In (named.Kind c.superclass) (class_names c)
+pub named_super : (c : Class) → In (named.Kind c.superclass) (class_names c)
 unfolding class_names
 named_super c = inr (inl refl)
 

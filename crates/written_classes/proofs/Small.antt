@@ -44,7 +44,7 @@ insert_long below x (y ∷ ys) = by_test (below x y) refl (insert_long below x y
     by_test true t e = rw t refl
     by_test false t e = rw t (ap suc e)
 
-order_long : {X : Type 0} (below : X → X → Bool) (xs : List X) → length (written.in_order below xs) ≡ length xs
+pub order_long : {X : Type 0} (below : X → X → Bool) (xs : List X) → length (written.in_order below xs) ≡ length xs
 order_long below [] = refl
 order_long below (x ∷ xs) = insert_long below x (written.in_order below xs) ∙ ap suc (order_long below xs)
 

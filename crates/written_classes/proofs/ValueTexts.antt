@@ -37,7 +37,7 @@ order_stays below (x ∷ y ∷ xs) h = ap (λ l. insert below x l) (order_stays 
 
 -- ---- texts of new values
 
-abbrev whole_element : Element → List ℕ
+abbrev pub whole_element : Element → List ℕ
 whole_element e = fold-Element (List ℕ) (List ℕ) (List ℕ) texts.layer_text texts.element_text texts.note_layer_text e
 
 element_spelled : (e : Element) → whole_element e ≡ uleb_text e.name ++ texts.value_text e.value
@@ -53,7 +53,7 @@ old_element : (r : Renumber) (e : Element) → element_text r e ≡ uleb_text (r
 unfolding element_text value_text
 old_element r e = fold_out-Element (List ℕ) (List ℕ) (List ℕ) (text_of_value r) (text_of_element r) (text_of_note r) e
 
-old_value : (r : Renumber) (x : EncValue-F EncValue Element Note) → value_text r (roll-EncValue x) ≡ text_of_value r (folds.map-EncValue EncValue Element Note (List ℕ) (List ℕ) (List ℕ) (value_text r) (element_text r) (note_text r) x)
+pub old_value : (r : Renumber) (x : EncValue-F EncValue Element Note) → value_text r (roll-EncValue x) ≡ text_of_value r (folds.map-EncValue EncValue Element Note (List ℕ) (List ℕ) (List ℕ) (value_text r) (element_text r) (note_text r) x)
 unfolding element_text value_text note_text
 old_value r x = fold-roll-EncValue (List ℕ) (List ℕ) (List ℕ) (text_of_value r) (text_of_element r) (text_of_note r) x
 
@@ -62,7 +62,7 @@ unfolding element_text note_text
 old_note r class es = fold-roll-Note (List ℕ) (List ℕ) (List ℕ) (text_of_value r) (text_of_element r) (text_of_note r) (record { class = class; elements = es })
 
 -- the text of a layer when it is new
-abbrev new_text : Renumber → EncValue-F EncValue Element Note → List ℕ
+abbrev pub new_text : Renumber → EncValue-F EncValue Element Note → List ℕ
 new_text r (layer.Byte z) = tagged 0 (signed_few z)
 new_text r (layer.Short z) = tagged 2 (signed_few z)
 new_text r (layer.Char n) = tagged 3 (unsigned_few n)
@@ -83,7 +83,7 @@ new_text r (layer.Bool b) = texts.layer_text (layer.Bool b)
 one_spelled : (r : Renumber) (x y : EncValue-F EncValue Element Note) (t : List ℕ) → new_value r (roll-EncValue x) ≡ roll-EncValue y → texts.layer_text (folds.map-EncValue EncValue Element Note (List ℕ) (List ℕ) (List ℕ) texts.value_text whole_element texts.note_text y) ≡ t → texts.value_text (new_value r (roll-EncValue x)) ≡ t
 one_spelled r x y t a b = ap (λ (v : EncValue). texts.value_text v) a ∙ (value_spelled y ∙ b)
 
-newly_spelled : (r : Renumber) (x : EncValue-F EncValue Element Note) → texts.value_text (new_value r (roll-EncValue x)) ≡ new_text r x
+pub newly_spelled : (r : Renumber) (x : EncValue-F EncValue Element Note) → texts.value_text (new_value r (roll-EncValue x)) ≡ new_text r x
 newly_spelled r (layer.Byte z) = one_spelled r (layer.Byte z) (layer.Byte z) _ (value_new r (layer.Byte z) ∙ sym (variant.rolls-Byte z)) refl
 newly_spelled r (layer.Short z) = one_spelled r (layer.Short z) (layer.Short z) _ (value_new r (layer.Short z) ∙ sym (variant.rolls-Short z)) refl
 newly_spelled r (layer.Char z) = one_spelled r (layer.Char z) (layer.Char z) _ (value_new r (layer.Char z) ∙ sym (variant.rolls-Char z)) refl

@@ -1,6 +1,7 @@
 //! Laws of the classes that are written.
 
 ghost use Rattle.std.specs.Prelude.{◌≡◌, ◌<◌, ◌^◌, ℕ, List, [], length, true};
+ghost use Rattle.dex_pools.specs.declared.interner.Interner.{Interner};
 ghost use Rattle.dex_pools.specs.Finds.{Ascends};
 ghost use Rattle.dex_pools.specs.Order.{list_below};
 ghost use Rattle.program_model.specs.declared.program.Program.{Program};
@@ -27,4 +28,10 @@ pub fn order_law()
 pub fn filed_law()
     ensures { (p : Program) (bytes : List ℕ) (w : IsWritten p bytes) → is_well_formed p ≡ true → ((class : ℕ) → IsTwice p class → ⊥) → ((class : ℕ) → IsAncestor p class class → ⊥) → HasWidths p → Ascends list_below p.strings
         → IsSealed p.version bytes → length bytes < 2 ^ 32 → Left bytes p w.interner w.plans (written_by w.interner p) → IsValidFile p bytes (written_by w.interner p) }
+{}
+
+/// What is written for a well-formed program without classes is a valid file of its written program.
+pub fn bare_law()
+    ensures { (p : Program) (bytes : List ℕ) → IsWritten p bytes → p.classes ≡ [] → is_well_formed p ≡ true → HasWidths p → Ascends list_below p.strings → IsSealed p.version bytes → length bytes < 2 ^ 32
+        → (interner : Interner) × IsValidFile p bytes (written_by interner p) }
 {}

@@ -64,14 +64,14 @@ module _ (r : Renumber) where
 
   zero_at : (letter : ℕ) → At (zero_of letter)
   zero_at letter =
-      pick (letter == 90) _ _ (subst At (sym (variant.rolls-Bool false)) (plain_at (layer.Bool false) tt))
-      (pick (letter == 66) _ _ (subst At (sym (variant.rolls-Byte (pos 0))) (plain_at (layer.Byte (pos 0)) tt))
-      (pick (letter == 83) _ _ (subst At (sym (variant.rolls-Short (pos 0))) (plain_at (layer.Short (pos 0)) tt))
-      (pick (letter == 67) _ _ (subst At (sym (variant.rolls-Char 0)) (plain_at (layer.Char 0) tt))
-      (pick (letter == 73) _ _ (subst At (sym (variant.rolls-Int (pos 0))) (plain_at (layer.Int (pos 0)) tt))
-      (pick (letter == 74) _ _ (subst At (sym (variant.rolls-Long (pos 0))) (plain_at (layer.Long (pos 0)) tt))
-      (pick (letter == 70) _ _ (subst At (sym (variant.rolls-Float 0)) (plain_at (layer.Float 0) tt))
-      (pick (letter == 68) _ _ (subst At (sym (variant.rolls-Double 0)) (plain_at (layer.Double 0) tt)) (subst At (sym variant.rolls-Null) (plain_at layer.Null tt)))))))))
+      pick (letter == 90) _ _ (subst At (variant.rolls-Bool false) (plain_at (layer.Bool false) tt))
+      (pick (letter == 66) _ _ (subst At (variant.rolls-Byte (pos 0)) (plain_at (layer.Byte (pos 0)) tt))
+      (pick (letter == 83) _ _ (subst At (variant.rolls-Short (pos 0)) (plain_at (layer.Short (pos 0)) tt))
+      (pick (letter == 67) _ _ (subst At ((variant.rolls-Char 0)) (plain_at (layer.Char 0) tt))
+      (pick (letter == 73) _ _ (subst At (variant.rolls-Int (pos 0)) (plain_at (layer.Int (pos 0)) tt))
+      (pick (letter == 74) _ _ (subst At (variant.rolls-Long (pos 0)) (plain_at (layer.Long (pos 0)) tt))
+      (pick (letter == 70) _ _ (subst At ((variant.rolls-Float 0)) (plain_at (layer.Float 0) tt))
+      (pick (letter == 68) _ _ (subst At ((variant.rolls-Double 0)) (plain_at (layer.Double 0) tt)) (subst At (variant.rolls-Null) (plain_at layer.Null tt)))))))))
 
 layer_plain : (p : Program) (letter : ℕ) (x : EncValue-F EncValue Element Note) → layer_fits p letter x ≡ true → IsPlain x
 layer_plain p letter (layer.Byte z) h = tt

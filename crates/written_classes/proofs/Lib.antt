@@ -10,6 +10,7 @@ pub mod SetTexts
 pub mod Rising
 pub mod ValueTexts
 pub mod Marks
+pub mod News
 pub mod Kinds
 pub mod Few
 pub mod Firsts

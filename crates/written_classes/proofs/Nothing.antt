@@ -41,9 +41,9 @@ no_plans p i (k ∷ ks) plans e h = let many : length (k ∷ ks) ≡ 0 = ap (λ 
 
 none_left : (bytes : List ℕ) (p : Program) (i : Interner) (q : Program) → q.classes ≡ [] → Left bytes p i [] q
 none_left bytes p i q e = record {
-  spelled = subst (λ l. Entries (length l) (λ k. IsClass bytes q (sizes_in q) (valid.classes_at q + 32 * k)) l) (sym e) (refl, tt);
+  spelled = subst (λ (l : List Class). Entries (length l) (λ k. IsClass bytes q (sizes_in q) (valid.classes_at q + 32 * k)) l) (sym e) (refl, tt);
   values = tt;
-  codes = subst (λ l. Both (λ c x. AreCodes bytes q (methods_of x.lists) c.methods x.codes) l []) (sym e) tt;
+  codes = subst (λ (l : List Class). Both {Y = ClassPart} (λ c x. AreCodes bytes q (methods_of x.lists) c.methods x.codes) l []) (sym e) tt;
   marks = tt;
 }
 

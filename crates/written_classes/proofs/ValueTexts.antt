@@ -183,7 +183,7 @@ module _ (p : Program) (r : Renumber) (Used : ℕ → Type 0) (rises : (a b : �
   named_used : (e : Element) → AllText (element_names e) → Used e.name
   named_used e u = (subst AllText (element_named e) u) e.name (inl refl)
 
-  elements_ascend : (depth : ℕ) (es : List Element) → list_all (element_fits (value_fits depth p) p) es ≡ true → list_all named_in_order (neighbours es) ≡ true → AllText (joined (map element_names es)) → Ascends element_below (map (element_of r) es)
+  pub elements_ascend : (depth : ℕ) (es : List Element) → list_all (element_fits (value_fits depth p) p) es ≡ true → list_all named_in_order (neighbours es) ≡ true → AllText (joined (map element_names es)) → Ascends element_below (map (element_of r) es)
   unfolding joined
   elements_ascend depth [] f o u = tt
   elements_ascend depth (x ∷ []) f o u = tt

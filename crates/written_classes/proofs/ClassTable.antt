@@ -46,10 +46,10 @@ use Rattle.write_laws.proofs.Fitting.{plan_long, sum_total}
 use Rattle.written_tables.specs.Widths.{ClassFits, HasWidths}
 use Rattle.written_tables.proofs.Fit.{FitsClass}
 use Rattle.written_tables.proofs.In.{In, in_left, in_right, in_got, all_in}
-use Rattle.written_classes.specs.Parts.{split_by, class_parts}
-use Rattle.written_classes.proofs.Members.{method_or, method_at}
-use Rattle.written_classes.proofs.Plans.{class_used, named_name, named_super}
-use Rattle.written_classes.proofs.Kinds.{HasPlan}
+use Rattle.written_parts.specs.Parts.{split_by, class_parts}
+use Rattle.written_parts.proofs.Members.{method_or, method_at}
+use Rattle.written_order.proofs.Plans.{class_used, named_name, named_super}
+use Rattle.written_parts.proofs.Kinds.{HasPlan}
 
 -- ---- the table
 

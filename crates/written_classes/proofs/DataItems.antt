@@ -39,14 +39,14 @@ use Rattle.write_laws.proofs.Members.{Climbs, Codeless, FitsLists, data_stands}
 use Rattle.written_tables.specs.Widths.{FieldFits, MethodFits, ClassFits, HasWidths}
 use Rattle.written_tables.proofs.Fit.{FitsClass}
 use Rattle.written_tables.proofs.In.{In, in_got, all_in}
-use Rattle.written_classes.specs.Parts.{class_parts}
-use Rattle.written_classes.proofs.Sorting.{Above, Rises, order_rises}
-use Rattle.written_classes.proofs.Grouped.{Spot}
-use Rattle.written_classes.proofs.Members.{Planned, field_short, method_short, all_of_list, field_used, method_used}
-use Rattle.written_classes.proofs.Small.{plan_fields_few, plan_methods_few}
-use Rattle.written_classes.proofs.Standing.{Stands, Unplaced, Placed}
+use Rattle.written_parts.specs.Parts.{class_parts}
+use Rattle.written_order.proofs.Sorting.{Above, Rises, order_rises}
+use Rattle.written_order.proofs.Grouped.{Spot}
+use Rattle.written_parts.proofs.Members.{Planned, field_short, method_short, all_of_list, field_used, method_used}
+use Rattle.written_parts.proofs.Small.{plan_fields_few, plan_methods_few}
+use Rattle.written_sets.proofs.Standing.{Stands, Unplaced, Placed}
 use Rattle.written_classes.proofs.Directories.{FewMembers}
-use Rattle.written_classes.proofs.Kinds.{HasPlan}
+use Rattle.written_parts.proofs.Kinds.{HasPlan}
 
 -- ---- a text that is not empty
 
@@ -54,7 +54,7 @@ some_leb : (t : List ℕ) → EndsLeb t → 0 < length t
 some_leb [] h = absurd h
 some_leb (b ∷ bs) h = omega arith
 
-some_uleb : (n : ℕ) → n < 2 ^ 32 → 0 < length (uleb_text n)
+pub some_uleb : (n : ℕ) → n < 2 ^ 32 → 0 < length (uleb_text n)
 some_uleb n lt = some_leb (uleb_text n) (uleb_spelled n lt).is.ends
 
 nothing_in : {X : Type 0} (xs : List X) → length xs ≡ 0 → xs ≡ []

@@ -24,11 +24,11 @@ use Rattle.dex_defs.specs.Valid.{NamesAll}
 use Rattle.write_laws.proofs.Here.{here_left, here_is, here_same}
 use Rattle.write_laws.proofs.Numbers.{Few, same_words, words_append, words_length, here_words, first_word, other_words}
 use Rattle.write_laws.proofs.Pools.{words_at}
-use Rattle.written_classes.specs.Parts.{directory_of, class_parts}
-use Rattle.written_classes.proofs.Sorting.{order_all, order_long}
-use Rattle.written_classes.proofs.Pairs.{pairs_from, fields_paired, methods_paired}
+use Rattle.written_parts.specs.Parts.{directory_of, class_parts}
+use Rattle.written_order.proofs.Sorting.{order_all, order_long}
+use Rattle.written_parts.proofs.Pairs.{pairs_from, fields_paired, methods_paired}
 use Rattle.written_classes.proofs.ClassTable.{few_place}
-use Rattle.written_classes.proofs.Standing.{Stands, Unplaced, Placed}
+use Rattle.written_sets.proofs.Standing.{Stands, Unplaced, Placed}
 
 -- ---- pairs
 

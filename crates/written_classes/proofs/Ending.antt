@@ -24,9 +24,9 @@ use Rattle.dex_defs.specs.Valid.{EndsInFirst}
 use Rattle.dex_defs.specs.Written.{new_value, written_field, written_class}
 use Rattle.names_law.specs.Used.{IsShort}
 use Rattle.written_tables.proofs.Fit.{FitsClass}
-use Rattle.written_classes.specs.Parts.{one_value, first_values, class_parts}
-use Rattle.written_classes.proofs.Members.{field_or, field_at}
-use Rattle.written_classes.proofs.Kinds.{HasPlan}
+use Rattle.written_parts.specs.Parts.{one_value, first_values, class_parts}
+use Rattle.written_parts.proofs.Members.{field_or, field_at}
+use Rattle.written_parts.proofs.Kinds.{HasPlan}
 
 -- the last of those counted has a first value
 record LastFirst (c : Class) (place m : ℕ) (fs : List Numbered) : Type 0 where

@@ -60,19 +60,19 @@ use Rattle.written_tables.proofs.Fit.{Parts, parts_of as well_formed_parts, Fits
 use Rattle.written_tables.proofs.Texts.{texts_fit}
 use Rattle.written_tables.proofs.Used.{all_used}
 use Rattle.written_classes.specs.Left.{Left}
-use Rattle.written_classes.specs.Parts.{first_values, offsets_of, parts_of_file, sets_of_file}
-use Rattle.written_classes.proofs.Order.{order_is, order_behind, order_every}
-use Rattle.written_classes.proofs.Plans.{classes_written, classes_many, written_behind}
-use Rattle.written_classes.proofs.Pairs.{HasOwn}
-use Rattle.written_classes.proofs.FineSets.{marks_texts, sets_found}
-use Rattle.written_classes.proofs.Small.{values_texts}
-use Rattle.written_classes.proofs.Standing.{Stands, all_stand, IsGood, sets_stand}
+use Rattle.written_parts.specs.Parts.{first_values, offsets_of, parts_of_file, sets_of_file}
+use Rattle.written_order.proofs.Order.{order_is, order_behind, order_every}
+use Rattle.written_order.proofs.Plans.{classes_written, classes_many, written_behind}
+use Rattle.written_parts.proofs.Pairs.{HasOwn}
+use Rattle.written_sets.proofs.FineSets.{marks_texts, sets_found}
+use Rattle.written_parts.proofs.Small.{values_texts}
+use Rattle.written_sets.proofs.Standing.{Stands, all_stand, IsGood, sets_stand}
 use Rattle.written_classes.proofs.ClassTable.{classes_there, few_uses, FewOffsets, defs_few, parts_defs}
 use Rattle.written_classes.proofs.Directories.{all_directories}
 use Rattle.written_classes.proofs.DataItems.{all_data, members_few}
 use Rattle.written_classes.proofs.Ending.{all_end}
 use Rattle.written_classes.proofs.ClassParts.{HasRefs, all_refs, assembled}
-use Rattle.written_classes.proofs.Kinds.{HasPlan, all_planned, all_own, sets_long, members_kind, directories_kind, firsts_named, codes_kind, lines_kind, refs_kind, sets_kind, marks_named, uses_are, interfaces_are, interfaces_kind}
+use Rattle.written_parts.proofs.Kinds.{HasPlan, all_planned, all_own, sets_long, members_kind, directories_kind, firsts_named, codes_kind, lines_kind, refs_kind, sets_kind, marks_named, uses_are, interfaces_are, interfaces_kind}
 
 -- ---- what stands where it is named
 

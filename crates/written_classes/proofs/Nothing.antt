@@ -25,9 +25,9 @@ use Rattle.dex_defs.specs.Written.{entries, written_class, class_order, written_
 use Rattle.write_laws.specs.Kinds.{IsValidFile}
 use Rattle.written_tables.specs.Widths.{HasWidths}
 use Rattle.written_tables.proofs.Fit.{Parts, parts_of, class_at_fits}
-use Rattle.written_classes.specs.Behind.{AllBehind}
+use Rattle.written_order.specs.Behind.{AllBehind}
 use Rattle.written_classes.specs.Left.{Left}
-use Rattle.written_classes.proofs.Order.{order_is, order_behind}
+use Rattle.written_order.proofs.Order.{order_is, order_behind}
 use Rattle.written_classes.proofs.Filed.{filed}
 
 no_places : (p : Program) (places : List ℕ) → p.classes ≡ [] → AllBehind p [] places → places ≡ []

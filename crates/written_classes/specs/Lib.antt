@@ -1,3 +1,1 @@
-pub mod Behind
-pub mod Parts
 pub mod Left

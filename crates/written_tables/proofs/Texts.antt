@@ -29,19 +29,28 @@ use Rattle.program_model.specs.declared.pools.FieldName.{FieldName}
 use Rattle.program_model.specs.declared.program.Program.{Program}
 use Rattle.program_model.specs.Items.{items_of, proto_items, class_items}
 use Rattle.program_model.specs.Texts.{has_string, has_type, string_text, text_or_none, type_text, first_unit, letter_of, is_void}
-use Rattle.program_model.specs.TableRules.{type_fits, stands_for, stands_for_parameter, is_shorty, proto_fits, field_id_fits, entries_fit}
+use Rattle.program_model.specs.TableRules.{type_fits, stands_for, stands_for_parameter, is_shorty, proto_fits, field_id_fits, method_id_fits, entries_fit}
 use Rattle.dex_defs.specs.Written.{one_entry, entries, new_string, new_type, written_proto, written_field_name, written_by}
 use Rattle.names_law.specs.Used.{IsSet, IsUsed, IsShort, IsClosed}
 use Rattle.names_law.specs.Orders.{OrdersIn}
 use Rattle.names_law.proofs.Ordering.{AsMany, used_marked, orders_in}
 use Rattle.names_law.proofs.Closed.{used_closed}
 use Rattle.names_law.proofs.Owning.{order_set}
-use Rattle.names_law.proofs.Rising.{Fits, fits_of}
+use Rattle.names_law.proofs.Rising.{Fits}
 use Rattle.names_law.proofs.Carried.{carried}
 use Rattle.write_laws.specs.Fits.{FitsText, TextsFit}
 use Rattle.written_tables.specs.Widths.{AreHalves, HasWidths}
 use Rattle.written_tables.proofs.Fit.{Parts}
 use Rattle.written_tables.proofs.In.{In, in_got, all_in}
+
+-- the rules of the tables, one by one
+rules_of : (p : Program) → entries_fit p ≡ true → Fits p
+unfolding entries_fit
+rules_of p fit =
+    let a = and_parts (list_all (type_fits p) p.types) (list_all (proto_fits p) p.protos && (list_all (field_id_fits p) p.fields && list_all (method_id_fits p) p.methods)) fit in
+    let b = and_parts (list_all (proto_fits p) p.protos) (list_all (field_id_fits p) p.fields && list_all (method_id_fits p) p.methods) a.1 in
+    let c = and_parts (list_all (field_id_fits p) p.fields) (list_all (method_id_fits p) p.methods) b.1 in
+    record { types = a.0; protos = b.0; fields = c.0; methods = c.1 }
 
 -- ---- entries one by one
 
@@ -164,7 +173,7 @@ module _ (p : Program) (i : Interner) (few : IsShort p) (h : IsInterned p i) (pa
   closed = used_closed p few
 
   fits : Fits p
-  fits = fits_of p parts.entries
+  fits = rules_of p parts.entries
 
   same_option : (o : Option (List ℕ)) → unwrap_or (option_map (λ t. t) o) [] ≡ unwrap_or o []
   same_option None = refl

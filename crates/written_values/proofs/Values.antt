@@ -2,7 +2,7 @@
 use Rattle.std.proofs.Common.{◌≡◌, ◌≤◌, ◌<◌, ◌+◌, ◌-◌, ◌*◌, ◌/◌, ◌%◌, ◌^◌, ℕ, zero, suc, ℤ, pos, negsuc, Bool, true, false, List, [], ◌∷◌, ◌++◌, length, map, take, drop, refl, sym, ap, subst, ◌∙◌, arith, length-append, get_or, ltb-true}
 use Rattle.std.specs.Prelude.{slice_index, nat_lt, nat_le, min, ◌==◌, if◌then◌else◌, FitsSigned, Some}
 use Rattle.std.specs.Int.{Width, w8, w16, w32, w64, to_le_bytes, cast_unsigned}
-use Rattle.std.specs.List.{concat, AllByRecursion}
+use Rattle.std.specs.List.{concat, flat_map, AllByRecursion}
 use Rattle.std.proofs.Math.Seq.{drop-cons}
 use Rattle.std.proofs.lemmas.Bool.{le-leb, lt-ltb}
 use Rattle.std.proofs.lemmas.List.{length-map, length-take-le}
@@ -11,7 +11,7 @@ use Rattle.dex_base.specs.Decides.{ChainOf}
 use Rattle.dex_pools.specs.declared.scalar.TableSizes.{TableSizes}
 use Rattle.dex_pools.specs.Finds.{Ascends}
 use Rattle.dex_pools.specs.Value.{most_argument, is_within, numeric, naming, size_for, zero_extended, right_extended, sign_extended, element_below}
-use Rattle.dex_pools.specs.Written.{tagged, unsigned_len, unsigned_few, magnitude, signed_len, signed_few, float_zeros, float_few, double_zeros, double_few, listed}
+use Rattle.dex_pools.specs.Written.{tagged, unsigned_len, unsigned_few, magnitude, signed_len, signed_few, float_zeros, float_few, double_zeros, double_few, listed, list_text}
 use Rattle.program_model.specs.declared.value.EncValue.{EncValue, EncValue-F, roll-EncValue, out-EncValue, out-roll-EncValue, fold-roll-EncValue}
 use Rattle.program_model.specs.declared.value.EncValue.TheOpen as layer
 use Rattle.program_model.specs.declared.value.EncValue.TheVariants as variant
@@ -21,9 +21,9 @@ use Rattle.program_model.specs.declared.value.Element.{Element, fold-Element, fo
 use Rattle.program_model.specs.declared.value.Note.{Note, Note-F, roll-Note, out-Note, out-roll-Note, fold_out-Note}
 use Rattle.program_model.specs.declared.value.Mark.{Mark}
 use Rattle.dex_defs.specs.Here.{Here}
-use Rattle.dex_defs.specs.Values.{tag_at, argument_at, HasTag, HasFew, AreItems, IsElement, IsNote, IsValueIn, Number, Name, Array, Annotation, Null, Boolean, IsValue}
+use Rattle.dex_defs.specs.Values.{tag_at, argument_at, HasTag, HasFew, AreItems, IsElement, IsNote, IsValueIn, Number, Name, Array, Annotation, Null, Boolean, IsValue, AreValues}
 use Rattle.dex_defs.specs.Annotations.{IsMark}
-use Rattle.dex_defs.specs.ValueTexts.{layer_text, element_text, note_layer_text, value_text, note_text, mark_text}
+use Rattle.dex_defs.specs.ValueTexts.{layer_text, element_text, note_layer_text, value_text, note_text, mark_text, array_text}
 use Rattle.write_laws.proofs.Here.{here_left, here_right, here_is, here_same, here_uleb}
 use Rattle.written_values.specs.Fitting.{SizesFit, NoteFits, LayerFits, ValueFits, MarkFits}
 use Rattle.written_values.proofs.Numbers.{unsigned_back, half_back, signed_back, float_back, double_back}
@@ -190,6 +190,14 @@ listed_stands bytes at many texts e lt h =
       long = omega (arith, length-append (uleb_text many) (concat texts), ap (λ (l : List ℕ). length l) whole);
     }
 
+flat_concat : {X : Type 0} (f : X → List ℕ) (xs : List X) → flat_map f xs ≡ concat (map f xs)
+flat_concat f [] = refl
+flat_concat f (x ∷ xs) = ap (λ (t : List ℕ). f x ++ t) (flat_concat f xs)
+
+array_listed : (v : EncValue) (vs : List EncValue) → array_text (v ∷ vs) ≡ listed (map value_text (v ∷ vs))
+unfolding list_text
+array_listed v vs = ap (λ (n : ℕ). uleb_text (min n 4294967295) ++ flat_map value_text (v ∷ vs)) (sym (length-map (v ∷ vs) value_text)) ∙ ap (λ (t : List ℕ). uleb_text (min (length (map value_text (v ∷ vs))) 4294967295) ++ t) (flat_concat value_text (v ∷ vs))
+
 -- ---- values
 
 abbrev whole_element : Element → List ℕ
@@ -349,4 +357,14 @@ module _ (bytes : List ℕ) (sizes : TableSizes) (fit : SizesFit sizes) where
         visibility = sym first.1;
         stop = at + 1 + length (note_text m.note);
         note = note_stands (ValueFits sizes 64) (IsValue bytes sizes 64) (value_stands 64) m.note (at + 1) f (here_is bytes (at + length (m.visibility ∷ [])) (at + 1) (note_text m.note) (omega arith) (here_right bytes at (m.visibility ∷ []) (note_text m.note) h));
+      }
+
+  pub array_stands : (v : EncValue) (vs : List EncValue) (at : ℕ) → AllByRecursion (ValueFits sizes 64) (v ∷ vs) → length (v ∷ vs) < 2 ^ 32 → Here bytes at (array_text (v ∷ vs)) → AreValues bytes sizes at (v ∷ vs)
+  array_stands v vs at f few h =
+      let texts : List (List ℕ) = map value_text (v ∷ vs) in
+      let counted : Counted bytes at (length (v ∷ vs)) texts = listed_stands bytes at (length (v ∷ vs)) texts (length-map (v ∷ vs) value_text) few (here_same bytes at (array_text (v ∷ vs)) (listed texts) (array_listed v vs) h) in
+      let begin : ℕ = at + length (uleb_text (length (v ∷ vs))) in
+      record {
+        stop = begin + length (concat texts);
+        are = record { begin = begin; count = counted.count; are = chain_stands bytes (IsValue bytes sizes 64) value_text (ValueFits sizes 64) (λ w place g k. value_stands 64 w place g k) (v ∷ vs) begin f counted.items };
       }

@@ -25,8 +25,8 @@ use Rattle.dex_write.specs.Data.{has_first, first_count, zero_of, value_or, firs
 use Rattle.dex_defs.specs.Written.{new_value}
 use Rattle.dex_defs.specs.ValueTexts as texts
 use Rattle.names_law.specs.Members.{IsPlain}
-use Rattle.written_classes.specs.Parts.{one_value, first_values}
-use Rattle.written_classes.proofs.ValueTexts.{new_text, newly_spelled, old_value}
+use Rattle.written_parts.specs.Parts.{one_value, first_values}
+use Rattle.written_parts.proofs.ValueTexts.{new_text, newly_spelled, old_value}
 
 module _ (r : Renumber) where
   -- a value has one text in both ways

@@ -5,7 +5,7 @@ use Rattle.std.specs.List.{AllByRecursion}
 use Rattle.std.proofs.lemmas.Bool.{eqb-true, eqb-false, eq-eqb, ne_eqb}
 use Rattle.std.proofs.lemmas.List.Sums.{sum_by-cons}
 use Rattle.names_law.proofs.Ascending.{is_at}
-use Rattle.written_classes.proofs.Sorting.{Differ, Once, once_of}
+use Rattle.written_order.proofs.Sorting.{Differ, Once, once_of}
 
 -- how often each number from one on, so many of them, stands in the list
 abbrev counted : List ℕ → ℕ → ℕ → ℕ

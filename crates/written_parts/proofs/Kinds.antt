@@ -39,12 +39,12 @@ use Rattle.write_laws.proofs.Lying.{total}
 use Rattle.write_laws.proofs.Listed.{members_are}
 use Rattle.write_laws.proofs.Written.{lists_written}
 use Rattle.written_tables.proofs.Fit.{FitsClass}
-use Rattle.written_classes.proofs.Plans.{classes_written, plans_use, classes_many}
-use Rattle.written_classes.specs.Parts.{class_parts, found_sets, first_values, offsets_of, parts_of_file, sets_of_file}
-use Rattle.written_classes.proofs.Parts.{each_from, all_are, def_numbers, part_lists, directories_same, codes_named, codes_made, led_classes}
-use Rattle.written_classes.proofs.Pairs.{HasOwn, refs_named, sets_named}
-use Rattle.written_classes.proofs.Members.{Planned, planned}
-use Rattle.written_classes.proofs.SetTexts.{refs_texts, sets_texts, starts_named, counts_are, marks_are}
+use Rattle.written_order.proofs.Plans.{classes_written, plans_use, classes_many}
+use Rattle.written_parts.specs.Parts.{class_parts, found_sets, first_values, offsets_of, parts_of_file, sets_of_file}
+use Rattle.written_parts.proofs.Parts.{each_from, all_are, def_numbers, part_lists, directories_same, codes_named, codes_made, led_classes}
+use Rattle.written_parts.proofs.Pairs.{HasOwn, refs_named, sets_named}
+use Rattle.written_parts.proofs.Members.{Planned, planned}
+use Rattle.written_parts.proofs.SetTexts.{refs_texts, sets_texts, starts_named, counts_are, marks_are}
 
 -- ---- lengths
 

@@ -13,8 +13,8 @@ use Rattle.program_model.specs.declared.program.Program.{Program}
 use Rattle.class_defs.specs.ClassGraph.{IsTwice, IsAbove, StepsTo, IsAncestor}
 use Rattle.dex_write.specs.Order.{is_fresh, in_fresh, above, Follows, Done, Skip, Enter, counting, IsOrder}
 use Rattle.dex_defs.specs.Written.{above_class, one_by_one, write_class, places_below, class_order}
-use Rattle.written_classes.specs.Behind.{Behind, AllBehind}
-use Rattle.written_classes.proofs.Places.{has, within, below_tells, KindsFit, same_above, above_is, is_above}
+use Rattle.written_order.specs.Behind.{Behind, AllBehind}
+use Rattle.written_order.proofs.Places.{has, within, below_tells, KindsFit, same_above, above_is, is_above}
 
 pub has_append : (k : ℕ) (xs ys : List ℕ) → has k (xs ++ ys) ≡ (has k xs || has k ys)
 has_append k xs ys = list_any-append (nat_eq k) xs ys

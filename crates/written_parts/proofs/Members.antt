@@ -35,10 +35,10 @@ use Rattle.names_law.proofs.Ordering.{AsMany, used_marked}
 use Rattle.names_law.proofs.Ascending.{one_number}
 use Rattle.written_tables.proofs.Fit.{FitsClass}
 use Rattle.written_tables.proofs.In.{In, in_left, in_right, in_flat, in_got, place_in}
-use Rattle.written_classes.proofs.Sorting.{Differ, news_differ}
-use Rattle.written_classes.proofs.Grouped.{firsts, group_from, Spot, in_plan, plan_differs, plan_ordered, group_spots}
-use Rattle.written_classes.proofs.Plans.{class_used}
-use Rattle.written_classes.proofs.Pairs.{HasOwn}
+use Rattle.written_order.proofs.Sorting.{Differ, news_differ}
+use Rattle.written_order.proofs.Grouped.{firsts, group_from, Spot, in_plan, plan_differs, plan_ordered, group_spots}
+use Rattle.written_order.proofs.Plans.{class_used}
+use Rattle.written_parts.proofs.Pairs.{HasOwn}
 
 -- ---- the plan's numbers are groups of the members
 

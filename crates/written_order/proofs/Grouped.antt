@@ -9,8 +9,8 @@ use Rattle.names_law.proofs.Ascending.{is_at}
 use Rattle.code_write.specs.Pairs.{Numbered, is_before, in_order}
 use Rattle.dex_write.specs.Plans.{spot, spot_where, is_same}
 use Rattle.dex_defs.specs.Written as written
-use Rattle.written_classes.proofs.Places.{has}
-use Rattle.written_classes.proofs.Sorting.{Differ, Once, once_of, differ_of, order_sum, order_all, Agrees, order_same, before_same, those, two_groups}
+use Rattle.written_order.proofs.Places.{has}
+use Rattle.written_order.proofs.Sorting.{Differ, Once, once_of, differ_of, order_sum, order_all, Agrees, order_same, before_same, those, two_groups}
 
 abbrev pub firsts : List Numbered → List ℕ
 firsts xs = map (λ a. a.0) xs

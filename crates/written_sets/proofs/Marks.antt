@@ -31,10 +31,10 @@ use Rattle.dex_defs.specs.Written as written
 use Rattle.dex_defs.specs.ValueTexts as texts
 use Rattle.written_tables.proofs.In.{In, in_left, in_right, in_flat, in_got, Place, place_in, has_in, all_of}
 use Rattle.written_tables.proofs.Naming.{element_of, note_of}
-use Rattle.written_classes.proofs.Places.{has}
-use Rattle.written_classes.proofs.Sorting.{Differ}
-use Rattle.written_classes.proofs.Grouped.{group_from, Spot, in_plan, plan_ordered, group_spots}
-use Rattle.written_classes.proofs.ValueTexts.{AllText, note_same}
+use Rattle.written_order.proofs.Places.{has}
+use Rattle.written_order.proofs.Sorting.{Differ}
+use Rattle.written_order.proofs.Grouped.{group_from, Spot, in_plan, plan_ordered, group_spots}
+use Rattle.written_parts.proofs.ValueTexts.{AllText, note_same}
 
 abbrev pub class_of : Mark → ℕ
 class_of m = (out-Note m.note).class

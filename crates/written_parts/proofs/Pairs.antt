@@ -23,10 +23,10 @@ use Rattle.dex_defs.specs.Valid.{ClassPart, ref_offsets, set_offsets, methods_of
 use Rattle.write_laws.specs.Listing.{field_entry, method_entries, lists_in}
 use Rattle.write_laws.proofs.Fitting.{plan_long}
 use Rattle.written_tables.proofs.In.{In}
-use Rattle.written_classes.proofs.Places.{has}
-use Rattle.written_classes.proofs.Sorting.{Differ, order_all}
-use Rattle.written_classes.specs.Parts.{split_by, class_part, class_parts}
-use Rattle.written_classes.proofs.Parts.{each_from, each_is, methods_are}
+use Rattle.written_order.proofs.Places.{has}
+use Rattle.written_order.proofs.Sorting.{Differ, order_all}
+use Rattle.written_parts.specs.Parts.{split_by, class_part, class_parts}
+use Rattle.written_parts.proofs.Parts.{each_from, each_is, methods_are}
 
 -- ---- pairs of numbers and offsets
 

@@ -24,7 +24,7 @@ use Rattle.names_law.specs.Orders.{OrdersIn}
 use Rattle.names_law.proofs.Ordering.{AsMany, used_marked, orders_in}
 use Rattle.names_law.proofs.Ascending.{one_number}
 use Rattle.names_law.proofs.Carried.{carried}
-use Rattle.written_classes.proofs.Places.{below_tells}
+use Rattle.written_order.proofs.Places.{below_tells}
 
 abbrev cmp : List ℕ → List ℕ → Ordering
 cmp a b = slice_cmp nat_cmp a b

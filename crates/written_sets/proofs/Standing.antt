@@ -15,7 +15,7 @@ use Rattle.dex_defs.specs.Texts.{offsets_text}
 use Rattle.dex_defs.specs.Texts as kept
 use Rattle.dex_defs.specs.ValueTexts as texts
 use Rattle.dex_defs.specs.Valid.{SetPart}
-use Rattle.written_classes.specs.Left.{Reads}
+use Rattle.written_sets.specs.Reads.{Reads}
 use Rattle.write_laws.proofs.Here.{here_is, here_same}
 use Rattle.write_laws.proofs.Numbers.{Few, same_words, words_length, here_words, first_word, other_words}
 

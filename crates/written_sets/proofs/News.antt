@@ -28,7 +28,7 @@ use Rattle.written_values.specs.Fitting.{NoteFits, LayerFits, ValueFits, MarkFit
 use Rattle.written_values.specs.Wide.{IsWideNote, IsWideLayer, IsWide, IsWideMark}
 use Rattle.written_tables.proofs.In.{In, in_left, in_right}
 use Rattle.written_tables.proofs.Naming.{element_named, value_named, note_named, element_of, note_of, element_is, note_is, value_new}
-use Rattle.written_classes.proofs.ValueTexts.{order_stays, elements_ascend}
+use Rattle.written_parts.proofs.ValueTexts.{order_stays, elements_ascend}
 
 -- the layer that a layer becomes
 abbrev pub new_open : Renumber → EncValue-F EncValue Element Note → EncValue-F EncValue Element Note
@@ -100,14 +100,17 @@ module _ (p : Program) (r : Renumber) (sizes : TableSizes) (Used : Named → Typ
       (v.1 depth both.0 w.0 (λ n j. u n (in_left n (value_names v.0) (joined (map value_names (map (λ e. e.0) vs))) j)),
       values_fit vs depth both.1 w.1 (λ n j. u n (in_right n (value_names v.0) (joined (map value_names (map (λ e. e.0) vs))) j)))
 
-  elements_fit : (es : List ((e : Element) × E e)) (depth : ℕ) → list_all (element_fits (value_fits depth p) p) (map (λ e. e.0) es) ≡ true → AllByRecursion (λ e. IsWide depth e.value) (map (λ e. e.0) es) → AllUsed (joined (map element_names (map (λ e. e.0) es)))
-      → AllByRecursion (λ e. (e.name < sizes.strings) × ValueFits sizes depth e.value) (map (element_of r) (map (λ e. e.0) es))
+  elements_fit : (es : List ((e : Element) × E e)) (depth : ℕ) → list_all (element_fits (value_fits depth p) p) (map (λ e. e.0) es) ≡ true → AllByRecursion (λ (e : Element). IsWide depth e.value) (map (λ e. e.0) es) → AllUsed (joined (map element_names (map (λ e. e.0) es)))
+      → AllByRecursion (λ (e : Element). (e.name < sizes.strings) × ValueFits sizes depth e.value) (map (element_of r) (map (λ e. e.0) es))
   unfolding joined
   elements_fit [] depth f w u = tt
   elements_fit (e ∷ es) depth f w u =
       let both = and_parts (element_fits (value_fits depth p) p e.0) (list_all (element_fits (value_fits depth p) p) (map (λ x. x.0) es)) f in
       (e.1 depth both.0 w.0 (λ n j. u n (in_left n (element_names e.0) (joined (map element_names (map (λ x. x.0) es))) j)),
       elements_fit es depth both.1 w.1 (λ n j. u n (in_right n (element_names e.0) (joined (map element_names (map (λ x. x.0) es))) j)))
+
+  as_many : (vs : List EncValue) → length vs < 2 ^ 32 → length (map (new_value r) vs) < 2 ^ 32
+  as_many vs lt = omega (arith, lt, length-map vs (new_value r))
 
   abbrev old_names : EncValue-F EncValue Element Note → List Named
   old_names x = names_of_value (folds.map-EncValue EncValue Element Note (List Named) (List Named) (List Named) value_names element_names note_names x)
@@ -129,7 +132,7 @@ module _ (p : Program) (r : Renumber) (sizes : TableSizes) (Used : Named → Typ
   layer_fit (layer.Field k) depth f w u = lands.fields k (u (named.Field k) (inl refl)) f
   layer_fit (layer.Method k) depth f w u = lands.methods k (u (named.Method k) (inl refl)) f
   layer_fit (layer.Enum k) depth f w u = lands.fields k (u (named.Field k) (inl refl)) f
-  layer_fit (layer.Array vs) depth f w u = (omega (arith, w.0, length-map (map (λ e. e.0) vs) (new_value r)), values_fit vs depth f w.1 u)
+  layer_fit (layer.Array vs) depth f w u = (as_many (map (λ e. e.0) vs) w.0, values_fit vs depth f w.1 u)
   layer_fit (layer.Annotation k) depth f w u = k.1 depth f w u
   layer_fit layer.Null depth f w u = tt
   layer_fit (layer.Bool b) depth f w u = tt
@@ -153,9 +156,10 @@ module _ (p : Program) (r : Renumber) (sizes : TableSizes) (Used : Named → Typ
   note_step : (class : ℕ) (es : List ((e : Element) × E e)) → N (roll-Note (record { class = class; elements = map (λ e. e.0) es }))
   note_step class es depth f w u =
       let old : List Element = map (λ e. e.0) es in
-      let out : out-Note (roll-Note (record { class = class; elements = old })) ≡ record { class = class; elements = old } = out-roll-Note (record { class = class; elements = old }) in
+      let given : Note-F EncValue Element Note = record { class = class; elements = old } in
+      let out : out-Note (roll-Note given) ≡ given = out-roll-Note given in
       let fits : (has_type p class && (list_all (element_fits (value_fits depth p) p) old && list_all named_in_order (neighbours old))) ≡ true = subst (λ (z : Note-F EncValue Element Note). (has_type p z.class && (list_all (element_fits (value_fits depth p) p) z.elements && list_all named_in_order (neighbours z.elements))) ≡ true) out f in
-      let wide : (length old < 2 ^ 32) × AllByRecursion (λ e. IsWide depth e.value) old = subst (λ (z : Note-F EncValue Element Note). (length z.elements < 2 ^ 32) × AllByRecursion (λ e. IsWide depth e.value) z.elements) out w in
+      let wide : (length old < 2 ^ 32) × AllByRecursion (λ (e : Element). IsWide depth e.value) old = subst (λ (z : Note-F EncValue Element Note). (length z.elements < 2 ^ 32) × AllByRecursion (λ (e : Element). IsWide depth e.value) z.elements) out w in
       let a = and_parts (has_type p class) (list_all (element_fits (value_fits depth p) p) old && list_all named_in_order (neighbours old)) fits in
       let b = and_parts (list_all (element_fits (value_fits depth p) p) old) (list_all named_in_order (neighbours old)) a.1 in
       let names : AllUsed (named.Kind class ∷ joined (map element_names old)) = subst AllUsed (note_named class old) u in
@@ -166,7 +170,7 @@ module _ (p : Program) (r : Renumber) (sizes : TableSizes) (Used : Named → Typ
       record {
         class = subst (λ (z : Note-F EncValue Element Note). z.class < sizes.types) back (lands.types class (names (named.Kind class) (inl refl)) a.0);
         few = subst (λ (z : Note-F EncValue Element Note). length z.elements < 2 ^ 32) back (omega (arith, wide.0, length-map old (element_of r)));
-        elements = subst (λ (z : Note-F EncValue Element Note). AllByRecursion (λ e. (e.name < sizes.strings) × ValueFits sizes depth e.value) z.elements) back (elements_fit es depth b.0 wide.1 (λ n j. names n (inr j)));
+        elements = subst (λ (z : Note-F EncValue Element Note). AllByRecursion (λ (e : Element). (e.name < sizes.strings) × ValueFits sizes depth e.value) z.elements) back (elements_fit es depth b.0 wide.1 (λ n j. names n (inr j)));
         ascend = subst (λ (z : Note-F EncValue Element Note). Ascends element_below z.elements) back up;
       }
 

@@ -28,9 +28,9 @@ use Rattle.names_law.proofs.Closed.{names_used}
 use Rattle.names_law.proofs.Ascending.{one_number}
 use Rattle.written_tables.proofs.Fit.{FitsClass}
 use Rattle.written_tables.proofs.In.{In, in_right, in_flat, in_got, all_in, all_of}
-use Rattle.written_classes.specs.Behind.{Behind, AllBehind}
-use Rattle.written_classes.proofs.Places.{has}
-use Rattle.written_classes.proofs.Order.{has_append}
+use Rattle.written_order.specs.Behind.{Behind, AllBehind}
+use Rattle.written_order.proofs.Places.{has}
+use Rattle.written_order.proofs.Order.{has_append}
 
 -- ---- the classes of the plans
 

@@ -35,48 +35,48 @@ use Rattle.names_law.proofs.Ordering.{AsMany, used_marked}
 use Rattle.names_law.proofs.Ascending.{one_number}
 use Rattle.written_tables.proofs.Fit.{FitsClass}
 use Rattle.written_tables.proofs.In.{In, in_left, in_right, in_flat, in_got}
-use Rattle.written_classes.specs.Parts.{found_sets, sets_of_file}
-use Rattle.written_classes.proofs.Plans.{class_used}
-use Rattle.written_classes.proofs.Rising.{strings_rise}
-use Rattle.written_classes.proofs.Marks.{class_of, class_named, IsFine, sets_same, set_ascends}
-use Rattle.written_classes.specs.Left.{Reads}
-use Rattle.written_classes.proofs.Standing.{IsGood}
-use Rattle.written_classes.proofs.SetTexts.{marks_are, counts_are}
+use Rattle.written_parts.specs.Parts.{found_sets, sets_of_file}
+use Rattle.written_order.proofs.Plans.{class_used}
+use Rattle.written_order.proofs.Rising.{strings_rise}
+use Rattle.written_sets.proofs.Marks.{class_of, class_named, IsFine, sets_same, set_ascends}
+use Rattle.written_sets.specs.Reads.{Reads}
+use Rattle.written_sets.proofs.Standing.{IsGood}
+use Rattle.written_parts.proofs.SetTexts.{marks_are, counts_are}
 use Rattle.write_laws.proofs.Lying.{total}
 use Rattle.write_laws.proofs.Fitting.{sets_fit}
 use Rattle.dex_pools.specs.declared.scalar.TableSizes.{TableSizes}
 use Rattle.dex_pools.specs.Marks.{mark_below}
 use Rattle.std.proofs.lemmas.List.{length-map, length-take-le, length-drop}
-use Rattle.written_classes.proofs.Small.{order_long}
-use Rattle.written_classes.proofs.Kinds.{HasPlan}
+use Rattle.written_parts.proofs.Small.{order_long}
+use Rattle.written_parts.proofs.Kinds.{HasPlan}
 
 -- ---- what a class names
 
 -- the class names what a set does
-abbrev Names : Class → List Mark → Type 0
+abbrev pub Names : Class → List Mark → Type 0
 Names c ms = (n : Named) → In n (marks_names ms) → In n (class_names c)
 
-own_names : (c : Class) → Names c c.marks
+pub own_names : (c : Class) → Names c c.marks
 unfolding class_names
 own_names c n i = inr (inr (in_right n (flat_map kind_names c.interfaces) _ (in_right n (source_names c.source) _ (in_left n (marks_names c.marks) _ i))))
 
-field_in : (f : Field) (n : Named) → In n (marks_names f.marks) → In n (field_names f)
+pub field_in : (f : Field) (n : Named) → In n (marks_names f.marks) → In n (field_names f)
 unfolding field_names
 field_in f n i = inr (in_right n (first_names f.first) (marks_names f.marks) i)
 
-method_in : (m : Method) (n : Named) → In n (marks_names m.marks) → In n (method_names m)
+pub method_in : (m : Method) (n : Named) → In n (marks_names m.marks) → In n (method_names m)
 unfolding method_names
 method_in m n i = inr (in_left n (marks_names m.marks) _ i)
 
-parameter_in : (m : Method) (ms : List Mark) (n : Named) → In ms m.parameter_marks → In n (marks_names ms) → In n (method_names m)
+pub parameter_in : (m : Method) (ms : List Mark) (n : Named) → In ms m.parameter_marks → In n (marks_names ms) → In n (method_names m)
 unfolding method_names
 parameter_in m ms n i j = inr (in_right n (marks_names m.marks) _ (in_left n (flat_map marks_names m.parameter_marks) (code_names m.body) (in_flat marks_names n ms m.parameter_marks i j)))
 
-fields_in : (c : Class) (f : Field) (n : Named) → In f c.fields → In n (field_names f) → In n (class_names c)
+pub fields_in : (c : Class) (f : Field) (n : Named) → In f c.fields → In n (field_names f) → In n (class_names c)
 unfolding class_names
 fields_in c f n i j = inr (inr (in_right n (flat_map kind_names c.interfaces) _ (in_right n (source_names c.source) _ (in_right n (marks_names c.marks) _ (in_left n (flat_map field_names c.fields) (flat_map method_names c.methods) (in_flat field_names n f c.fields i j))))))
 
-methods_in : (c : Class) (m : Method) (n : Named) → In m c.methods → In n (method_names m) → In n (class_names c)
+pub methods_in : (c : Class) (m : Method) (n : Named) → In m c.methods → In n (method_names m) → In n (class_names c)
 unfolding class_names
 methods_in c m n i j = inr (inr (in_right n (flat_map kind_names c.interfaces) _ (in_right n (source_names c.source) _ (in_right n (marks_names c.marks) _ (in_right n (flat_map field_names c.fields) (flat_map method_names c.methods) (in_flat method_names n m c.methods i j))))))
 
@@ -93,15 +93,15 @@ each_fits p [] f m i = absurd i
 each_fits p (x ∷ ms) f m (inl e) = subst (λ y. mark_fits p y ≡ true) e (and_parts (mark_fits p x) (list_all (mark_fits p) ms) f).0
 each_fits p (x ∷ ms) f m (inr i) = each_fits p ms (and_parts (mark_fits p x) (list_all (mark_fits p) ms) f).1 m i
 
-fields_marks : (p : Program) (class : ℕ) (f : Field) → field_fits p class f ≡ true → marks_fit p f.marks ≡ true
+pub fields_marks : (p : Program) (class : ℕ) (f : Field) → field_fits p class f ≡ true → marks_fit p f.marks ≡ true
 unfolding field_fits
 fields_marks p class f h = (and_parts (first_value_fits p f.flags f.name f.first) (marks_fit p f.marks) (and_parts (is_class_number (class_of_field (slice_get p.fields f.name)) class) (first_value_fits p f.flags f.name f.first && marks_fit p f.marks) h).1).1
 
-methods_marks : (p : Program) (class : ℕ) (m : Method) → method_fits p class m ≡ true → (marks_fit p m.marks ≡ true) × (list_all (marks_fit p) m.parameter_marks ≡ true)
+pub methods_marks : (p : Program) (class : ℕ) (m : Method) → method_fits p class m ≡ true → (marks_fit p m.marks ≡ true) × (list_all (marks_fit p) m.parameter_marks ≡ true)
 unfolding method_fits
 methods_marks p class m h = and_parts (marks_fit p m.marks) (list_all (marks_fit p) m.parameter_marks) (and_parts (is_class_number (class_of_method (slice_get p.methods m.name)) class && code_fits p m m.body) (marks_fit p m.marks && list_all (marks_fit p) m.parameter_marks) h).1
 
-all_both : {X : Type 0} (P : X → Type 0) (xs ys : List X) → AllByRecursion P xs → AllByRecursion P ys → AllByRecursion P (xs ++ ys)
+pub all_both : {X : Type 0} (P : X → Type 0) (xs ys : List X) → AllByRecursion P xs → AllByRecursion P ys → AllByRecursion P (xs ++ ys)
 all_both P [] ys a b = b
 all_both P (x ∷ xs) ys a b = (a.0, all_both P xs ys a.1 b)
 

@@ -28,13 +28,13 @@ use Rattle.names_law.specs.Used.{IsShort}
 
 use Rattle.written_tables.proofs.Fit.{FitsClass}
 use Rattle.written_tables.proofs.In.{In, all_of}
-use Rattle.written_classes.specs.Parts.{class_parts, first_values, parts_of_file}
-use Rattle.written_classes.proofs.Sorting.{Differ, news_differ}
-use Rattle.written_classes.proofs.Grouped.{Spot}
-use Rattle.written_classes.proofs.Members.{field_at, method_at, field_short, method_short, all_of_list}
-use Rattle.written_classes.proofs.Few.{differ_few}
-use Rattle.written_classes.proofs.Firsts.{AreOwn, array_same}
-use Rattle.written_classes.proofs.Kinds.{HasPlan}
+use Rattle.written_parts.specs.Parts.{class_parts, first_values, parts_of_file}
+use Rattle.written_order.proofs.Sorting.{Differ, news_differ}
+use Rattle.written_order.proofs.Grouped.{Spot}
+use Rattle.written_parts.proofs.Members.{field_at, method_at, field_short, method_short, all_of_list}
+use Rattle.written_order.proofs.Few.{differ_few}
+use Rattle.written_parts.proofs.Firsts.{AreOwn, array_same}
+use Rattle.written_parts.proofs.Kinds.{HasPlan}
 
 insert_long : {X : Type 0} (below : X → X → Bool) (x : X) (ys : List X) → length (written.insert below x ys) ≡ suc (length ys)
 insert_long below x [] = refl
@@ -52,7 +52,7 @@ all_mapped : {X Y : Type 0} (P : Y → Type 0) (f : X → Y) (xs : List X) → A
 all_mapped P f [] a = tt
 all_mapped P f (x ∷ xs) a = (a.0, all_mapped P f xs a.1)
 
-taken_few : {X : Type 0} (n : ℕ) (xs : List X) → length (take n xs) ≤ length xs
+pub taken_few : {X : Type 0} (n : ℕ) (xs : List X) → length (take n xs) ≤ length xs
 taken_few zero xs = omega arith
 taken_few (suc n) [] = omega arith
 taken_few (suc n) (x ∷ xs) = omega (arith, taken_few n xs)
@@ -86,7 +86,7 @@ module _ (p : Program) (i : Interner) (few : IsShort p) (h : IsInterned p i) (fi
       let long : length (written_class i.numbers p x.c).methods ≡ length x.c.methods = length-map (written.in_order (method_below i.numbers p) x.c.methods) (written_method i.numbers) ∙ order_long (method_below i.numbers p) x.c.methods in
       omega (arith, same, long, methods_few x.c (fits x.k x.c x.is_class))
 
-  spots_own : (c : Class) (wanted : Bool) (fs : List Numbered) → AllByRecursion (Spot (λ f. f.name) (λ f. is_static f.flags) (map (written_field i.numbers) c.fields) wanted) fs → AllByRecursion (λ a. (f : Field) × (slice_get c.fields a.1 ≡ Some f)) fs
+  pub spots_own : (c : Class) (wanted : Bool) (fs : List Numbered) → AllByRecursion (Spot (λ f. f.name) (λ f. is_static f.flags) (map (written_field i.numbers) c.fields) wanted) fs → AllByRecursion (λ a. (f : Field) × (slice_get c.fields a.1 ≡ Some f)) fs
   spots_own c wanted [] s = tt
   spots_own c wanted (a ∷ fs) s =
       let old = before_map (written_field i.numbers) (slice_get c.fields a.1) s.0.x (sym (get_map (written_field i.numbers) c.fields a.1) ∙ s.0.is) in

@@ -26,7 +26,7 @@ use Rattle.dex_defs.specs.Arranged.{Both}
 use Rattle.write_laws.specs.Placing.{item_text, item_texts, code_offsets, line_offsets}
 use Rattle.write_laws.specs.Listing.{method_entry, method_entries, lists_in, all_lists_in}
 use Rattle.write_laws.specs.Listing.{def_of}
-use Rattle.written_classes.specs.Parts.{split_by, directory_of, code_parts, class_part, class_parts}
+use Rattle.written_parts.specs.Parts.{split_by, directory_of, code_parts, class_part, class_parts}
 use Rattle.write_laws.proofs.Numbers.{same_words}
 
 -- ---- offsets that are those of a list, one by one

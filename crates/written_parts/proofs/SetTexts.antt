@@ -17,7 +17,7 @@ use Rattle.write_laws.specs.Placing.{entry_texts}
 use Rattle.write_laws.proofs.Numbers.{same_words}
 use Rattle.write_laws.proofs.Lying.{total}
 use Rattle.write_laws.proofs.Fitting.{plan_long, sum_total}
-use Rattle.written_classes.specs.Parts.{split_by, class_parts, found_sets}
+use Rattle.written_parts.specs.Parts.{split_by, class_parts, found_sets}
 
 -- ---- lists of offsets
 

@@ -16,7 +16,7 @@ use Rattle.code_write.specs.Pairs.{Numbered, is_before, insert, in_order}
 use Rattle.dex_defs.specs.Written as written
 use Rattle.dex_defs.specs.Annotations.{pair_below}
 use Rattle.written_tables.proofs.In.{In, in_got, Place, place_in, has_in}
-use Rattle.written_classes.proofs.Places.{has, below_tells}
+use Rattle.written_order.proofs.Places.{has, below_tells}
 
 -- ---- numbers that differ
 

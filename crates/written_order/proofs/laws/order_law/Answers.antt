@@ -1,6 +1,6 @@
 use Rattle.written_tables.proofs.Fit.{parts_of, class_at_fits}
-use Rattle.written_classes.proofs.Order.{order_is, order_behind}
-use Rattle.written_classes.proofs.laws.order_law.Goals as goal
+use Rattle.written_order.proofs.Order.{order_is, order_behind}
+use Rattle.written_order.proofs.laws.order_law.Goals as goal
 
 pub returns : goal.returns
 returns c = record {

@@ -1,6 +1,6 @@
 -- The annotations of the written file are spelled wherever their texts stand.
-use Rattle.std.proofs.Common.{◌≡◌, ◌<◌, ◌^◌, inl, inr, ℕ, Bool, true, false, List, [], ◌∷◌, ◌++◌, length, map, take, drop, refl, sym, ap, subst, ◌∙◌, arith, Option, Some, None, ltb-true}
-use Rattle.std.specs.Prelude.{slice_get, if◌then◌else◌}
+use Rattle.std.proofs.Common.{◌≡◌, ◌<◌, ◌≤◌, ◌^◌, inl, inr, ℕ, Bool, true, false, List, [], ◌∷◌, ◌++◌, length, map, take, drop, refl, sym, ap, subst, ◌∙◌, arith, Option, Some, None, ltb-true}
+use Rattle.std.specs.Prelude.{slice_get, min, if◌then◌else◌}
 use Rattle.std.specs.List.{flat_map, list_all, AllByRecursion}
 use Rattle.std.proofs.lemmas.Bool.{and_parts}
 use Rattle.lemmas.proofs.Lists.{all_at}
@@ -59,6 +59,10 @@ ordered : {X : Type 0} (P : X → Type 0) (below : X → X → Bool) (xs : List 
 ordered P below [] all = tt
 ordered P below (x ∷ xs) all = inserted P below x (in_order below xs) all.0 (ordered P below xs all.1)
 
+-- a number below the size of a short table
+within : (n size most : ℕ) → n < size → size ≤ most → most < 2 ^ 32 → n < min size 4294967295
+within n size most lt le few = omega (arith, lt, le, few)
+
 module _ (p : Program) (i : Interner) (few : IsShort p) (h : IsInterned p i) (fits : (k : ℕ) (c : Class) → slice_get p.classes k ≡ Some c → FitsClass p c)
     (wide : HasWideValues p) (old : Ascends list_below p.strings) (new : Ascends list_below (written_by i p).strings) where
   abbrev sizes : TableSizes
@@ -71,12 +75,14 @@ module _ (p : Program) (i : Interner) (few : IsShort p) (h : IsInterned p i) (fi
   sizes_fit = let no : IsNoLonger (written_by i p) p = no_longer p i h in record { strings = omega (arith, no.strings, few.strings); types = omega (arith, no.types, few.types); fields = omega (arith, no.fields, few.fields); methods = omega (arith, no.methods, few.methods) }
 
   pub lands : Lands p i.numbers sizes UsedName
-  lands = record {
-    strings = λ n u f. ranges_kept p i few h (named.Text n) u (ltb-true n (length p.strings) f);
-    types = λ n u f. ranges_kept p i few h (named.Kind n) u (ltb-true n (length p.types) f);
-    fields = λ n u f. ranges_kept p i few h (named.Field n) u (ltb-true n (length p.fields) f);
-    methods = λ n u f. ranges_kept p i few h (named.Method n) u (ltb-true n (length p.methods) f);
-  }
+  lands =
+      let no : IsNoLonger (written_by i p) p = no_longer p i h in
+      record {
+        strings = λ n u f. within _ (length (written_by i p).strings) (length p.strings) (ranges_kept p i few h (named.Text n) u (ltb-true n (length p.strings) f)) no.strings few.strings;
+        types = λ n u f. within _ (length (written_by i p).types) (length p.types) (ranges_kept p i few h (named.Kind n) u (ltb-true n (length p.types) f)) no.types few.types;
+        fields = λ n u f. within _ (length (written_by i p).fields) (length p.fields) (ranges_kept p i few h (named.Field n) u (ltb-true n (length p.fields) f)) no.fields few.fields;
+        methods = λ n u f. within _ (length (written_by i p).methods) (length p.methods) (ranges_kept p i few h (named.Method n) u (ltb-true n (length p.methods) f)) no.methods few.methods;
+      }
 
   -- a set whose annotations fit by their new numbers
   abbrev Fit : List Mark → Type 0

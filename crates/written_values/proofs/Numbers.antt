@@ -18,7 +18,7 @@ not_below x h le = by_test (nat_lt x h) refl
 -- ---- unsigned numbers
 
 pub unsigned_back : (n : ℕ) → n < 2 ^ 32 → zero_extended w32 (unsigned_few n) ≡ n
-unfolding unsigned_few zero_extended
+unfolding unsigned_few
 unsigned_back n lt = by1 (nat_lt n (2 ^ 8)) refl
   where
     by3 : (t : Bool) → nat_lt n (2 ^ 24) ≡ t → from_le_bytes w32 (take (if t then 3 else 4) (to_le_bytes w32 n)) ≡ n
@@ -34,7 +34,7 @@ unsigned_back n lt = by1 (nat_lt n (2 ^ 8)) refl
     by1 false e = by2 (nat_lt n (2 ^ 16)) refl
 
 pub half_back : (n : ℕ) → n < 2 ^ 16 → zero_extended w16 (unsigned_few n) ≡ n
-unfolding unsigned_few zero_extended
+unfolding unsigned_few
 half_back n lt = by1 (nat_lt n (2 ^ 8)) refl
   where
     by2 : (t : Bool) → nat_lt n (2 ^ 16) ≡ t → from_le_bytes w16 (take (if t then 2 else if nat_lt n (2 ^ 24) then 3 else 4) (to_le_bytes w32 n)) ≡ n

@@ -58,7 +58,7 @@ tag_is bytes at kind argument t lt h =
 few_here : (bytes : List ℕ) (at kind : ℕ) (few : List ℕ) → 1 ≤ length few → Tagged bytes at kind (length few - 1) → Here bytes at (tagged kind few) → HasFew bytes at few
 few_here bytes at kind few some t h = record {
   many = omega (arith, t.argument_is, some);
-  here = here_is bytes (at + length (kind + 32 * (length few - 1) ∷ [])) (at + 1) few (omega arith) (here_right bytes at (kind + 32 * (length few - 1) ∷ []) few h);
+  here = here_is bytes (at + length ((kind + 32 * (length few - 1)) ∷ [])) (at + 1) few (omega arith) (here_right bytes at ((kind + 32 * (length few - 1)) ∷ []) few h);
 }
 
 pair_is : {X : Type 0} (x y : X) (m n : ℕ) → x ≡ y → m ≡ n → ◌≡◌ {A = X × ℕ} (x, m) (y, n)
@@ -317,25 +317,25 @@ module _ (bytes : List ℕ) (sizes : TableSizes) (fit : SizesFit sizes) where
   layer_stands Inner Is each (layer.Array vs) at f h =
       let texts : List (List ℕ) = map value_text vs in
       let t : Tagged bytes at 28 0 = tag_is bytes at 28 0 (listed texts) (omega arith) h in
-      let rest : Here bytes (at + 1) (listed texts) = here_is bytes (at + length (28 ∷ [])) (at + 1) (listed texts) (omega arith) (here_right bytes at (28 ∷ []) (listed texts) h) in
+      let rest : Here bytes (at + 1) (listed texts) = here_is bytes (at + length {A = ℕ} (28 ∷ [])) (at + 1) (listed texts) (omega arith) (here_right bytes at (28 ∷ []) (listed texts) h) in
       let counted : Counted bytes (at + 1) (length vs) texts = listed_stands bytes (at + 1) (length vs) texts (length-map vs value_text) f.0 rest in
       let begin : ℕ = at + 1 + length (uleb_text (length vs)) in
       let chain : ChainOf Is begin vs (begin + length (concat texts)) = chain_stands bytes Is value_text Inner each vs begin f.1 counted.items in
-      let long : begin + length (concat texts) ≡ at + length (28 ∷ listed texts) = omega (arith, counted.long) in
-      Array vs (begin + length (concat texts)) (t.has refl) t.tag (record { begin = begin; count = counted.count; are = chain }) (pair_is (roll-EncValue (layer.Array vs)) (variant.Array vs) (at + length (28 ∷ listed texts)) (begin + length (concat texts)) ((variant.rolls-Array vs)) (sym long))
+      let long : begin + length (concat texts) ≡ at + length {A = ℕ} (28 ∷ listed texts) = omega (arith, counted.long) in
+      Array vs (begin + length (concat texts)) (t.has refl) t.tag (record { begin = begin; count = counted.count; are = chain }) (pair_is (roll-EncValue (layer.Array vs)) (variant.Array vs) (at + length {A = ℕ} (28 ∷ listed texts)) (begin + length (concat texts)) ((variant.rolls-Array vs)) (sym long))
   layer_stands Inner Is each (layer.Annotation n) at f h =
       let t : Tagged bytes at 29 0 = tag_is bytes at 29 0 (note_text n) (omega arith) h in
-      let rest : Here bytes (at + 1) (note_text n) = here_is bytes (at + length (29 ∷ [])) (at + 1) (note_text n) (omega arith) (here_right bytes at (29 ∷ []) (note_text n) h) in
-      Annotation n (at + 1 + length (note_text n)) (t.has refl) t.tag (note_stands Inner Is each n (at + 1) f rest) (pair_is (roll-EncValue (layer.Annotation n)) (variant.Annotation n) (at + length (29 ∷ note_text n)) (at + 1 + length (note_text n)) ((variant.rolls-Annotation n)) (omega arith))
+      let rest : Here bytes (at + 1) (note_text n) = here_is bytes (at + length {A = ℕ} (29 ∷ [])) (at + 1) (note_text n) (omega arith) (here_right bytes at (29 ∷ []) (note_text n) h) in
+      Annotation n (at + 1 + length (note_text n)) (t.has refl) t.tag (note_stands Inner Is each n (at + 1) f rest) (pair_is (roll-EncValue (layer.Annotation n)) (variant.Annotation n) (at + length {A = ℕ} (29 ∷ note_text n)) (at + 1 + length (note_text n)) ((variant.rolls-Annotation n)) (omega arith))
   layer_stands Inner Is each layer.Null at f h =
       let t : Tagged bytes at 30 0 = tag_is bytes at 30 0 [] (omega arith) h in
-      Null (t.has refl) t.tag (pair_is (roll-EncValue layer.Null) variant.Null (at + length (30 ∷ [])) (at + 1) (variant.rolls-Null) (omega arith))
+      Null (t.has refl) t.tag (pair_is (roll-EncValue layer.Null) variant.Null (at + length {A = ℕ} (30 ∷ [])) (at + 1) (variant.rolls-Null) (omega arith))
   layer_stands Inner Is each (layer.Bool true) at f h =
       let t : Tagged bytes at 31 1 = tag_is bytes at 31 1 [] (omega arith) h in
-      Boolean (t.has refl) t.tag (pair_is (roll-EncValue (layer.Bool true)) (variant.Bool (argument_at bytes at == 1)) (at + length (63 ∷ [])) (at + 1) ((variant.rolls-Bool true) ∙ ap (λ (a : ℕ). variant.Bool (a == 1)) (sym t.argument_is)) (omega arith))
+      Boolean (t.has refl) t.tag (pair_is (roll-EncValue (layer.Bool true)) (variant.Bool (argument_at bytes at == 1)) (at + length {A = ℕ} (63 ∷ [])) (at + 1) ((variant.rolls-Bool true) ∙ ap (λ (a : ℕ). variant.Bool (a == 1)) (sym t.argument_is)) (omega arith))
   layer_stands Inner Is each (layer.Bool false) at f h =
       let t : Tagged bytes at 31 0 = tag_is bytes at 31 0 [] (omega arith) h in
-      Boolean (t.has refl) t.tag (pair_is (roll-EncValue (layer.Bool false)) (variant.Bool (argument_at bytes at == 1)) (at + length (31 ∷ [])) (at + 1) ((variant.rolls-Bool false) ∙ ap (λ (a : ℕ). variant.Bool (a == 1)) (sym t.argument_is)) (omega arith))
+      Boolean (t.has refl) t.tag (pair_is (roll-EncValue (layer.Bool false)) (variant.Bool (argument_at bytes at == 1)) (at + length {A = ℕ} (31 ∷ [])) (at + 1) ((variant.rolls-Bool false) ∙ ap (λ (a : ℕ). variant.Bool (a == 1)) (sym t.argument_is)) (omega arith))
 
   pub value_stands : (depth : ℕ) (v : EncValue) (at : ℕ) → ValueFits sizes depth v → Here bytes at (value_text v) → IsValue bytes sizes depth at (v, at + length (value_text v))
   value_stands zero v at f h = absurd f

@@ -44,15 +44,17 @@ module _ (p : Program) (i : Interner) (few : IsShort p) (h : IsInterned p i) (fi
       let x : HasPlan p i few h fits plan = a.0 in
       let same : x.c ≡ c = sym x.planned.class ∙ are.0.class in
       let methods : (written_class i.numbers p c).methods ≡ (written_class i.numbers p x.c).methods = ap (λ (y : Class). (written_class i.numbers p y).methods) (sym same) in
-      let long : length (flat_map set_counts (plan ∷ ps)) ≡ (own_count plan + parameter_count plan) + length (flat_map set_counts ps) = length-append (set_counts plan) (flat_map set_counts ps) ∙ ap (λ (n : ℕ). n + length (flat_map set_counts ps)) (plan_long plan) in
-      (plan_refs i.numbers plan x.c sets (written_class i.numbers p c).methods x.planned.class (methods ∙ x.planned.methods) (omega (arith, le, long)),
-      all_refs cs offsets values (suc place) (codes_behind code_at plan.methods) (lines_behind lines_at plan.methods) (behind_class plan sets) (drop (length plan.methods) refs) ps are.1 a.1 (omega (arith, le, long, length-drop (parameter_count plan) (drop (own_count plan) sets), length-drop (own_count plan) sets)))
+      let long : length (flat_map set_counts (plan ∷ ps)) ≡ (own_count plan + parameter_count plan) + length (flat_map set_counts ps) = length-append (set_counts plan) (flat_map set_counts ps) ∙ ap (λ (n : ℕ). n + length (flat_map set_counts ps)) (plan_long plan) in (
+        plan_refs i.numbers plan x.c sets (written_class i.numbers p c).methods x.planned.class (methods ∙ x.planned.methods) (omega (arith, le, long)),
+        all_refs cs offsets values (suc place) (codes_behind code_at plan.methods) (lines_behind lines_at plan.methods) (behind_class plan sets) (drop (length plan.methods) refs) ps are.1 a.1 (omega (arith, le, long, length-drop (parameter_count plan) (drop (own_count plan) sets), length-drop (own_count plan) sets)),
+      )
 
 pub assembled : (bytes : List ℕ) (q : Program) (k : ℕ) (cs : List Class) (xs : List ClassPart) → Each (λ j x. IsDef bytes (classes_at q + 32 * j) x.def) k xs → AllByRecursion (λ x. IsClassDataOf bytes x.def.data_at x.lists) xs → AllByRecursion (λ x. IsDirectoryOf bytes x.def.annotations x.directory × NamesAll x.directory) xs
     → AllByRecursion (λ x. AreValuesOf bytes (sizes_in q) x.def.values x.values) xs → Both (λ c x. EndsInFirst x.values c.fields) cs xs → Both (λ c x. AreCodes bytes q (methods_of x.lists) c.methods x.codes) cs xs → Both HasRefs cs xs → AreClassParts bytes q k cs xs
 assembled bytes q k [] [] defs lists directories values firsts codes refs = tt
 assembled bytes q k [] (x ∷ xs) defs lists directories values firsts codes refs = absurd firsts
 assembled bytes q k (c ∷ cs) [] defs lists directories values firsts codes refs = absurd firsts
-assembled bytes q k (c ∷ cs) (x ∷ xs) defs lists directories values firsts codes refs =
-    (record { def = defs.0; lists = lists.0; directory = directories.0.0; pairs = directories.0.1; values = values.0; few = firsts.0; codes = codes.0; refs = refs.0 },
-    assembled bytes q (suc k) cs xs defs.1 lists.1 directories.1 values.1 firsts.1 codes.1 refs.1)
+assembled bytes q k (c ∷ cs) (x ∷ xs) defs lists directories values firsts codes refs = (
+  record { def = defs.0; lists = lists.0; directory = directories.0.0; pairs = directories.0.1; values = values.0; few = firsts.0; codes = codes.0; refs = refs.0 },
+  assembled bytes q (suc k) cs xs defs.1 lists.1 directories.1 values.1 firsts.1 codes.1 refs.1,
+)

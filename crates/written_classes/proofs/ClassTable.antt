@@ -109,15 +109,28 @@ module _ (p : Program) (i : Interner) (few : IsShort p) (h : IsInterned p i) (fi
   row_few k c e offsets o place =
       let fit : FitsClass p c = fits k c e in
       let own : ClassFits c = all_in ClassFits c p.classes widths.classes (in_got p.classes k c e) in
-      let above = and_parts (has_type p c.superclass) _ fit.above in
-      (type_few c.name (class_used p k c e (named.Kind c.name) (named_name c)) fit.name,
-      (own.flags,
-      (type_few c.superclass (class_used p k c e (named.Kind c.superclass) (named_super c)) above.0,
-      (few_place offsets.interfaces place o.interfaces,
-      (source_few k c e,
-      (few_place offsets.directories place o.directories,
-      (few_place offsets.data place o.members,
-      (few_place offsets.firsts place o.firsts, tt))))))))
+      let above = and_parts (has_type p c.superclass) _ fit.above in (
+        type_few c.name (class_used p k c e (named.Kind c.name) (named_name c)) fit.name,
+        (
+          own.flags,
+          (
+            type_few c.superclass (class_used p k c e (named.Kind c.superclass) (named_super c)) above.0,
+            (
+              few_place offsets.interfaces place o.interfaces,
+              (
+                source_few k c e,
+                (
+                  few_place offsets.directories place o.directories,
+                  (
+                    few_place offsets.data place o.members,
+                    (few_place offsets.firsts place o.firsts, tt),
+                  ),
+                ),
+              ),
+            ),
+          ),
+        ),
+      )
 
   pub defs_few : (offsets : ClassOffsets) → FewOffsets offsets → (place : ℕ) (plans : List Plan) → AllByRecursion (HasPlan p i few h fits) plans → FewDefs i.numbers offsets place plans
   defs_few offsets o place [] a = tt

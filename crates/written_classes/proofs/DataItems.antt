@@ -220,10 +220,12 @@ module _ (p : Program) (i : Interner) (few : IsShort p) (h : IsInterned p i) (fi
       let statics = fields_number x.k x.c x.is_class true (take plan.statics plan.fields) x.planned.static_spots in
       let instances = fields_number x.k x.c x.is_class false (drop plan.statics plan.fields) x.planned.instance_spots in
       let directs = methods_number x.k x.c x.is_class true (take plan.directs plan.methods) x.planned.direct_spots in
-      let virtuals = methods_number x.k x.c x.is_class false (drop plan.directs plan.methods) x.planned.virtual_spots in
-      (record {
-        fields = firsts_few plan.fields (all_joined (λ a. a.0 < 2 ^ 32) plan.statics plan.fields statics.0 instances.0);
-        methods = numbers_few plan.methods (all_joined (λ m. m.number < 2 ^ 32) plan.directs plan.methods directs.0 virtuals.0);
-        few_fields = omega (arith, few.fields, plan_fields_few p i few h fits plan x);
-        few_methods = omega (arith, few.methods, plan_methods_few p i few h fits plan x);
-      }, members_few plans a.1)
+      let virtuals = methods_number x.k x.c x.is_class false (drop plan.directs plan.methods) x.planned.virtual_spots in (
+        record {
+          fields = firsts_few plan.fields (all_joined (λ a. a.0 < 2 ^ 32) plan.statics plan.fields statics.0 instances.0);
+          methods = numbers_few plan.methods (all_joined (λ m. m.number < 2 ^ 32) plan.directs plan.methods directs.0 virtuals.0);
+          few_fields = omega (arith, few.fields, plan_fields_few p i few h fits plan x);
+          few_methods = omega (arith, few.methods, plan_methods_few p i few h fits plan x);
+        },
+        members_few plans a.1,
+      )

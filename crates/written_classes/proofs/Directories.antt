@@ -184,6 +184,7 @@ pub all_directories : (bytes : List ℕ) (r : Renumber) (offsets : ClassOffsets)
     → AllByRecursion (λ x. IsDirectoryOf bytes x.def.annotations x.directory × NamesAll x.directory) (class_parts r offsets values place code_at lines_at sets refs ps)
 all_directories bytes r offsets values place code_at lines_at sets refs [] a s f b = tt
 all_directories bytes r offsets values place code_at lines_at sets refs (p ∷ ps) a s f b =
-    let fit : FitsDirectory (directory_of p sets refs) = plan_directory p sets refs a.0 s f in
-    ((directory_is bytes _ (directory_of p sets refs) fit b.0, names_all (directory_of p sets refs) fit),
-    all_directories bytes r offsets values (suc place) (codes_behind code_at p.methods) (lines_behind lines_at p.methods) (behind_class p sets) (drop (length p.methods) refs) ps a.1 (few_dropped (parameter_count p) (drop (own_count p) sets) (few_dropped (own_count p) sets s)) (few_dropped (length p.methods) refs f) b.1)
+    let fit : FitsDirectory (directory_of p sets refs) = plan_directory p sets refs a.0 s f in (
+      (directory_is bytes _ (directory_of p sets refs) fit b.0, names_all (directory_of p sets refs) fit),
+      all_directories bytes r offsets values (suc place) (codes_behind code_at p.methods) (lines_behind lines_at p.methods) (behind_class p sets) (drop (length p.methods) refs) ps a.1 (few_dropped (parameter_count p) (drop (own_count p) sets) (few_dropped (own_count p) sets s)) (few_dropped (length p.methods) refs f) b.1,
+    )

@@ -179,6 +179,7 @@ module _ (p : Program) (i : Interner) (few : IsShort p) (h : IsInterned p i) (fi
       → Both (Stands bytes) (map (λ c. c.def.values) (class_parts i.numbers offsets (first_values p i.numbers) place code_at lines_at sets refs plans)) (map (λ c. texts.array_text c.values) (class_parts i.numbers offsets (first_values p i.numbers) place code_at lines_at sets refs plans))
       → AllByRecursion (λ x. AreValuesOf bytes sizes x.def.values x.values) (class_parts i.numbers offsets (first_values p i.numbers) place code_at lines_at sets refs plans)
   all_values bytes offsets place code_at lines_at sets refs [] a b = tt
-  all_values bytes offsets place code_at lines_at sets refs (plan ∷ plans) a b =
-      (values_stand bytes sizes _ (first_values p i.numbers plan) (sizes_fit p i few h fits wide old new) (plan_fits plan a.0) (plan_few plan a.0) b.0,
-      all_values bytes offsets (suc place) (codes_behind code_at plan.methods) (lines_behind lines_at plan.methods) (behind_class plan sets) (drop (length plan.methods) refs) plans a.1 b.1)
+  all_values bytes offsets place code_at lines_at sets refs (plan ∷ plans) a b = (
+    values_stand bytes sizes _ (first_values p i.numbers plan) (sizes_fit p i few h fits wide old new) (plan_fits plan a.0) (plan_few plan a.0) b.0,
+    all_values bytes offsets (suc place) (codes_behind code_at plan.methods) (lines_behind lines_at plan.methods) (behind_class plan sets) (drop (length plan.methods) refs) plans a.1 b.1,
+  )

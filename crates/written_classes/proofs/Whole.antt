@@ -61,7 +61,7 @@ left_of p i places plans interned are formed widths wide sorted left =
     let whole : FitsPlans p i plans = plans_fit p i (flat_map (classes_at p) places) plans are in
     let lies : AllLie file p i plans = file_lies p i plans whole in
     let named : Same (map (λ c. c.def.values) (parts_of_file p i plans)) (back_of p i.numbers plans (front_of p i plans (data_at (counts_of i plans)))).firsts.offsets (map (λ c. texts.array_text c.values) (parts_of_file p i plans)) (map (array_text p i.numbers) plans) =
-        record { offsets_are = firsts_named p i plans; texts_are = values_texts p i few interned fits plans planned } in
+    record { offsets_are = firsts_named p i plans; texts_are = values_texts p i few interned fits plans planned } in
     record {
       spelled = left.spelled;
       values = all_values p i few interned fits wide sorted tables.strings_ascend file (offsets_of p i plans) 0 (front_of p i plans (data_at (counts_of i plans))).code.at (stops_of p i plans).strings (front_of p i plans (data_at (counts_of i plans))).sets.offsets (front_of p i plans (data_at (counts_of i plans))).refs.offsets plans planned (firsts_there file p i plans lies named);

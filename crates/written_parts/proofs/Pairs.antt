@@ -238,17 +238,17 @@ module _ (r : Renumber) (offsets : ClassOffsets) (values : Plan → List EncValu
       let at1 : List ℕ = drop 1 sets in
       let at2 : List ℕ = drop (length p.fields) at1 in
       let fields : map (λ e. offset_for e.number (in_order (field_pairs p.fields 0 at1))) (fields_of (lists_in p code_at)) ≡ take (length p.fields) at1 =
-          sym (map_map (λ (n : ℕ). offset_for n (in_order (field_pairs p.fields 0 at1))) (λ (e : Entry). e.number) (fields_of (lists_in p code_at)))
-          ∙ ap (λ (l : List ℕ). map (λ n. offset_for n (in_order (field_pairs p.fields 0 at1))) l) (field_entries p code_at)
-          ∙ ap (λ (l : List Numbered). map (λ n. offset_for n (in_order l)) fs) (fields_paired p.fields 0 at1)
-          ∙ offsets_back fs at1 own.fields (omega (arith, some_fields, le, length-drop 1 sets))
-          ∙ ap (λ (k : ℕ). take k at1) some_fields in
+      sym (map_map (λ (n : ℕ). offset_for n (in_order (field_pairs p.fields 0 at1))) (λ (e : Entry). e.number) (fields_of (lists_in p code_at)))
+      ∙ ap (λ (l : List ℕ). map (λ n. offset_for n (in_order (field_pairs p.fields 0 at1))) l) (field_entries p code_at)
+      ∙ ap (λ (l : List Numbered). map (λ n. offset_for n (in_order l)) fs) (fields_paired p.fields 0 at1)
+      ∙ offsets_back fs at1 own.fields (omega (arith, some_fields, le, length-drop 1 sets))
+      ∙ ap (λ (k : ℕ). take k at1) some_fields in
       let methods : map (λ e. offset_for e.number (in_order (method_pairs p.methods 0 at2))) (methods_of (lists_in p code_at)) ≡ take (length p.methods) at2 =
-          sym (map_map (λ (n : ℕ). offset_for n (in_order (method_pairs p.methods 0 at2))) (λ (e : Entry). e.number) (methods_of (lists_in p code_at)))
-          ∙ ap (λ (l : List ℕ). map (λ n. offset_for n (in_order (method_pairs p.methods 0 at2))) l) (method_entries_are r offsets values p code_at)
-          ∙ ap (λ (l : List Numbered). map (λ n. offset_for n (in_order l)) ms) (methods_paired p.methods 0 at2)
-          ∙ offsets_back ms at2 own.methods (omega (arith, some_methods, le, length-drop 1 sets, length-drop (length p.fields) at1))
-          ∙ ap (λ (k : ℕ). take k at2) some_methods in
+      sym (map_map (λ (n : ℕ). offset_for n (in_order (method_pairs p.methods 0 at2))) (λ (e : Entry). e.number) (methods_of (lists_in p code_at)))
+      ∙ ap (λ (l : List ℕ). map (λ n. offset_for n (in_order (method_pairs p.methods 0 at2))) l) (method_entries_are r offsets values p code_at)
+      ∙ ap (λ (l : List Numbered). map (λ n. offset_for n (in_order l)) ms) (methods_paired p.methods 0 at2)
+      ∙ offsets_back ms at2 own.methods (omega (arith, some_methods, le, length-drop 1 sets, length-drop (length p.fields) at1))
+      ∙ ap (λ (k : ℕ). take k at2) some_methods in
       let own_part : List ℕ = own_offsets p sets in
       let all_of_them : 1 + (length p.fields + (length p.methods + parameter_count p)) ≡ own_count p + parameter_count p = omega arith in
       let parameters : concat (split_by (ref_counts p) own_part) ≡ own_part = split_concat (ref_counts p) own_part ∙ whole (parameter_count p) (drop (own_count p) sets) in

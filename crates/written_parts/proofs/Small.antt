@@ -25,7 +25,6 @@ use Rattle.dex_defs.specs.Written.{written_field, written_method, field_below, m
 use Rattle.dex_defs.specs.Written as written
 use Rattle.dex_defs.specs.ValueTexts as texts
 use Rattle.names_law.specs.Used.{IsShort}
-
 use Rattle.written_tables.proofs.Fit.{FitsClass}
 use Rattle.written_tables.proofs.In.{In, all_of}
 use Rattle.written_parts.specs.Parts.{class_parts, first_values, parts_of_file}

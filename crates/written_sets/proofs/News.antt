@@ -96,18 +96,20 @@ module _ (p : Program) (r : Renumber) (sizes : TableSizes) (Used : Named → Typ
   unfolding joined
   values_fit [] depth f w u = tt
   values_fit (v ∷ vs) depth f w u =
-      let both = and_parts (value_fits depth p v.0) (list_all (value_fits depth p) (map (λ e. e.0) vs)) f in
-      (v.1 depth both.0 w.0 (λ n j. u n (in_left n (value_names v.0) (joined (map value_names (map (λ e. e.0) vs))) j)),
-      values_fit vs depth both.1 w.1 (λ n j. u n (in_right n (value_names v.0) (joined (map value_names (map (λ e. e.0) vs))) j)))
+      let both = and_parts (value_fits depth p v.0) (list_all (value_fits depth p) (map (λ e. e.0) vs)) f in (
+        v.1 depth both.0 w.0 (λ n j. u n (in_left n (value_names v.0) (joined (map value_names (map (λ e. e.0) vs))) j)),
+        values_fit vs depth both.1 w.1 (λ n j. u n (in_right n (value_names v.0) (joined (map value_names (map (λ e. e.0) vs))) j)),
+      )
 
   elements_fit : (es : List ((e : Element) × E e)) (depth : ℕ) → list_all (element_fits (value_fits depth p) p) (map (λ e. e.0) es) ≡ true → AllByRecursion (λ (e : Element). IsWide depth e.value) (map (λ e. e.0) es) → AllUsed (joined (map element_names (map (λ e. e.0) es)))
       → AllByRecursion (λ (e : Element). (e.name < sizes.strings) × ValueFits sizes depth e.value) (map (element_of r) (map (λ e. e.0) es))
   unfolding joined
   elements_fit [] depth f w u = tt
   elements_fit (e ∷ es) depth f w u =
-      let both = and_parts (element_fits (value_fits depth p) p e.0) (list_all (element_fits (value_fits depth p) p) (map (λ x. x.0) es)) f in
-      (e.1 depth both.0 w.0 (λ n j. u n (in_left n (element_names e.0) (joined (map element_names (map (λ x. x.0) es))) j)),
-      elements_fit es depth both.1 w.1 (λ n j. u n (in_right n (element_names e.0) (joined (map element_names (map (λ x. x.0) es))) j)))
+      let both = and_parts (element_fits (value_fits depth p) p e.0) (list_all (element_fits (value_fits depth p) p) (map (λ x. x.0) es)) f in (
+        e.1 depth both.0 w.0 (λ n j. u n (in_left n (element_names e.0) (joined (map element_names (map (λ x. x.0) es))) j)),
+        elements_fit es depth both.1 w.1 (λ n j. u n (in_right n (element_names e.0) (joined (map element_names (map (λ x. x.0) es))) j)),
+      )
 
   as_many : (vs : List EncValue) → length vs < 2 ^ 32 → length (map (new_value r) vs) < 2 ^ 32
   as_many vs lt = omega (arith, lt, length-map vs (new_value r))
@@ -144,7 +146,7 @@ module _ (p : Program) (r : Renumber) (sizes : TableSizes) (Used : Named → Typ
       let wide : IsWideLayer (IsWide depth) x = subst (λ z. IsWideLayer (IsWide depth) z) (out-roll-EncValue x) w in
       let names : AllUsed (old_names x) = subst AllUsed (value_named x) u in
       let on : names_fit (value_fits depth p) p x ≡ true → IsWideLayer (IsWide depth) x → AllUsed (old_names x) → LayerFits sizes (ValueFits sizes depth) (new_open r x) =
-          subst (λ z. names_fit (value_fits depth p) p z ≡ true → IsWideLayer (IsWide depth) z → AllUsed (old_names z) → LayerFits sizes (ValueFits sizes depth) (new_open r z)) is (layer_fit y depth) in
+      subst (λ z. names_fit (value_fits depth p) p z ≡ true → IsWideLayer (IsWide depth) z → AllUsed (old_names z) → LayerFits sizes (ValueFits sizes depth) (new_open r z)) is (layer_fit y depth) in
       subst (λ z. LayerFits sizes (ValueFits sizes depth) z) (sym (ap (λ (v : EncValue). out-EncValue v) (newly r x) ∙ out-roll-EncValue (new_open r x))) (on fits wide names)
 
   element_step : (e : Element) → V e.value → E e

@@ -91,9 +91,10 @@ module _ (p : Program) (i : Interner) (few : IsShort p) (h : IsInterned p i) (fi
   each_fits : (ms : List Mark) → list_all (mark_fits p) ms ≡ true → AreWide ms → ((n : Named) → In n (marks_names ms) → UsedName n) → Fit ms
   each_fits [] f w u = tt
   each_fits (m ∷ ms) f w u =
-      let both = and_parts (mark_fits p m) (list_all (mark_fits p) ms) f in
-      (mark_new_fits p i.numbers sizes UsedName (strings_rise p i few h old new) lands m both.0 w.0 (λ n j. u n (in_left n (mark_names m) (marks_names ms) j)),
-      each_fits ms both.1 w.1 (λ n j. u n (in_right n (mark_names m) (marks_names ms) j)))
+      let both = and_parts (mark_fits p m) (list_all (mark_fits p) ms) f in (
+        mark_new_fits p i.numbers sizes UsedName (strings_rise p i few h old new) lands m both.0 w.0 (λ n j. u n (in_left n (mark_names m) (marks_names ms) j)),
+        each_fits ms both.1 w.1 (λ n j. u n (in_right n (mark_names m) (marks_names ms) j)),
+      )
 
   set_fits : (k : ℕ) (c : Class) → slice_get p.classes k ≡ Some c → (ms : List Mark) → marks_fit p ms ≡ true → AreWide ms → Names c ms → Fit ms
   unfolding marks_fit

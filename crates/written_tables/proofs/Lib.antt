@@ -3,4 +3,4 @@ pub mod In
 pub mod Naming
 pub mod Used
 pub mod Texts
-pub mod Laws
+pub mod Stated

@@ -28,7 +28,7 @@ use Rattle.write_laws.proofs.Fitting.{plan_long}
 use Rattle.written_tables.proofs.Fit.{FitsClass}
 use Rattle.written_parts.specs.Parts.{class_parts}
 use Rattle.written_classes.proofs.ClassTable.{plan_refs}
-use Rattle.written_parts.proofs.Kinds.{HasPlan}
+use Rattle.written_parts.proofs.KindFields.{HasPlan}
 
 -- as many sets are named for each method as it has of parameters' annotations
 abbrev pub HasRefs : Class → ClassPart → Type 0

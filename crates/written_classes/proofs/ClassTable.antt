@@ -49,7 +49,7 @@ use Rattle.written_tables.proofs.In.{In, in_left, in_right, in_got, all_in}
 use Rattle.written_parts.specs.Parts.{split_by, class_parts}
 use Rattle.written_parts.proofs.Members.{method_or, method_at}
 use Rattle.written_order.proofs.Plans.{class_used, named_name, named_super}
-use Rattle.written_parts.proofs.Kinds.{HasPlan}
+use Rattle.written_parts.proofs.KindFields.{HasPlan}
 
 -- ---- the table
 

@@ -46,7 +46,7 @@ use Rattle.written_parts.proofs.Members.{Planned, field_short, method_short, all
 use Rattle.written_parts.proofs.Small.{plan_fields_few, plan_methods_few}
 use Rattle.written_sets.proofs.Standing.{Stands, Unplaced, Placed}
 use Rattle.written_classes.proofs.Directories.{FewMembers}
-use Rattle.written_parts.proofs.Kinds.{HasPlan}
+use Rattle.written_parts.proofs.KindFields.{HasPlan}
 
 -- ---- a text that is not empty
 

@@ -26,7 +26,7 @@ use Rattle.names_law.specs.Used.{IsShort}
 use Rattle.written_tables.proofs.Fit.{FitsClass}
 use Rattle.written_parts.specs.Parts.{one_value, first_values, class_parts}
 use Rattle.written_parts.proofs.Members.{field_or, field_at}
-use Rattle.written_parts.proofs.Kinds.{HasPlan}
+use Rattle.written_parts.proofs.KindFields.{HasPlan}
 
 -- the last of those counted has a first value
 record LastFirst (c : Class) (place m : ℕ) (fs : List Numbered) : Type 0 where

@@ -72,7 +72,7 @@ use Rattle.written_classes.proofs.Directories.{all_directories}
 use Rattle.written_classes.proofs.DataItems.{all_data, members_few}
 use Rattle.written_classes.proofs.Ending.{all_end}
 use Rattle.written_classes.proofs.ClassParts.{HasRefs, all_refs, assembled}
-use Rattle.written_parts.proofs.Kinds.{HasPlan, all_planned, all_own, sets_long, members_kind, directories_kind, firsts_named, codes_kind, lines_kind, refs_kind, sets_kind, marks_named, uses_are, interfaces_are, interfaces_kind}
+use Rattle.written_parts.proofs.KindFields.{HasPlan, all_planned, all_own, sets_long, members_kind, directories_kind, firsts_named, codes_kind, lines_kind, refs_kind, sets_kind, marks_named, uses_are, interfaces_are, interfaces_kind}
 
 -- ---- what stands where it is named
 

@@ -50,7 +50,7 @@ use Rattle.written_values.specs.Wide.{IsWideLayer, IsWide, IsWideFirst, WideFiel
 use Rattle.written_values.proofs.Values.{array_stands}
 use Rattle.written_parts.specs.Parts.{one_value, first_values, class_parts}
 use Rattle.written_order.proofs.Plans.{class_used}
-use Rattle.written_parts.proofs.Kinds.{HasPlan}
+use Rattle.written_parts.proofs.KindFields.{HasPlan}
 use Rattle.written_parts.proofs.Small.{spots_own, taken_few, plan_fields_few}
 use Rattle.written_sets.proofs.FineSets.{fields_in}
 use Rattle.written_sets.proofs.Standing.{Stands, Unplaced, Placed}

@@ -38,7 +38,7 @@ use Rattle.written_classes.specs.Left.{Left, LeftOfCode}
 use Rattle.written_parts.specs.Parts.{first_values, offsets_of, parts_of_file}
 use Rattle.written_parts.proofs.Small.{values_texts}
 use Rattle.written_sets.proofs.Standing.{Stands, all_stand}
-use Rattle.written_parts.proofs.Kinds.{HasPlan, all_planned, firsts_named}
+use Rattle.written_parts.proofs.KindFields.{HasPlan, all_planned, firsts_named}
 use Rattle.written_sets.proofs.Reading.{all_read}
 use Rattle.written_classes.proofs.FirstFits.{all_values}
 use Rattle.written_classes.proofs.Filed.{filed}

@@ -3,6 +3,6 @@ pub mod Pairs
 pub mod Members
 pub mod SetTexts
 pub mod ValueTexts
-pub mod Kinds
+pub mod KindFields
 pub mod Firsts
 pub mod Small

@@ -33,7 +33,7 @@ use Rattle.written_order.proofs.Grouped.{Spot}
 use Rattle.written_parts.proofs.Members.{field_at, method_at, field_short, method_short, all_of_list}
 use Rattle.written_order.proofs.Few.{differ_few}
 use Rattle.written_parts.proofs.Firsts.{AreOwn, array_same}
-use Rattle.written_parts.proofs.Kinds.{HasPlan}
+use Rattle.written_parts.proofs.KindFields.{HasPlan}
 
 insert_long : {X : Type 0} (below : X → X → Bool) (x : X) (ys : List X) → length (written.insert below x ys) ≡ suc (length ys)
 insert_long below x [] = refl

@@ -48,7 +48,7 @@ use Rattle.dex_pools.specs.declared.scalar.TableSizes.{TableSizes}
 use Rattle.dex_pools.specs.Marks.{mark_below}
 use Rattle.std.proofs.lemmas.List.{length-map, length-take-le, length-drop}
 use Rattle.written_parts.proofs.Small.{order_long}
-use Rattle.written_parts.proofs.Kinds.{HasPlan}
+use Rattle.written_parts.proofs.KindFields.{HasPlan}
 
 -- ---- what a class names
 

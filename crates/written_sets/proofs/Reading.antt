@@ -42,7 +42,7 @@ use Rattle.written_parts.specs.Parts.{found_sets, sets_of_file}
 use Rattle.written_sets.specs.Reads.{Reads}
 use Rattle.written_order.proofs.Plans.{class_used}
 use Rattle.written_order.proofs.Rising.{strings_rise}
-use Rattle.written_parts.proofs.Kinds.{HasPlan}
+use Rattle.written_parts.proofs.KindFields.{HasPlan}
 use Rattle.written_sets.proofs.FineSets.{Names, own_names, field_in, method_in, parameter_in, fields_in, methods_in, fields_marks, methods_marks, all_both}
 use Rattle.written_sets.proofs.News.{Lands, mark_new_fits}
 

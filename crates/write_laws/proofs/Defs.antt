@@ -11,21 +11,9 @@ use Rattle.dex_write.specs.Plans.{Plan}
 use Rattle.dex_write.specs.Tables.{source_word, class_row, class_words}
 use Rattle.dex_defs.specs.ClassDefs.{Def, IsDef}
 use Rattle.dex_defs.specs.Here.{Here}
+use Rattle.write_laws.specs.Listing.{def_of}
 use Rattle.write_laws.proofs.Here.{here_left, here_right, here_is, here_same}
 use Rattle.write_laws.proofs.Numbers.{Few, here_words, words_append, words_length}
-
--- the numbers of a class that is written
-abbrev pub def_of : Renumber → Class → ClassOffsets → ℕ → Def
-def_of r c offsets place = record {
-  name = renumbered r.types.items c.name;
-  flags = c.flags.0;
-  superclass = renumbered r.types.items c.superclass;
-  interfaces = at_place offsets.interfaces place;
-  source = source_word r c.source;
-  annotations = at_place offsets.directories place;
-  data_at = at_place offsets.data place;
-  values = at_place offsets.firsts place;
-}
 
 abbrev pub defs_of : Renumber → ClassOffsets → ℕ → List Plan → List Def
 defs_of r offsets place [] = []

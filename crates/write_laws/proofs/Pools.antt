@@ -115,11 +115,11 @@ lie_lengths bytes align from [] (t ∷ ts) to h = absurd h
 lie_lengths bytes align from (o ∷ os) [] to h = absurd h
 lie_lengths bytes align from (o ∷ os) (t ∷ ts) to h = ap suc (lie_lengths bytes align h.0 os ts to h.2)
 
-rows_length : {X : Type 0} (f : X → List ℕ) → ((x : X) → length (f x) ≡ 2) → (xs : List X) → length (flat_map f xs) ≡ 2 * length xs
+pub rows_length : {X : Type 0} (f : X → List ℕ) → ((x : X) → length (f x) ≡ 2) → (xs : List X) → length (flat_map f xs) ≡ 2 * length xs
 rows_length f g [] = refl
 rows_length f g (x ∷ xs) = length-append (f x) (flat_map f xs) ∙ omega (arith, g x, rows_length f g xs)
 
-protos_long : (P : Proto → ℕ → Type 0) (protos : List Proto) (offsets : List ℕ) → Both P protos offsets → length (proto_rows protos offsets) ≡ 3 * length protos
+pub protos_long : (P : Proto → ℕ → Type 0) (protos : List Proto) (offsets : List ℕ) → Both P protos offsets → length (proto_rows protos offsets) ≡ 3 * length protos
 protos_long P [] [] b = refl
 protos_long P [] (o ∷ os) b = absurd b
 protos_long P (q ∷ qs) [] b = absurd b

@@ -22,14 +22,14 @@ use Rattle.names_law.proofs.Rising.{all_ascend}
 use Rattle.write_laws.specs.Fits.{FitsType, FitsField, FitsMethod, FitsProto, TextsFit, TablesFit}
 
 -- how short the tables of a well-formed program are
-record AreShort (p : Program) : Type 0 where
-  strings : length p.strings < 2 ^ 32
-  types : length p.types ≤ 65535
-  protos : length p.protos ≤ 65535
-  fields : length p.fields ≤ 65536
-  methods : length p.methods ≤ 65536
+pub record AreShort (p : Program) : Type 0 where
+  pub strings : length p.strings < 2 ^ 32
+  pub types : length p.types ≤ 65535
+  pub protos : length p.protos ≤ 65535
+  pub fields : length p.fields ≤ 65536
+  pub methods : length p.methods ≤ 65536
 
-short_of : (p : Program) → tables_are_short p ≡ true → AreShort p
+pub short_of : (p : Program) → tables_are_short p ≡ true → AreShort p
 unfolding tables_are_short
 short_of p h =
     let a = and_parts (nat_lt (length p.strings) (2 ^ 32) && nat_lt (length p.classes) (2 ^ 32)) ((nat_le (length p.types) 65535 && nat_le (length p.protos) 65535) && (nat_le (length p.fields) 65536 && nat_le (length p.methods) 65536)) h in
@@ -45,7 +45,7 @@ short_of p h =
       methods = leb-true (length p.methods) 65536 e.1;
     }
 
-is_short : (p : Program) → AreShort p → IsShort p
+pub is_short : (p : Program) → AreShort p → IsShort p
 is_short p s = record { strings = s.strings; types = omega (arith, s.types); protos = omega (arith, s.protos); fields = omega (arith, s.fields); methods = omega (arith, s.methods) }
 
 -- ---- entry by entry

@@ -1,10 +1,16 @@
 -- The members of the classes that are written, in lists.
 use Rattle.std.specs.Prelude.{ℕ, List, [], ◌∷◌, map, take, drop}
+use Rattle.program_model.specs.declared.pass.Renumber.{Renumber}
 use Rattle.program_model.specs.declared.program.Class.{Class}
+use Rattle.dex_pools.specs.Written.{renumbered}
+use Rattle.dex_write.specs.declared.tables.ClassOffsets.{ClassOffsets}
+use Rattle.dex_write.specs.Numbers.{at_place}
+use Rattle.dex_write.specs.Tables.{source_word}
 use Rattle.dex_write.specs.declared.ordered.MethodPart.{MethodPart}
 use Rattle.dex_write.specs.Plans.{Plan, Numbered, field_flags, method_flags}
 use Rattle.dex_write.specs.Codes.{code_offset, code_behind, codes_behind}
 use Rattle.dex_defs.specs.ClassData.{Entry, Lists}
+use Rattle.dex_defs.specs.ClassDefs.{Def}
 
 -- a field, and methods whose code comes behind a place
 abbrev pub field_entry : Class → Numbered → Entry
@@ -29,3 +35,16 @@ lists_in p at = record {
 abbrev pub all_lists_in : ℕ → List Plan → List Lists
 all_lists_in at [] = []
 all_lists_in at (p ∷ ps) = lists_in p at ∷ all_lists_in (codes_behind at p.methods) ps
+
+-- the numbers of a class that is written
+abbrev pub def_of : Renumber → Class → ClassOffsets → ℕ → Def
+def_of r c offsets place = record {
+  name = renumbered r.types.items c.name;
+  flags = c.flags.0;
+  superclass = renumbered r.types.items c.superclass;
+  interfaces = at_place offsets.interfaces place;
+  source = source_word r c.source;
+  annotations = at_place offsets.directories place;
+  data_at = at_place offsets.data place;
+  values = at_place offsets.firsts place;
+}

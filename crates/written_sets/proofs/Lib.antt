@@ -1,0 +1,5 @@
+pub mod Marks
+pub mod News
+pub mod Standing
+pub mod FineSets
+pub mod Reading

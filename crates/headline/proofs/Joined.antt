@@ -12,7 +12,7 @@ use Rattle.library_bridge.proofs.Narrowing.{narrowed_holds}
 use Rattle.command_line.specs.Spelling.{Spells}
 use Rattle.command_line.specs.declared.command.CommandWords.{CommandWords}
 use Rattle.command_line.specs.declared.command.CommandWords.TheVariants.{Nothing, Optimise, Check, Live, Trace, Workload}
-use Rattle.silence_bridge.proofs.Optimised.{optimised_shows, optimised_sound, optimised_folded, optimised_bound, optimised_skips, optimised_dead, optimised_fresh, optimised_packed, optimised_stays}
+use Rattle.silence_bridge.proofs.Optimised.{optimised_shows, optimised_sound, optimised_reached, optimised_folded, optimised_bound, optimised_skips, optimised_dead, optimised_fresh, optimised_packed, optimised_stays}
 use Rattle.redex_outside.specs.Held.{Held}
 use Rattle.redex_cli.specs.Accepted.{IsAccepted}
 use Rattle.redex_cli.specs.Finished.{Finished, FinishedOf, IsOutputOf, Leaves}
@@ -42,6 +42,7 @@ keeps p r o rounds spared accepted holds leaves =
       shown = optimised_shows p accepted.hierarchy well graph.resolved graph.acyclic graph.unsplit o accepted.types r leaves.origins leaves.advisers spared rounds leaves.before leaves.after done holds;
       formed = (optimised_sound p accepted.hierarchy well graph.resolved graph.acyclic graph.unsplit o accepted.types r leaves.origins leaves.advisers spared rounds leaves.before leaves.after done).formed;
       typed = (optimised_sound p accepted.hierarchy well graph.resolved graph.acyclic graph.unsplit o accepted.types r leaves.origins leaves.advisers spared rounds leaves.before leaves.after done).typed;
+      reached = optimised_reached p accepted.hierarchy well graph.resolved graph.acyclic graph.unsplit o accepted.types r leaves.origins leaves.advisers spared rounds leaves.before leaves.after done;
       folded = optimised_folded p accepted.hierarchy well graph.resolved graph.acyclic graph.unsplit o accepted.types r leaves.origins leaves.advisers spared rounds leaves.before leaves.after done;
       bound = optimised_bound p accepted.hierarchy well graph.resolved graph.acyclic graph.unsplit o accepted.types r leaves.origins leaves.advisers spared rounds leaves.before leaves.after done;
       squeezed = optimised_skips p accepted.hierarchy well graph.resolved graph.acyclic graph.unsplit o accepted.types r leaves.origins leaves.advisers spared rounds leaves.before leaves.after done;

@@ -18,7 +18,7 @@ use Rattle.compact_bridge.specs.Bridged.{AllPacked}
 use Rattle.copy_bridge.specs.Bridged.{AllFresh}
 use Rattle.pipeline.specs.Advised.{IsAdvised}
 use Rattle.pipeline.specs.Passes.{KeepsForms}
-use Rattle.rounds_bridge.specs.Ended.{NoneKnown, NoneBindable}
+use Rattle.rounds_bridge.specs.Ended.{NoneKnown, NoneBindable, NoneUnreached}
 use Rattle.stay_law.specs.Stays.{Stays}
 use Rattle.silence_bridge.specs.Admitted.{admitted_in}
 use Rattle.command_line.specs.Spelling.{Spells}
@@ -37,8 +37,9 @@ use Rattle.redex_cli.specs.declared.fetching.Inputs.{Inputs}
 -- none of its class (`KeepsForms` of pipeline). In their bodies, whose positions and regions 32 bits number, every position is
 -- reached, is no goto to the next one and no nop, but where the branch behind it goes to it, and none computes what nobody reads;
 -- and unless the program names a method of a wide type, no read of a copy could be one of the original (`IsStale` of pass_defs; 16
--- bits number the body's registers), and no register could have a lower number (`IsPacked`). Every class, method
--- and field is one that the program has; a method that isn't admitted stays as it was, and no body has more registers (`Stays`).
+-- bits number the body's registers), and no register could have a lower number (`IsPacked`). Unless the rules forbid removal, every
+-- class, method and field that is left follows from what the outside keeps, by what is left (`NoneUnreached`), and every one is one
+-- that the program has; a method that isn't admitted stays as it was, and no body has more registers (`Stays`).
 pub record KeepsMeaning (program : Program) (outside : Outside) (left : Program) : Type 0 where
   pub admitted : List Bool
   pub advisers : ℕ
@@ -49,6 +50,7 @@ pub record KeepsMeaning (program : Program) (outside : Outside) (left : Program)
   pub shown : SameShown (silenced (named program) (outer_of program outside) (admitted_in program admitted)) (named left) (outer_of program outside)
   pub formed : is_well_formed left ≡ true
   pub typed : IsTyped (named left)
+  pub reached : outside.shrink ≡ true → NoneUnreached outside left
   pub folded : NoneKnown outside admitted left ⊎ KeepsForms outside admitted left
   pub bound : NoneBindable outside admitted left ⊎ KeepsForms outside admitted left
   pub squeezed : NothingLeft admitted left

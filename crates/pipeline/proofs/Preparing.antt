@@ -13,6 +13,7 @@ use Rattle.redex_outside.proofs.Runs.{run_start}
 use Rattle.call_graph.specs.declared.live_set.LiveSet.{LiveSet}
 use Rattle.call_graph.specs.Facts.{Fits}
 use Rattle.call_graph.specs.Closed.{IsClosedSet}
+use Rattle.call_graph.specs.Least.{IsLeastSet}
 use Rattle.reach.specs.Marked.{IsMarked}
 use Rattle.inline_calls.specs.Asked.{turn_of, Asks}
 use Rattle.pipeline.specs.declared.traces.Traced.{Traced}
@@ -40,12 +41,12 @@ module _ (o : Outside) (p : Program) where
 
   -- the marks that were found
   pub answered : (h : Hierarchy) (s : LiveSet) (advisers : ℕ) (olds news : List Voice) (before after : List Bool) (v : Verdict) → o.optimise ≡ true → is_well_formed p ≡ true → HasGraph p h
-      → Fits p s → (is_well_formed p ≡ true → IsResolved p h → IsClosedSet p o s) → AreAnswered advisers (asked s p) before after (no_verdict p) v → HasRun (turns_about s p) olds news before after
+      → Fits p s → (is_well_formed p ≡ true → IsResolved p h → IsClosedSet p o s) → (is_well_formed p ≡ true → IsResolved p h → IsLeastSet p o s) → AreAnswered advisers (asked s p) before after (no_verdict p) v → HasRun (turns_about s p) olds news before after
       → HaveTaken (IsAdvisedBy o p advisers before after v) olds news before after
-  answered h s advisers olds news before after v allowed formed graph sized closed answers run =
+  answered h s advisers olds news before after v allowed formed graph sized closed least answers run =
       let marked : IsMarked p o s = record { formed = formed; once = graph.resolved.of.once; grounded = graph.grounded; sized = sized; closed = closed formed graph.resolved } in
       taken_by (IsAdvisedBy o p advisers before after v) (turns_about s p) olds news before after run
-      (inl (record { asked = record { allowed = allowed; marks = s; marked = marked; answered = answers }; turns_are = refl }))
+      (inl (record { asked = record { allowed = allowed; marks = s; marked = marked; least = least formed graph.resolved; answered = answers }; turns_are = refl }))
 
   pub advised_is : (advisers : ℕ) (before after : List Bool) (v : Verdict) (turns : List Turn) → IsAdvisedBy o p advisers before after v turns → IsAdvised o p advisers before after v
   advised_is advisers before after v turns (inl by) = inl by.asked
@@ -57,15 +58,15 @@ module _ (o : Outside) (p : Program) where
   none_begun voices answers = taken_by (MayBegin o p) [] voices voices answers answers (run_start voices answers) NoneTaken
 
   pub some_begun : (h : Hierarchy) (s : LiveSet) (olds news : List Voice) (before after : List Bool) → o.optimise ≡ true → is_well_formed p ≡ true → HasGraph p h
-      → Fits p s → (is_well_formed p ≡ true → IsResolved p h → IsClosedSet p o s) → HaveTaken (AreFirstOf (turns_about s p)) olds news before after → HaveTaken (MayBegin o p) olds news before after
-  some_begun h s olds news before after allowed formed graph sized closed begun =
+      → Fits p s → (is_well_formed p ≡ true → IsResolved p h → IsClosedSet p o s) → (is_well_formed p ≡ true → IsResolved p h → IsLeastSet p o s) → HaveTaken (AreFirstOf (turns_about s p)) olds news before after → HaveTaken (MayBegin o p) olds news before after
+  some_begun h s olds news before after allowed formed graph sized closed least begun =
       let marked : IsMarked p o s = record { formed = formed; once = graph.resolved.of.once; grounded = graph.grounded; sized = sized; closed = closed formed graph.resolved } in
-      taken_so (AreFirstOf (turns_about s p)) (MayBegin o p) olds news before after (λ turns first. SomeTaken s turns allowed marked first) begun
+      taken_so (AreFirstOf (turns_about s p)) (MayBegin o p) olds news before after (λ turns first. SomeTaken s turns allowed marked (least formed graph.resolved) first) begun
 
   -- all methods were asked about
   all_begun : (advisers : ℕ) (before after : List Bool) (v : Verdict) (turns : List Turn) → IsAdvisedBy o p advisers before after v turns → MayBegin o p turns
   all_begun advisers before after v turns (inl by) =
-      SomeTaken by.asked.marks turns by.asked.allowed by.asked.marked (subst (λ (ts : List Turn). AreFirstOf ts turns) by.turns_are (first_all turns))
+      SomeTaken by.asked.marks turns by.asked.allowed by.asked.marked by.asked.least (subst (λ (ts : List Turn). AreFirstOf ts turns) by.turns_are (first_all turns))
   all_begun advisers before after v turns (inr none) = subst (MayBegin o p) (sym none.none) NoneTaken
 
   pub advised_begun : (advisers : ℕ) (olds news : List Voice) (before after : List Bool) (v : Verdict) → HaveTaken (IsAdvisedBy o p advisers before after v) olds news before after → HaveTaken (MayBegin o p) olds news before after

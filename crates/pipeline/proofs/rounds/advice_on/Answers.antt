@@ -35,11 +35,11 @@ pub returns-in_err-advice-in-Some-clause-begun : goal.returns-in_err-advice-in-S
 returns-in_err-advice-in-Some-clause-begun g c =
     let allowed : c.args.outside.now.optimise ≡ true = search rules in
     λ formed. on_err _ (some_begun c.args.outside.now c.args.program.now c.in-Some.hierarchy c.in_ok-live-in-Some.live _ _ _ _ allowed formed
-    (found_graph c.args.program.now c.in_ok-hierarchy.field-0 c.in-Some.hierarchy (c.in_ok-hierarchy.ensures formed) c.in-Some.is) c.in_ok-live-in-Some.ensures.fits c.in_ok-live-in-Some.ensures.closed c.in_err-advice-in-Some.ensures.begun)
+    (found_graph c.args.program.now c.in_ok-hierarchy.field-0 c.in-Some.hierarchy (c.in_ok-hierarchy.ensures formed) c.in-Some.is) c.in_ok-live-in-Some.ensures.fits c.in_ok-live-in-Some.ensures.closed c.in_ok-live-in-Some.ensures.least c.in_err-advice-in-Some.ensures.begun)
 
 pub returns-in_ok-advice-in-Some-clause-advised : goal.returns-in_ok-advice-in-Some-clause-advised
 returns-in_ok-advice-in-Some-clause-advised g c =
     let allowed : c.args.outside.now.optimise ≡ true = search rules in
     λ formed. answered c.args.outside.now c.args.program.now c.in-Some.hierarchy c.in_ok-live-in-Some.live (length c.args.panel.now.advisers.items) _ _ _ _ (verdict c.in_ok-advice-in-Some.advice) allowed formed
-    (found_graph c.args.program.now c.in_ok-hierarchy.field-0 c.in-Some.hierarchy (c.in_ok-hierarchy.ensures formed) c.in-Some.is) c.in_ok-live-in-Some.ensures.fits c.in_ok-live-in-Some.ensures.closed
+    (found_graph c.args.program.now c.in_ok-hierarchy.field-0 c.in-Some.hierarchy (c.in_ok-hierarchy.ensures formed) c.in-Some.is) c.in_ok-live-in-Some.ensures.fits c.in_ok-live-in-Some.ensures.closed c.in_ok-live-in-Some.ensures.least
     c.in_ok-advice-in-Some.ensures.answered c.in_ok-advice-in-Some.ensures.run

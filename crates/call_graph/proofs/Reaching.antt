@@ -29,6 +29,7 @@ use Rattle.call_graph.specs.Least.{AddsOnly, AllReached, AreKnownReached, AreRea
 use Rattle.call_graph.specs.Lists.{row_of, size_of}
 use Rattle.call_graph.specs.Marks.{Keeps, Pops, WaitsFrom}
 use Rattle.call_graph.specs.Objects.{answer_facts, answers_to, answers_or, class_candidates, open_facts, NothingNoted, SameNotes, CallsBack}
+use Rattle.call_graph.specs.Supers.{AddsSuper}
 use Rattle.call_graph.specs.Tables.{AreTables}
 use Rattle.call_graph.proofs.Growth.{new_waits, blank, set_has}
 use Rattle.call_graph.proofs.Contained.{none_in, only_in, first_in, later_in, first_or, flat_from, get_in, row_cases, got_item}
@@ -123,7 +124,7 @@ popped : (m m' : Marks) (k : ℕ) → Pops m m' (Some k) → Contains m.waiting.
 popped m m' k e = subst (λ l. Contains l k) (sym e.taken) (Contains-append_right m'.waiting.items (k ∷ []) k (first_in k []))
 
 -- what waits in a table waited in it
-pub Rests : Marks → Marks → Type 0
+abbrev pub Rests : Marks → Marks → Type 0
 Rests m m' = (n : ℕ) → Contains m'.waiting.items n → Contains m.waiting.items n
 
 pub rests_same : (m m' : Marks) → m' ≡ m → Rests m m'
@@ -197,7 +198,7 @@ called_reached p o t old new at number q before out row added made is adds name 
   notes = record {
     called = λ kind n c. elim (row_cases kind at (size_of old.called_on) number n (row_of old.called_on kind) (row_of new.called_on kind) (added.rows kind) c) [
       | inl i ↦ all.called kind n i
-      | inr e ↦ subst (λ k. IsCalledOn p o t k kind) (sym e.1) (record { name = q; is_name = name; on = on ∙ sym e.0; called = reached })
+      | inr e ↦ subst (λ k. IsCalledOn p o t k kind) e.1 (record { name = q; is_name = name; on = on ∙ sym e.0; called = reached })
     ];
     made = λ kind class c. all.made kind class (subst (λ l. Contains (row_of l kind) class) made c);
   };
@@ -217,7 +218,7 @@ under_reached p o t old new at class before out row added called is adds under a
     called = λ kind n c. all.called kind n (subst (λ l. Contains (row_of l kind) n) called c);
     made = λ kind k c. elim (row_cases kind at (size_of old.made_under) class k (row_of old.made_under kind) (row_of new.made_under kind) (added.rows kind) c) [
       | inl i ↦ all.made kind k i
-      | inr e ↦ subst (λ z. IsMadeUnder p o t z kind) (sym e.1) (subst (λ z. IsMadeUnder p o t class z) (sym e.0) under)
+      | inr e ↦ subst (λ z. IsMadeUnder p o t z kind) e.1 (subst (λ z. IsMadeUnder p o t class z) (sym e.0) under)
     ];
   };
   facts = λ y c. elim (Contains-append_cases before (flat_map (λ n. answer_facts p n class) row) y (subst (λ l. Contains l y) adds c)) [
@@ -260,11 +261,11 @@ back_reached p o t kind class above y made place from (Inherits top z i outer f)
 -- a type of the framework other than Object is among those above
 pub outer_among : (p : Program) (object : ℕ) (above : List ℕ) → has_outer p object above ≡ true → (top : ℕ) × (Contains above top × (is_outer p object top ≡ true))
 outer_among p object [] h = absurd (true≢false (sym h))
-outer_among p object (k ∷ ks) h = by (is_outer p object k) refl
+outer_among p object (k ∷ ks) h = by (is_outer p object k) refl (outer_among p object ks) h
   where
-    by : (b : Bool) → is_outer p object k ≡ b → (top : ℕ) × (Contains (k ∷ ks) top × (is_outer p object top ≡ true))
-    by true e = (k, (first_in k ks, e))
-    by false e = let rest = outer_among p object ks (subst (λ b. (b || list_any (is_outer p object) ks) ≡ true) e h) in (rest.0, (later_in k ks rest.0 rest.1.0, rest.1.1))
+    by : (b : Bool) → is_outer p object k ≡ b → (has_outer p object ks ≡ true → (top : ℕ) × (Contains ks top × (is_outer p object top ≡ true))) → (b || list_any (is_outer p object) ks) ≡ true → (top : ℕ) × (Contains (k ∷ ks) top × (is_outer p object top ≡ true))
+    by true e more h = (k, (first_in k ks, e))
+    by false e more h = let rest = more h in (rest.0, (later_in k ks rest.0 rest.1.0, rest.1.1))
 
 -- each method of a class of a well-formed program has a name in the table
 pub all_named : (p : Program) (place : ℕ) (c : Class) → is_well_formed p ≡ true → slice_get p.classes place ≡ Some c → (m : Method) → Contains c.methods m → IsNamed p m
@@ -289,6 +290,25 @@ super_among p kind caller names n y i s = record {
   finds = s.finds;
   has = s.has;
 }
+
+-- a super call adds what it finds; one of a number that no method has adds nothing
+pub super_only : (p : Program) (kind caller : ℕ) (n : Named) (method : ℕ) (before after : List Fact) → n ≡ named.Call call.Super method → (slice_get p.methods method ≡ None → after ≡ before)
+    → ((q : MethodName) → slice_get p.methods method ≡ Some q → AddsSuper p kind caller q before after) → AddsOnly (SuperFrom p kind caller (n ∷ [])) before after
+super_only p kind caller n method before after is none some = by (slice_get p.methods method) refl
+  where
+    by : (found : Option MethodName) → slice_get p.methods method ≡ found → AddsOnly (SuperFrom p kind caller (n ∷ [])) before after
+    by None e = adds_none (SuperFrom p kind caller (n ∷ [])) before after (none e)
+    by (Some q) e =
+        let f = some q e in
+        adds_list (SuperFrom p kind caller (n ∷ [])) before f.facts after f.adds (λ y i. record {
+          callee = method;
+          called = q;
+          facts = f.facts;
+          calls = subst (λ m. Contains (n ∷ []) m) is (first_in n []);
+          is_called = e;
+          finds = f.finds;
+          has = i;
+        })
 
 -- what the super calls among the names of a method find
 pub super_found : (p : Program) (number caller : ℕ) (name : MethodName) (y : Fact) → slice_get p.methods number ≡ Some name → class_place p name.class ≡ Some caller → SuperFrom p name.class caller (names_of_method (own_method p number)) y → FindsSuper p number y

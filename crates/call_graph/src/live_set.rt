@@ -88,6 +88,13 @@ fn search(
 /// - The framework may call on a made class the methods that each object has, and where the class has a framework
 ///   ancestor other than `Ljava/lang/Object;`, all its virtual methods, unless they are shut.
 ///
+/// The rules give more than the definition Live in four places. A kept number that is named `<init>` has its class made also
+/// where the class doesn't define that constructor. The classes in the descriptor of a member that an annotation or a first value
+/// names are live. Where the program itself defines `Ljava/lang/Object;`, what stands above it stands above every class. And in
+/// version 037 the framework may call, by a name and proto that a made class under a type of its own doesn't find, the method of
+/// every program class above it, also of one that no walk along interfaces alone leads to: a class that an interface list names
+/// though it is none, or the superclass of an interface.
+///
 /// Each set has one entry for each number of its table. The only error is want of memory.
 pub fn live_members(
     alloc: Global,

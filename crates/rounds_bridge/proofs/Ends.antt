@@ -66,11 +66,11 @@ first_or x xs y c = elim (Contains-append_cases (x ∷ []) xs y c) [
 -- what is left by a test meets it
 left_meets : {A : Type 0} (t : A → Bool) (xs : List A) (y : A) → Contains (filter t xs) y → t y ≡ true
 left_meets t [] y c = absurd (none_in y c)
-left_meets t (x ∷ xs) y c = by (t x) refl c
+left_meets t (x ∷ xs) y c = by (t x) refl (left_meets t xs y) c
   where
-    by : (b : Bool) → t x ≡ b → Contains (cond b (x ∷ filter t xs) (filter t xs)) y → t y ≡ true
-    by true e c = elim (first_or x (filter t xs) y c) [ inl same ↦ subst (λ z. t z ≡ true) same e | inr rest ↦ left_meets t xs y rest ]
-    by false e c = left_meets t xs y c
+    by : (b : Bool) → t x ≡ b → (Contains (filter t xs) y → t y ≡ true) → Contains (cond b (x ∷ filter t xs) (filter t xs)) y → t y ≡ true
+    by true e more c = elim (first_or x (filter t xs) y c) [ inl same ↦ subst (λ z. t z ≡ true) same e | inr rest ↦ more rest ]
+    by false e more c = more c
 
 -- what is of the images comes from one entry
 record FromEntry {A B : Type 0} (f : A → B) (xs : List A) (y : B) : Type 0 where

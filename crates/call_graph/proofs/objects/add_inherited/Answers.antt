@@ -16,5 +16,5 @@ returns-in_ok-add_open-clause-only c = λ is named.
       name = named.name;
       is_name = named.is;
       virtual = not_so (is_direct c.args.at.now.program.now c.args.method.now) (sym (c.is_virtual.ensures c.args.at.now.program.now is.of) ∙ c.if-is_virtual.true);
-      is = subst (λ f. Contains (open_facts c.args.at.now.program.now c.args.shut.now f) y) (c.inherited.ensures is named.name.name named.name.proto (c.key_of_method.ensures.is c.args.at.now.program.now named.name named.is)) i;
+      is = subst (λ f. Contains (open_facts c.args.at.now.program.now c.args.shut.now f) y) (c.inherited.ensures is named.name.name named.name.proto (c.key_of_method-key.ensures.is c.args.at.now.program.now named.name named.is)) i;
     })

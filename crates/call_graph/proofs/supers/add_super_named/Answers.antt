@@ -1,15 +1,11 @@
-use Rattle.std.proofs.Common.{◌≡◌, ◌∙◌, ℕ, List, [], ◌∷◌, Option, Some, None, refl, sym, subst}
+use Rattle.std.proofs.Common.{◌≡◌, ◌∙◌, ℕ, Some, sym, subst}
 use Rattle.std.specs.Prelude.{slice_get}
 use Rattle.insn_set.specs.declared.ops.InvokeKind.{InvokeKind}
 use Rattle.insn_set.specs.declared.ops.InvokeKind.TheVariants as call
 use Rattle.call_graph.specs.declared.named.Named.TheVariants as named
 use Rattle.call_graph.proofs.Contained.{only_in}
 use Rattle.call_graph.proofs.SuperCalls.{has_of}
-use Rattle.program_model.specs.declared.pools.MethodName.{MethodName}
-use Rattle.call_graph.specs.declared.named.Named.{Named}
-use Rattle.call_graph.specs.Least.{AddsOnly, SuperFrom}
-use Rattle.call_graph.proofs.Contained.{first_in}
-use Rattle.call_graph.proofs.Reaching.{adds_list, adds_none}
+use Rattle.call_graph.proofs.Reaching.{super_only}
 use Rattle.call_graph.proofs.supers.add_super_named.Goals as goal
 
 called_same : (k : InvokeKind) (a b : ℕ) → named.Call k a ≡ named.Call call.Super b → a ≡ b
@@ -22,18 +18,6 @@ returns-in_ok-add_super-in-Call-Super-default-clause-finds c = λ is fits are sh
     (c.in_ok-add_super-in-Call-Super-default.ensures.finds is fits are short q (subst (λ n. slice_get c.args.at.now.program.now.methods n ≡ Some q) (sym same) e))
 
 pub returns-in_ok-add_super-in-Call-Super-default-clause-only : goal.returns-in_ok-add_super-in-Call-Super-default-clause-only
-returns-in_ok-add_super-in-Call-Super-default-clause-only c = λ is formed are short. by (slice_get c.args.at.now.program.now.methods c.in-Call-Super-default.method) refl is formed are short
-  where
-    by : (o : Option MethodName) → slice_get c.args.at.now.program.now.methods c.in-Call-Super-default.method ≡ o → goal.returns-in_ok-add_super-in-Call-Super-default-clause-only-type c
-    by None e = λ is formed are short. adds_none _ c.args.out.now.items c.add_super.new.out.items (c.in_ok-add_super-in-Call-Super-default.ensures.none e)
-    by (Some q) e = λ is formed are short.
-        let f = c.in_ok-add_super-in-Call-Super-default.ensures.finds is formed are short q e in
-        adds_list _ c.args.out.now.items f.facts c.add_super.new.out.items f.adds (λ y i. record {
-          callee = c.in-Call-Super-default.method;
-          called = q;
-          facts = f.facts;
-          calls = subst (λ n. Contains (c.args.named ∷ []) n) c.in-Call-Super-default.is (first_in c.args.named []);
-          is_called = e;
-          finds = f.finds;
-          has = i;
-        })
+returns-in_ok-add_super-in-Call-Super-default-clause-only c = λ is formed are short.
+    super_only c.args.at.now.program.now c.args.caller.0 c.args.caller.1 c.args.named c.in-Call-Super-default.method c.args.out.now.items c.add_super.new.out.items c.in-Call-Super-default.is
+    c.in_ok-add_super-in-Call-Super-default.ensures.none (λ q e. c.in_ok-add_super-in-Call-Super-default.ensures.finds is formed are short q e)

@@ -118,7 +118,8 @@ pub fn apply(
 ) -> Result<Changed, AllocError>
     ensures origins { IfOk result (λ changed. changed.origins ≡ []) }
     ensures kept { IfOk result (λ changed. (s : LiveSet) × Fits program s × (changed.program ≡ kept_of s program)) }
-    ensures closed { is_well_formed program ≡ true → IsResolved program hierarchy.now → IfOk result (λ changed. (s : LiveSet) × Fits program s × IsClosedSet program outside.now s × IsLeastSet program outside.now s × (changed.program ≡ kept_of s program)) }
+    ensures closed { is_well_formed program ≡ true → IsResolved program hierarchy.now
+        → IfOk result (λ changed. (s : LiveSet) × Fits program s × IsClosedSet program outside.now s × IsLeastSet program outside.now s × (changed.program ≡ kept_of s program)) }
     ensures formed { is_well_formed program ≡ true → IfOk result (λ changed. is_well_formed changed.program ≡ true) }
     ensures falls { IfOk result (λ changed. size_of changed.program ≤ size_of program) }
     ensures same { IfOk result (λ changed. changed.count ≡ 0 → changed.program ≡ program) }

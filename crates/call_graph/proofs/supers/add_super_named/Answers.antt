@@ -19,5 +19,7 @@ returns-in_ok-add_super-in-Call-Super-default-clause-finds c = λ is fits are sh
 
 pub returns-in_ok-add_super-in-Call-Super-default-clause-only : goal.returns-in_ok-add_super-in-Call-Super-default-clause-only
 returns-in_ok-add_super-in-Call-Super-default-clause-only c = λ is formed are short.
+    let kind : c.in-Call-Super-default.kind ≡ call.Super = rw c.in-Call-Super-default.is at c.in-Call-Super-default.kind-is in
     super_only c.args.at.now.program.now c.args.caller.0 c.args.caller.1 c.args.named c.in-Call-Super-default.method c.args.out.now.items c.add_super.new.out.items
-    (c.in-Call-Super-default.is ∙ ap (λ k. named.Call k c.in-Call-Super-default.method) c.in-Call-Super-default.kind-is) c.in_ok-add_super-in-Call-Super-default.ensures.none (λ q e. c.in_ok-add_super-in-Call-Super-default.ensures.finds is formed are short q e)
+    (c.in-Call-Super-default.is ∙ ap (λ k. named.Call k c.in-Call-Super-default.method) kind) c.in_ok-add_super-in-Call-Super-default.ensures.none
+    (λ q e. c.in_ok-add_super-in-Call-Super-default.ensures.finds is formed are short q e)

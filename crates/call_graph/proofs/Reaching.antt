@@ -1,8 +1,8 @@
 -- What is added follows, and nothing else is.
-use Rattle.std.proofs.Common.{◌≡◌, ℕ, ◌+◌, ◌<◌, ◌≤◌, ◌⊎◌, inl, inr, Bool, true, false, List, [], ◌∷◌, ◌++◌, length, take, get_or, refl, sym, ap, subst, ◌∙◌, arith, Some, None, Option, suc, true≢false}
-use Rattle.std.specs.Prelude.{cond, ◌&&◌, ◌||◌, nat_eq, nat_lt, Contains, slice_get, slice_index_or}
+use Rattle.std.proofs.Common.{◌≡◌, ℕ, ◌+◌, ◌<◌, ◌⊎◌, inl, inr, Bool, true, false, List, [], ◌∷◌, ◌++◌, length, take, get_or, refl, sym, ap, subst, ◌∙◌, Some, None, Option, suc, true≢false}
+use Rattle.std.specs.Prelude.{◌||◌, Contains, slice_get}
 use Rattle.std.specs.List.{flat_map, list_any}
-use Rattle.std.proofs.lemmas.List.{take_more, take_all}
+use Rattle.std.proofs.lemmas.List.{take_more}
 use Rattle.std.proofs.lemmas.List.Elements.{Contains-append_cases, Contains-append_left, Contains-append_right}
 use Rattle.program_model.specs.declared.pass.Outside.{Outside}
 use Rattle.program_model.specs.declared.pools.MethodName.{MethodName}
@@ -22,17 +22,17 @@ use Rattle.call_graph.specs.declared.named.Named.TheVariants as named
 use Rattle.insn_set.specs.declared.ops.InvokeKind.TheVariants as call
 use Rattle.call_graph.specs.declared.notes.Notes.{Notes}
 use Rattle.call_graph.specs.declared.tables.Tables.{Tables}
-use Rattle.call_graph.specs.Above.{IsFrom, AllFrom, is_outer, has_outer}
-use Rattle.call_graph.specs.Closed.{kept_facts, Entails, Waits, has, is_live, Goes, IsBlank, Ends, Takes, forced, FindsSuper}
+use Rattle.call_graph.specs.Above.{IsFrom, is_outer, has_outer}
+use Rattle.call_graph.specs.Closed.{kept_facts, Entails, Waits, Goes, IsBlank, Ends, Takes, FindsSuper}
 use Rattle.call_graph.specs.Follows.{body_facts, names_of_method, own_method}
-use Rattle.call_graph.specs.Least.{AddsOnly, AllReached, AreKnownReached, AreReached, BothReached, CallsOn, Common, Inherits, FoundCommon, Inherited, InheritedAmong, InheritedBy, InheritedFrom, IsCalledOn, IsLeastSet, IsMadeUnder, IsNamed, IsTaken, Reached, Kept, Entailed, Answered, CalledBack, SuperFrom, WaitsAmong}
+use Rattle.call_graph.specs.Least.{AddsOnly, AllReached, AreKnownReached, AreReached, BothReached, CallsOn, Common, Inherits, FoundCommon, IsCalledOn, IsLeastSet, IsMadeUnder, IsNamed, IsTaken, Reached, Kept, Entailed, Answered, CalledBack, SuperFrom, WaitsAmong}
 use Rattle.call_graph.specs.Lists.{row_of, size_of}
-use Rattle.call_graph.specs.Marks.{Keeps, Pops, WaitsFrom}
-use Rattle.call_graph.specs.Objects.{answer_facts, answers_to, answers_or, class_candidates, open_facts, NothingNoted, SameNotes, CallsBack}
+use Rattle.call_graph.specs.Marks.{Pops, WaitsFrom}
+use Rattle.call_graph.specs.Objects.{answer_facts, answers_or, class_candidates, open_facts, NothingNoted, SameNotes}
 use Rattle.call_graph.specs.Supers.{AddsSuper}
 use Rattle.call_graph.specs.Tables.{AreTables}
 use Rattle.call_graph.proofs.Growth.{new_waits, blank, set_has}
-use Rattle.call_graph.proofs.Contained.{none_in, only_in, first_in, later_in, first_or, flat_from, get_in, row_cases, got_item}
+use Rattle.call_graph.proofs.Contained.{none_in, only_in, first_in, later_in, first_or, flat_from, row_cases}
 use Rattle.call_graph.proofs.Noting.{IsAdded}
 use Rattle.class_defs.specs.Finding.{finds_virtual}
 use Rattle.program_model.specs.declared.program.MethodAt.{MethodAt}
@@ -49,7 +49,7 @@ pub adds_list : (P : Fact → Type 0) (before xs after : List Fact) → after �
 adds_list P before xs after e f = λ y c. elim (Contains-append_cases before xs y (subst (λ l. Contains l y) e c)) [ inl a ↦ inl a | inr b ↦ inr (f y b) ]
 
 pub adds_then : (P Q R : Fact → Type 0) (a b c : List Fact) → ((y : Fact) → P y → R y) → ((y : Fact) → Q y → R y) → AddsOnly P a b → AddsOnly Q b c → AddsOnly R a c
-adds_then P Q R a b c f g h k = λ y i. elim (k y i) [ | inl j ↦ elim (h y j) [ inl l ↦ inl l | inr l ↦ inr (f y l) ] | inr j ↦ inr (g y j) ]
+adds_then P Q R a b c f g h k = λ y i. elim (k y i) [ inl j ↦ elim (h y j) [ inl l ↦ inl l | inr l ↦ inr (f y l) ] | inr j ↦ inr (g y j) ]
 
 pub adds_as : (P R : Fact → Type 0) (a b : List Fact) → ((y : Fact) → P y → R y) → AddsOnly P a b → AddsOnly R a b
 adds_as P R a b f h = λ y i. elim (h y i) [ inl l ↦ inl l | inr l ↦ inr (f y l) ]

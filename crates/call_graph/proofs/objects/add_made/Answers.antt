@@ -5,8 +5,8 @@ use Rattle.call_graph.specs.Above.{HasAbove}
 use Rattle.call_graph.specs.Objects.{AreNotes, NotesGrow, NotesUnder}
 use Rattle.call_graph.proofs.Contained.{none_in}
 use Rattle.call_graph.proofs.Noting.{grow_same, grow_then, walked_notes}
-use Rattle.call_graph.specs.Above.{AllFrom, IsFrom}
-use Rattle.call_graph.specs.Least.{CallsOn, BothReached, IsMadeUnder}
+use Rattle.call_graph.specs.Above.{AllFrom}
+use Rattle.call_graph.specs.Least.{CallsOn, BothReached}
 use Rattle.call_graph.proofs.Reaching.{back_reached, notes_same, reached_after}
 use Rattle.call_graph.proofs.objects.add_made.Goals as goal
 
@@ -45,8 +45,8 @@ returns-clause-reached c = λ o is formed are common place made notes facts.
     let over = λ (u : ℕ) (i : Contains c.as_slice.result.now u). (from u (subst (λ l. Contains l u) c.as_slice.ensures.value i)).0 in
     let over2 = λ (u : ℕ) (i : Contains c.as_slice-2.result.now u). (from u (subst (λ l. Contains l u) c.as_slice-2.ensures.value i)).0 in
     let under : BothReached p o t c.add_under_all.new.notes c.add_under_all.new.out.items = c.in_ok-add_under_all.ensures.reached o t is are_mid
-        (λ u i. record { below = c.args.made.0; place = place; from = over u i; made = made })
-        (notes_same p o t c.args.notes.now mid (record { called = refl; made = refl }) notes) facts in
+    (λ u i. record { below = c.args.made.0; place = place; from = over u i; made = made })
+    (notes_same p o t c.args.notes.now mid (record { called = refl; made = refl }) notes) facts in
     record {
       notes = under.notes;
       facts = reached_after p o t (CallsOn p t.object t.shut.items c.args.made.1 c.as_slice-2.result.now) c.add_under_all.new.out.items c.add_callbacks.new.out.items

@@ -1,4 +1,3 @@
-use Rattle.std.proofs.Common.{arith}
 use Rattle.call_graph.proofs.Contained.{taken_in}
 use Rattle.call_graph.proofs.Noting.{under_begins, under_more, under_all}
 use Rattle.call_graph.proofs.objects.add_under_all.Goals as goal

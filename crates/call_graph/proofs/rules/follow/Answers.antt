@@ -1,7 +1,7 @@
 use Rattle.std.proofs.Common.{inl, sym, subst}
 use Rattle.call_graph.specs.Closed.{Followed}
 use Rattle.call_graph.proofs.Following.{followed_class, followed_field, followed_method, followed_made, followed_called}
-use Rattle.call_graph.specs.Least.{BothReached, Reached}
+use Rattle.call_graph.specs.Least.{Reached}
 use Rattle.call_graph.proofs.Reaching.{listed_reached, method_reached}
 use Rattle.call_graph.proofs.rules.follow.Goals as goal
 

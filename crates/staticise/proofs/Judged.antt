@@ -1,6 +1,7 @@
 -- All loose methods, one after another.
 use Rattle.std.proofs.Common.{◌≡◌, ◌⊎◌, inl, inr, ℕ, zero, suc, ◌+◌, ◌<◌, ◌≤◌, Bool, true, false, true≢false, nat_eq, List, [], ◌∷◌, length, replicate, Option, Some, None, refl, sym, ap, ◌∙◌, subst, arith}
 use Rattle.std.specs.Prelude.{◌&&◌, not, cond, is_some, slice_get, slice_set, slice_index_or, count_by, if◌then◌else◌}
+use Rattle.std.proofs.lemmas.List.Sums.{sum_by-cons}
 use Rattle.lemmas.proofs.Bools.{and_left, and_right, clash}
 use Rattle.lemmas.proofs.Lists.{got_short}
 use Rattle.lemmas.proofs.Options.{some_same}
@@ -74,9 +75,9 @@ module _ (p : Program) (facts : Facts) (o : Outside) (admitted : List Bool) wher
 
   set_some : (xs : List (Option ℕ)) (n v : ℕ) → n < length xs → 0 < count_by is_some (slice_set xs n (Some v))
   set_some [] n v lt = absurd (omega (arith, lt))
-  set_some (y ∷ xs) zero v lt = omega arith
+  set_some (y ∷ xs) zero v lt = let s = sum_by-cons (λ o. cond (is_some o) 1 0) (Some v) xs in omega (arith, s)
   set_some (None ∷ xs) (suc n) v lt = set_some xs n v (omega (arith, lt))
-  set_some (Some y ∷ xs) (suc n) v lt = omega arith
+  set_some (Some y ∷ xs) (suc n) v lt = let s = sum_by-cons (λ o. cond (is_some o) 1 0) (Some y) (slice_set xs n (Some v)) in omega (arith, s)
 
   with_sized : (t : Tables) (k : Class) (m : Method) (q : MethodName) (proto : Proto) → IsSized t → IsSized (with_new t (wanted p k m q proto))
   with_sized t k m q proto s = set_long t.given m.name _ ∙ s

@@ -31,7 +31,7 @@ use Rattle.static_formed.proofs.Plans.{IsPlan}
 -- ---- classes one by one
 
 pub each_first : {A : Type 0} (R : A → A → Type 0) (x y : A) (xs ys : List A) → AreEach R (x ∷ xs) (y ∷ ys) → R x y
-each_first R x y xs ys a = let r = a.each 0 x refl in subst (λ z. R x z) (sym (some_same y r.0 r.1.0)) r.1.1
+each_first R x y xs ys a = let r = a.each 0 x refl in subst (λ z. R x z) (sym (some_same y r.0 r.1)) r.2
 
 pub each_rest : {A : Type 0} (R : A → A → Type 0) (x y : A) (xs ys : List A) → AreEach R (x ∷ xs) (y ∷ ys) → AreEach R xs ys
 each_rest R x y xs ys a = record { long = (let l = a.long in omega (arith, l)); each = λ k z e. a.each (suc k) z e }

@@ -73,13 +73,16 @@ module _ {A : Type 0} (key : A → List ℕ) where
 -- ---- numbers that stand once
 
 module _ {A : Type 0} (number : A → ℕ) where
+  abbrev flag : Bool → ℕ
+  flag b = cond b 1 0
+
   abbrev counted : ℕ → List A → ℕ
   counted n xs = count_by (λ x. nat_eq (number x) n) xs
 
   one_counted : (xs : List A) (i n : ℕ) (x : A) → slice_get xs i ≡ Some x → number x ≡ n → 1 ≤ counted n xs
   one_counted [] i n x e s = none_some x e
   one_counted (y ∷ xs) zero n x e s =
-      let a : cond (nat_eq (number y) n) 1 0 ≡ 1 = ap (λ b. cond b 1 0) (number_test (number y) n (ap number (some_same y x e) ∙ s)) in
+      let a : flag (nat_eq (number y) n) ≡ 1 = ap flag (number_test (number y) n (ap number (some_same y x e) ∙ s)) in
       let b = sum_by-cons (λ z. cond (nat_eq (number z) n) 1 0) y xs in
       omega (arith, a, b)
   one_counted (y ∷ xs) (suc i) n x e s =
@@ -91,7 +94,7 @@ module _ {A : Type 0} (number : A → ℕ) where
   two_counted [] i j n x y lt e f s r = none_some x e
   two_counted (z ∷ xs) i zero n x y lt e f s r = absurd (omega (arith, lt))
   two_counted (z ∷ xs) zero (suc j) n x y lt e f s r =
-      let a : cond (nat_eq (number z) n) 1 0 ≡ 1 = ap (λ b. cond b 1 0) (number_test (number z) n (ap number (some_same z x e) ∙ s)) in
+      let a : flag (nat_eq (number z) n) ≡ 1 = ap flag (number_test (number z) n (ap number (some_same z x e) ∙ s)) in
       let b = sum_by-cons (λ w. cond (nat_eq (number w) n) 1 0) z xs in
       let c = one_counted xs j n y f r in
       omega (arith, a, b, c)

@@ -142,7 +142,11 @@ module _ (p q : Program) (wf : is_well_formed p ≡ true) (given : List (Option 
       count =
           let a : sum_by (words_of p) x.new.parameters ≡ sum_by (words_of p) (x.entry.class ∷ x.proto.parameters) = ap (sum_by (words_of p)) x.parameters in
           let b = sum_by-cons (words_of p) x.entry.class x.proto.parameters in
-          before ∙ ap (λ w. w + sum_by (words_of p) x.proto.parameters) receiver ∙ ap (λ w. w + sum_by (words_of p) x.proto.parameters) (sym one_word) ∙ sym b ∙ sym a ∙ ap (λ w. w + sum_by (words_of p) x.new.parameters) (sym none)
+          let c = before in
+          let d = receiver in
+          let f = one_word in
+          let g = none in
+          omega (arith, a, b, c, d, f, g)
 
   -- ---- code
 

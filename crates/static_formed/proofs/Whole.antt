@@ -61,6 +61,11 @@ own_kind : (p : Program) (k : Class) → types_of_class_fit p k ≡ true → is_
 unfolding types_of_class_fit
 own_kind p k h = and_left (is_class_type p k.name) (not (is_object (type_text p k.name))) (and_left (is_class_type p k.name && not (is_object (type_text p k.name))) (is_class_type p k.superclass && list_all (is_class_type p) k.interfaces) h)
 
+class_kind : (p : Program) (k : Class) → class_fits p k ≡ true → is_class_type p k.name ≡ true
+unfolding class_fits
+class_kind p k h = own_kind p k (and_left (types_of_class_fit p k) (source_fits p k.source && marks_fit p k.marks)
+    (and_left (types_of_class_fit p k && (source_fits p k.source && marks_fit p k.marks)) (fields_fit p k.name k.fields && methods_fit p k.name k.methods) h))
+
 long_names : (os : List (Option ℕ)) (xs : List MethodName) → length (names_with os xs) ≡ length xs
 long_names [] xs = refl
 long_names (o ∷ os) [] = refl
@@ -97,12 +102,7 @@ module _ (p : Program) (facts : Facts) (o : Outside) (admitted : List Bool) (wf 
   counted = all_turns p facts o admitted (AreCounted p) (first_counted p) (λ u place i k m q proto owns f g a. more_counted p wf once u (wanted p k m q proto) place i k m owns refl refl a)
 
   kind_of : (place : ℕ) (k : Class) → slice_get p.classes place ≡ Some k → is_class_type p k.name ≡ true
-  kind_of place k e = by k (all_at (class_fits p) p.classes place k (sound p wf).classes_fit e)
-    where
-      by : (k : Class) → class_fits p k ≡ true → is_class_type p k.name ≡ true
-      unfolding class_fits
-      by k h = own_kind p k (and_left (types_of_class_fit p k) (source_fits p k.source && marks_fit p k.marks)
-          (and_left (types_of_class_fit p k && (source_fits p k.source && marks_fit p k.marks)) (fields_fit p k.name k.fields && methods_fit p k.name k.methods) h))
+  kind_of place k e = class_kind p k (all_at (class_fits p) p.classes place k (sound p wf).classes_fit e)
 
   typed : AreOfTypes p t.protos
   typed = all_turns p facts o admitted (λ u. AreOfTypes p u.protos) (first_typed p wf) (λ u place i k m q proto owns f g a.

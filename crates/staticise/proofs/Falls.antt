@@ -102,7 +102,7 @@ module _ (p : Program) (given : List (Option ℕ)) where
   tail x y xs ys a = record { long = (let l = a.long in omega (arith, l)); each = λ k z e. a.each (suc k) z e }
 
   head : (x y : Class) (xs ys : List Class) → AreEach (IsLoosenedClass p given) (x ∷ xs) (y ∷ ys) → IsLoosenedClass p given x y
-  head x y xs ys a = let r = a.each 0 x refl in subst (λ z. IsLoosenedClass p given x z) (sym (some_same y r.0 r.1.0)) r.1.1
+  head x y xs ys a = let r = a.each 0 x refl in subst (λ z. IsLoosenedClass p given x z) (sym (some_same y r.0 r.1)) r.2
 
   classes_fall : (xs ys : List Class) → AreEach (IsLoosenedClass p given) xs ys → sum_by class_receivers ys ≤ sum_by class_receivers xs
   classes_fall [] [] a = omega arith

@@ -140,14 +140,14 @@ module _ (p : Program) (facts : Facts) (o : Outside) (admitted : List Bool) wher
 
   none_of : (t : Tables) (place : ℕ) (k : Class) (ms : List Method) → IsSized t → count_given (behind_methods p facts o admitted t place k ms) ≡ 0 → NoneOf t place k ms
   none_of t place k [] s e = record { same = refl; none = λ i m f. absurd (cc) }
-  none_of t place k (m ∷ ms) s e = by (step t place k m)
+  none_of t place k (m ∷ ms) s e = by (step t place k m) (λ g. none_of t place k ms s (ap (λ u. count_given (behind_methods p facts o admitted u place k ms)) (sym g) ∙ e))
     where
-      by : Step t place k m → NoneOf t place k (m ∷ ms)
-      by (Gives q proto f y x g) =
+      by : Step t place k m → (behind_method p facts o admitted t place k m ≡ t → NoneOf t place k ms) → NoneOf t place k (m ∷ ms)
+      by (Gives q proto f y x g) more =
           let l = methods_grow (behind_method p facts o admitted t place k m) place k ms (method_sized t place k m s) (subst (λ u. 0 < count_given u) (sym g) (with_some t k m q proto s f)) in
           absurd (omega (arith, l, e))
-      by (Stays a g) =
-          let r = none_of t place k ms s (ap (λ u. count_given (behind_methods p facts o admitted u place k ms)) (sym g) ∙ e) in
+      by (Stays a g) more =
+          let r = more g in
           record { same = ap (λ u. behind_methods p facts o admitted u place k ms) g ∙ r.same; none = each r.none a }
         where
           each : ((i : ℕ) (x : Method) → slice_get ms i ≡ Some x → is_loose_at p facts o admitted t place k x ≡ false) → is_loose_at p facts o admitted t place k m ≡ false → (i : ℕ) (x : Method) → slice_get (m ∷ ms) i ≡ Some x → is_loose_at p facts o admitted t place k x ≡ false
@@ -181,7 +181,7 @@ module _ (p : Program) (facts : Facts) (o : Outside) (admitted : List Bool) wher
   replicate_long zero x = refl
   replicate_long (suc n) x = ap suc (replicate_long n x)
 
-  pub none_counted : (n : ℕ) → count_by is_some (replicate n None) ≡ 0
+  pub none_counted : (n : ℕ) → count_by (λ (x : Option ℕ). is_some x) (replicate n None) ≡ 0
   none_counted zero = refl
   none_counted (suc n) = none_counted n
 

@@ -46,7 +46,7 @@ module _ (p : Program) where
   rising_tail : (x : Method) (xs : List Method) → IsNonDecreasingBy (order_of p) (x ∷ xs) → IsNonDecreasingBy (order_of p) xs
   rising_tail x xs r = λ i j d le lt. r (suc i) (suc j) d (omega (arith, le)) (omega (arith, lt))
 
-  counts : ℕ → List Method → ℕ
+  abbrev counts : ℕ → List Method → ℕ
   counts n ms = count_by (λ m. nat_eq m.name n) ms
 
   in_tail : (n : ℕ) (x : Method) (xs : List Method) → counts n xs ≤ counts n (x ∷ xs)

@@ -135,7 +135,7 @@ module _ (p q : Program) (wf : is_well_formed p ≡ true) (given : List (Option 
 
   names_fit : list_all (method_id_fits q) q.methods ≡ true
   names_fit = all_each (method_id_fits q) q.methods (λ n y f. let b = before n y f in
-        ap (method_id_fits q) (sym b.is) ∙ name_kept n b.old (given_at given n) refl (all_at (method_id_fits p) p.methods n b.old (sound p wf).methods_fit b.there))
+      ap (method_id_fits q) (sym b.is) ∙ name_kept n b.old (given_at given n) refl (all_at (method_id_fits p) p.methods n b.old (sound p wf).methods_fit b.there))
 
   -- ---- no number has the name and the proto of another
 
@@ -169,15 +169,15 @@ module _ (p q : Program) (wf : is_well_formed p ≡ true) (given : List (Option 
 
   names_differ : all_differ method_key q.methods ≡ true
   names_differ = differ_each method_key q.methods (λ i j x y lt f g k.
-        let a = before i x f in
-        let b = before j y g in
-        let keys : method_key (name_with a.old (given_at given i)) ≡ method_key (name_with b.old (given_at given j)) = ap method_key a.is ∙ k ∙ ap method_key (sym b.is) in
-        let class : (name_with a.old (given_at given i)).class ≡ (name_with b.old (given_at given j)).class = first keys in
-        let name : (name_with a.old (given_at given i)).name ≡ (name_with b.old (given_at given j)).name = second keys in
-        let proto : (name_with a.old (given_at given i)).proto ≡ (name_with b.old (given_at given j)).proto = third keys in
-        let same : i ≡ j = keys_differ i j a.old b.old (given_at given i) (given_at given j) refl refl a.there b.there
-        (sym (class_same a.old (given_at given i)) ∙ class ∙ class_same b.old (given_at given j)) (sym (name_same a.old (given_at given i)) ∙ name ∙ name_same b.old (given_at given j)) proto in
-        omega (arith, lt, same))
+      let a = before i x f in
+      let b = before j y g in
+      let keys : method_key (name_with a.old (given_at given i)) ≡ method_key (name_with b.old (given_at given j)) = ap method_key a.is ∙ k ∙ ap method_key (sym b.is) in
+      let class : (name_with a.old (given_at given i)).class ≡ (name_with b.old (given_at given j)).class = first keys in
+      let name : (name_with a.old (given_at given i)).name ≡ (name_with b.old (given_at given j)).name = second keys in
+      let proto : (name_with a.old (given_at given i)).proto ≡ (name_with b.old (given_at given j)).proto = third keys in
+      let same : i ≡ j = keys_differ i j a.old b.old (given_at given i) (given_at given j) refl refl a.there b.there
+      (sym (class_same a.old (given_at given i)) ∙ class ∙ class_same b.old (given_at given j)) (sym (name_same a.old (given_at given i)) ∙ name ∙ name_same b.old (given_at given j)) proto in
+      omega (arith, lt, same))
     where
       first : {a b c d f g : ℕ} → a ∷ b ∷ c ∷ [] ≡ d ∷ f ∷ g ∷ [] → a ≡ d
       first k = cc
@@ -193,7 +193,7 @@ module _ (p q : Program) (wf : is_well_formed p ≡ true) (given : List (Option 
   module _ (t : Tables) (strings : q.strings ≡ t.strings) (protos : q.protos ≡ t.protos) (classes : length q.classes ≡ length p.classes) (s : AreSound p t) (typed : AreOfTypes p t.protos) where
     protos_fit : list_all (proto_fits q) q.protos ≡ true
     protos_fit = all_each (proto_fits q) q.protos (λ n x f. let there = ap (λ xs. slice_get xs n) (sym protos) ∙ f in
-          proto_formed p q wf e x (typed n x there) (ap (λ xs. slice_get xs x.shorty) strings ∙ s.shorties n x there))
+        proto_formed p q wf e x (typed n x there) (ap (λ xs. slice_get xs x.shorty) strings ∙ s.shorties n x there))
 
     short_now : Short p → Short q
     short_now a = record {

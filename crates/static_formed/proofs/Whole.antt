@@ -144,12 +144,12 @@ module _ (p : Program) (facts : Facts) (o : Outside) (admitted : List Bool) (wf 
           result = m.result;
           parameters = m.parameters ∙ ap (λ c. c ∷ m.was.proto.parameters) owner;
           free = λ r other g name proto.
-          let z : slice_get p.protos other.proto ≡ Some m.new = old r other g proto in
-          fresh p facts o admitted wf n m.was r other m.new g name z m.result m.parameters;
+              let z : slice_get p.protos other.proto ≡ Some m.new = old r other g proto in
+              fresh p facts o admitted wf n m.was r other m.new g name z m.result m.parameters;
           receives = λ c i k x g h s.
-          let same = number_once p wf once m.was.place c m.was.at i m.was.class k m.was.method x was_there (record { is_class = g; is_method = h }) (m.was.is_number ∙ sym s) in
-          ap (λ (y : Method). is_static y.flags) (sym same.method) ∙ not_true (is_static m.was.method.flags)
-          (and_right (is_some m.was.method.body) (not (is_static m.was.method.flags)) (receives_so p facts o admitted m.was.tables m.was.place m.was.class m.was.method m.was.name m.was.proto m.was.holds));
+              let same = number_once p wf once m.was.place c m.was.at i m.was.class k m.was.method x was_there (record { is_class = g; is_method = h }) (m.was.is_number ∙ sym s) in
+              ap (λ (y : Method). is_static y.flags) (sym same.method) ∙ not_true (is_static m.was.method.flags)
+              (and_right (is_some m.was.method.body) (not (is_static m.was.method.flags)) (receives_so p facts o admitted m.was.tables m.was.place m.was.class m.was.method m.was.name m.was.proto m.was.holds));
         }
           where
             there : slice_get q.protos v ≡ Some m.new

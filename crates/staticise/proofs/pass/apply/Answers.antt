@@ -4,8 +4,8 @@ use Rattle.staticise.specs.Planned.{IsPlanned}
 use Rattle.staticise.proofs.Whole.{none_staticised, nothing_left, some_changes, some_falls, some_staticised}
 use Rattle.staticise.proofs.pass.apply.Goals as goal
 
-pub returns-in-Some-clause-staticised : goal.returns-in-Some-clause-staticised
-returns-in-Some-clause-staticised c = λ wf res.
+pub returns-in_ok-write-in-Some-clause-staticised : goal.returns-in_ok-write-in-Some-clause-staticised
+returns-in_ok-write-in-Some-clause-staticised c = λ wf res.
     let p = c.args.program in
     let facts = c.args.facts.now in
     let o = c.args.outside.now in
@@ -13,8 +13,8 @@ returns-in-Some-clause-staticised c = λ wf res.
     let planned = subst (IsPlanned p facts o admitted) c.in-Some.is (c.in_ok-planned.ensures.planned wf res) in
     some_staticised p facts o admitted c.in-Some.growth c.write.new.program c.count_given-count.result _ planned (c.count_given-count.ensures ∙ ap (count_by is_some) c.as_slice.ensures.value) c.new-origins.ensures (c.in_ok-write.ensures _ wf res planned.0)
 
-pub returns-in-Some-clause-none_left : goal.returns-in-Some-clause-none_left
-returns-in-Some-clause-none_left c = λ wf res none.
+pub returns-in_ok-write-in-Some-clause-none_left : goal.returns-in_ok-write-in-Some-clause-none_left
+returns-in_ok-write-in-Some-clause-none_left c = λ wf res none.
     let p = c.args.program in
     let facts = c.args.facts.now in
     let o = c.args.outside.now in
@@ -22,8 +22,8 @@ returns-in-Some-clause-none_left c = λ wf res none.
     let planned = subst (IsPlanned p facts o admitted) c.in-Some.is (c.in_ok-planned.ensures.planned wf res) in
     absurd (some_none p facts o admitted c.in-Some.growth c.count_given-count.result planned (c.count_given-count.ensures ∙ ap (count_by is_some) c.as_slice.ensures.value) none)
 
-pub returns-in-Some-clause-changes : goal.returns-in-Some-clause-changes
-returns-in-Some-clause-changes c = λ wf res.
+pub returns-in_ok-write-in-Some-clause-changes : goal.returns-in_ok-write-in-Some-clause-changes
+returns-in_ok-write-in-Some-clause-changes c = λ wf res.
     let p = c.args.program in
     let facts = c.args.facts.now in
     let o = c.args.outside.now in
@@ -31,8 +31,8 @@ returns-in-Some-clause-changes c = λ wf res.
     let planned = subst (IsPlanned p facts o admitted) c.in-Some.is (c.in_ok-planned.ensures.planned wf res) in
     some_changes p facts o admitted c.in-Some.growth c.write.new.program c.count_given-count.result _ planned (c.count_given-count.ensures ∙ ap (count_by is_some) c.as_slice.ensures.value) c.new-origins.ensures (c.in_ok-write.ensures _ wf res planned.0)
 
-pub returns-in-Some-clause-falls : goal.returns-in-Some-clause-falls
-returns-in-Some-clause-falls c = λ wf res.
+pub returns-in_ok-write-in-Some-clause-falls : goal.returns-in_ok-write-in-Some-clause-falls
+returns-in_ok-write-in-Some-clause-falls c = λ wf res.
     let p = c.args.program in
     let facts = c.args.facts.now in
     let o = c.args.outside.now in

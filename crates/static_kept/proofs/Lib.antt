@@ -1,0 +1,7 @@
+pub mod Kept
+mod Known
+pub mod Left
+pub mod Made
+pub mod Owing
+pub mod Staying
+mod Virtuals

@@ -1,0 +1,11 @@
+use Rattle.std.proofs.Common.{◌∙◌, ap, subst, sym}
+use Rattle.std.specs.Prelude.{slice_get}
+use Rattle.staticise.specs.Loosened.{AreEach, IsLoosenedClass}
+use Rattle.staticise.proofs.Ordered.{own_methods}
+use Rattle.staticise.proofs.loosening.Loosening.loosen.Goals as goal
+
+pub returns-clause-classes : goal.returns-clause-classes
+returns-clause-classes c = λ wf t o.
+    let p = c.args.program.now in
+    subst (λ l. AreEach (IsLoosenedClass p c.args.self.now.given.now) l c.loosen_classes.new.classes) c.as_mut_slice.ensures.value
+    (c.in_ok-loosen_classes.ensures p t o (λ k x e. own_methods p wf k x (ap (λ l. slice_get l k) (sym c.as_mut_slice.ensures.value) ∙ e)))

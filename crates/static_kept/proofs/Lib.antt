@@ -3,5 +3,6 @@ mod Known
 pub mod Left
 pub mod Made
 pub mod Owing
+pub mod Passing
 pub mod Staying
 mod Virtuals

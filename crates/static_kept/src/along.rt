@@ -23,6 +23,7 @@ ghost use Rattle.staticise.specs.Loosened.{IsLoosenedBy};
 ghost use Rattle.static_choice.specs.Choice.{IsPlan};
 ghost use Rattle.static_kept.specs.Kept.{IsKeptStatic};
 ghost use Rattle.static_kept.specs.Owed.{IsSound, OwesAlong};
+ghost use Rattle.static_kept.specs.Passing.{Loosens};
 ghost use Rattle.static_kept.specs.Staying.{StaysAlong};
 
 /// What passes owe they owe one after another. A pass after which numbers name what they named owes it where it has no new virtual
@@ -52,4 +53,10 @@ pub fn stays_along_law()
     ensures twice { (admitted : List Bool) (p q r : Program) → StaysAlong admitted p q → StaysAlong admitted q r → StaysAlong admitted p r }
     ensures made { (p q : Program) (facts : Facts) (o : Outside) (admitted : List Bool) → is_well_formed p ≡ true → ((class : ℕ) → IsTwice p class → ⊥) → IsLoosenedBy p (judged p facts o admitted) q
         → StaysAlong admitted p q }
+{}
+
+/// A pass that makes methods static, by facts that are known of a sound program, owes what passes owe, and what it leaves stays along.
+pub fn passing_law()
+    ensures owes { (o : Outside) (admitted : List Bool) (p q : Program) → Loosens o admitted p q → IsSound p → is_well_formed q ≡ true → OwesAlong o p q }
+    ensures stays { (o : Outside) (admitted : List Bool) (p q : Program) → Loosens o admitted p q → is_well_formed p ≡ true → ((class : ℕ) → IsTwice p class → ⊥) → StaysAlong admitted p q }
 {}

@@ -27,18 +27,17 @@ module _ (admitted : List Bool) where
 
   method_kept : (m n : Method) → MethodStays admitted m n → MethodStaysAlong (λ k. false) admitted m n
   method_kept m n x = record {
-    rest = x.rest ∙ (λ i. record m {
-        flags = ap (λ (z : Method). z.flags) (sym x.rest) i;
-        parameter_marks = ap (λ (z : Method). z.parameter_marks) (sym x.rest) i;
-        body = n.body;
-        lines = n.lines;
-    });
+    rest = x.rest ∙ spelled;
     plain = λ e. (ap (λ (z : Method). z.flags) x.rest, ap (λ (z : Method). z.parameter_marks) x.rest);
     receiver = λ e. not_made e;
     turned = λ e. not_made e;
     refused = λ e. (ap (λ (z : Method). z.body) (x.refused e), ap (λ (z : Method). z.lines) (x.refused e));
     registers = x.registers;
   }
+    where
+      spelled : record m { body = n.body; lines = n.lines } ≡ record m { flags = n.flags; parameter_marks = n.parameter_marks; body = n.body; lines = n.lines }
+      spelled = ap (λ f. record m { flags = f; body = n.body; lines = n.lines }) (sym (ap (λ (z : Method). z.flags) x.rest))
+          ∙ ap (λ ms. record m { flags = n.flags; parameter_marks = ms; body = n.body; lines = n.lines }) (sym (ap (λ (z : Method). z.parameter_marks) x.rest))
 
   class_kept : (c d : Class) → ClassStays admitted c d → ClassStaysAlong (λ k. false) admitted c d
   class_kept c d x = record { rest = x.rest; fields = x.fields; methods = λ n s. let y = x.methods n s in (y.0, (y.1.0, method_kept y.0 n y.1.1)) }
@@ -46,12 +45,7 @@ module _ (admitted : List Bool) where
   pub along_kept : (p q : Program) → Stays admitted p q → StaysAlong admitted p q
   along_kept p q x = record {
     made = λ n. false;
-    rest = x.rest ∙ (λ i. record p {
-        strings = ap (λ (z : Program). z.strings) (sym x.rest) i;
-        protos = ap (λ (z : Program). z.protos) (sym x.rest) i;
-        methods = ap (λ (z : Program). z.methods) (sym x.rest) i;
-        classes = q.classes;
-    });
+    rest = x.rest ∙ spelled;
     strings = λ n t e. ap (λ (z : Program). slice_get z.strings n) x.rest ∙ e;
     protos = λ n u e. ap (λ (z : Program). slice_get z.protos n) x.rest ∙ e;
     long = ap (λ (z : Program). length z.methods) x.rest;
@@ -60,6 +54,11 @@ module _ (admitted : List Bool) where
     had = λ n f. not_made f;
     classes = λ d s. let c = x.classes d s in (c.0, (c.1.0, class_kept c.0 d c.1.1));
   }
+    where
+      spelled : record p { classes = q.classes } ≡ record p { strings = q.strings; protos = q.protos; methods = q.methods; classes = q.classes }
+      spelled = ap (λ ts. record p { strings = ts; classes = q.classes }) (sym (ap (λ (z : Program). z.strings) x.rest))
+          ∙ (ap (λ ps. record p { strings = q.strings; protos = ps; classes = q.classes }) (sym (ap (λ (z : Program). z.protos) x.rest))
+          ∙ ap (λ ms. record p { strings = q.strings; protos = q.protos; methods = ms; classes = q.classes }) (sym (ap (λ (z : Program). z.methods) x.rest)))
 
   -- ---- one after another
 
@@ -111,10 +110,10 @@ module _ (admitted : List Bool) where
     first_had : (n : ℕ) (h : HadReceiver q n) → (x.made n ≡ false) × HadReceiver p n
     first_had n h = (plain_number (x.made m.0.name) refl, record { class = c.0; method = m.0; is_class = c.1.0; is_method = m.1.0; number = number ∙ h.number; receiver = was (x.made m.0.name) refl })
       where
-        c : (c : Class) × (Stands p.classes c × ClassStaysAlong x.made admitted c h.class)
+        c : (k : Class) × (Stands p.classes k × ClassStaysAlong x.made admitted k h.class)
         c = x.classes h.class h.is_class
 
-        m : (m : Method) × (Stands c.0.methods m × MethodStaysAlong x.made admitted m h.method)
+        m : (l : Method) × (Stands c.0.methods l × MethodStaysAlong x.made admitted l h.method)
         m = c.1.1.methods h.method h.is_method
 
         number : m.0.name ≡ h.method.name

@@ -1,10 +1,13 @@
 //! The laws of passes one after another, some of which make methods static.
 
-ghost use Rattle.std.specs.Prelude.{◌≡◌, ℕ, Bool, true, List};
+ghost use Rattle.std.specs.Prelude.{◌≡◌, ◌<◌, ◌≤◌, ℕ, Bool, true, List};
 ghost use Rattle.program_model.specs.ProgramRules.{is_well_formed};
+ghost use Rattle.program_model.specs.declared.pass.Changed.{Changed};
 ghost use Rattle.program_model.specs.declared.pass.Outside.{Outside};
 ghost use Rattle.program_model.specs.declared.program.Program.{Program};
 ghost use Rattle.class_defs.specs.ClassGraph.{IsTwice};
+ghost use Rattle.call_graph.specs.declared.live_set.LiveSet.{LiveSet};
+ghost use Rattle.reach.specs.Kept.{kept_of};
 ghost use Rattle.dalvik_defs.specs.Names.{Text};
 ghost use Rattle.dalvik_defs.specs.Naming.{named};
 ghost use Rattle.dalvik_defs.specs.Outer.{outer_of};
@@ -19,7 +22,8 @@ ghost use Rattle.bodies_law.specs.Numbered.{NumberedCodes, OtherNumberedBodies};
 ghost use Rattle.alike_law.specs.Virtual.{VirtualsStay};
 ghost use Rattle.stay_law.specs.Stays.{Stays};
 ghost use Rattle.staticise.specs.Judging.{judged};
-ghost use Rattle.staticise.specs.Loosened.{IsLoosenedBy};
+ghost use Rattle.staticise.specs.Left.{receivers_in};
+ghost use Rattle.staticise.specs.Loosened.{IsLoosenedBy, IsStaticisedBy};
 ghost use Rattle.static_choice.specs.Choice.{IsPlan};
 ghost use Rattle.static_kept.specs.Kept.{IsKeptStatic};
 ghost use Rattle.static_kept.specs.Owed.{IsSound, OwesAlong};
@@ -59,4 +63,11 @@ pub fn stays_along_law()
 pub fn passing_law()
     ensures owes { (o : Outside) (admitted : List Bool) (p q : Program) → Loosens o admitted p q → IsSound p → is_well_formed q ≡ true → OwesAlong o p q }
     ensures stays { (o : Outside) (admitted : List Bool) (p q : Program) → Loosens o admitted p q → is_well_formed p ≡ true → ((class : ℕ) → IsTwice p class → ⊥) → StaysAlong admitted p q }
+{}
+
+/// Removals leave no more methods with a receiver, other bodies as many, and a pass that makes methods static fewer.
+pub fn receivers_law()
+    ensures removed { (s : LiveSet) (p : Program) → receivers_in (kept_of s p) ≤ receivers_in p }
+    ensures bodies { (N : NumberedCodes) (p q : Program) → OtherNumberedBodies N p q → receivers_in q ≡ receivers_in p }
+    ensures made { (p : Program) (facts : Facts) (o : Outside) (admitted : List Bool) (c : Changed) → IsStaticisedBy p facts o admitted c → 0 < c.count → receivers_in c.program < receivers_in p }
 {}

@@ -32,11 +32,11 @@ pub record IsMethod (p : Program) (n : ℕ) : Type 0 where
   pub is_old : slice_get p.protos entry.proto ≡ Some old
 
 -- a proto stands at a place
-pub record HasProto (protos : List Proto) (result : ℕ) (parameters : List ℕ) (k : ℕ) : Type 0 where
+pub record HasProto (protos : List Proto) (answer : ℕ) (takes : List ℕ) (k : ℕ) : Type 0 where
   pub proto : Proto
   pub there : slice_get protos k ≡ Some proto
-  pub result : proto.result ≡ result
-  pub parameters : proto.parameters ≡ parameters
+  pub result : proto.result ≡ answer
+  pub parameters : proto.parameters ≡ takes
 
 module _ (p : Program) (facts : Facts) (o : Outside) (admitted : List Bool) where
   -- a number that is given a proto

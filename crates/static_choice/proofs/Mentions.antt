@@ -32,10 +32,10 @@ module _ (P : ℕ → Type 0) where
   each_right [] ys h = h
   each_right (x ∷ xs) ys h = each_right xs ys h.1
 
-  pub each_in : {A : Type 0} (f : A → List ℕ) (xs : List A) (x : A) → In x xs → Each P (flat_map f xs) → Each P (f x)
-  each_in f [] x i h = elim i [ ]
-  each_in f (y ∷ xs) x (here ys) h = each_left (f x) (flat_map f ys) h
-  each_in f (y ∷ xs) x (there z ys i) h = each_in f ys x i (each_right (f z) (flat_map f ys) h)
+  pub each_in : {A : Type 0} (f : A → List ℕ) (x : A) (xs : List A) → In x xs → Each P (flat_map f xs) → Each P (f x)
+  each_in f x [] i h = elim i [ ]
+  each_in f x (y ∷ xs) (here ys) h = each_left (f x) (flat_map f ys) h
+  each_in f x (y ∷ xs) (there z ys i) h = each_in f x ys i (each_right (f z) (flat_map f ys) h)
 
   each_of : {A : Type 0} (f : A → List ℕ) (Q : A → Type 0) → ((x : A) → Each P (f x) → Q x) → (xs : List A) → Each P (flat_map f xs) → Each Q xs
   each_of f Q h [] e = tt
@@ -84,18 +84,18 @@ module _ (P : ℕ → Type 0) where
   -- ---- classes
 
   module _ (c : Class) (e : Each P (class_methods c)) where
-    pub class_marks : marks_name P c.marks
-    class_marks = marks_of c.marks (each_left (marks_methods c.marks) (flat_map field_methods c.fields ++ flat_map method_methods c.methods) e)
+    in_front : Each P (marks_methods c.marks ++ flat_map field_methods c.fields)
+    in_front = each_left (marks_methods c.marks ++ flat_map field_methods c.fields) (flat_map method_methods c.methods) e
 
-    members : Each P (flat_map field_methods c.fields ++ flat_map method_methods c.methods)
-    members = each_right (marks_methods c.marks) (flat_map field_methods c.fields ++ flat_map method_methods c.methods) e
+    pub class_marks : marks_name P c.marks
+    class_marks = marks_of c.marks (each_left (marks_methods c.marks) (flat_map field_methods c.fields) in_front)
 
     pub field_marks : (f : Field) → Contains c.fields f → marks_name P f.marks
     field_marks f i = marks_of f.marks (each_left (marks_methods f.marks) (first_methods f.first)
-        (each_in field_methods c.fields f (in_from c.fields f i) (each_left (flat_map field_methods c.fields) (flat_map method_methods c.methods) members)))
+        (each_in field_methods f c.fields (in_from c.fields f i) (each_right (marks_methods c.marks) (flat_map field_methods c.fields) in_front)))
 
     of_method : (m : Method) → Contains c.methods m → Each P (method_methods m)
-    of_method m i = each_in method_methods c.methods m (in_from c.methods m i) (each_right (flat_map field_methods c.fields) (flat_map method_methods c.methods) members)
+    of_method m i = each_in method_methods m c.methods (in_from c.methods m i) (each_right (marks_methods c.marks ++ flat_map field_methods c.fields) (flat_map method_methods c.methods) e)
 
     pub method_marks : (m : Method) → Contains c.methods m → (marks_name P m.marks) × (Each (marks_name P) m.parameter_marks)
     method_marks m i = (

@@ -97,13 +97,13 @@ module _ (p : Program) (s : Sound p) (twice : (class : ℕ) → IsTwice p class 
     itself : is_method p q.name q.proto m.method ≡ true
     itself = ap (names_method q.name q.proto) (ap (slice_get p.methods) m.number ∙ m.is_entry) ∙ and_both (nat_eq q.name q.name) (nat_eq q.proto q.proto) (number_test q.name q.name refl) (number_test q.proto q.proto refl)
 
-    first : FirstPlace (is_method p q.name q.proto) m.class.methods m.at
+    abbrev first : FirstPlace (is_method p q.name q.proto) m.class.methods m.at
     first = place_first (is_method p q.name q.proto) m.class.methods m.at m.method m.is_method itself
 
     stands : PlaceFits (is_method p q.name q.proto) m.class.methods first.place
     stands = place_entry (is_method p q.name q.proto) m.class.methods first.place first.is
 
-    pub at : MethodAt
+    abbrev pub at : MethodAt
     at = record { class = m.place; place = first.place }
 
     number : stands.entry.name ≡ n

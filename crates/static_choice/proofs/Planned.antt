@@ -84,7 +84,7 @@ module _ (p : Program) (facts : Facts) (o : Outside) (admitted : List Bool) (s :
   }
     where
       quiet : Each (λ n. given n ≡ None) (class_methods c)
-      quiet = each_in (λ n. given n ≡ None) class_methods p.classes c (in_at p.classes class c e) quiet_classes
+      quiet = each_in (λ n. given n ≡ None) class_methods c p.classes (in_at p.classes class c e) quiet_classes
 
       receivers : (m : Method) → Contains c.methods m → is_some (given m.name) ≡ true → is_static m.flags ≡ false
       receivers m i g =

@@ -18,7 +18,8 @@ ghost use Rattle.facts.specs.declared.facts.Facts.{Facts};
 ghost use Rattle.pass_defs.specs.Live.{Family};
 ghost use Rattle.removal_law.specs.Left.{left_of};
 ghost use Rattle.removal_law.specs.Reach.{ShutsHold};
-ghost use Rattle.bodies_law.specs.Numbered.{NumberedCodes, OtherNumberedBodies};
+ghost use Rattle.bodies_law.specs.Numbered.{OtherNumberedBodies};
+ghost use Rattle.thin_bridge.specs.Kept.{AnyCode};
 ghost use Rattle.alike_law.specs.Virtual.{VirtualsStay};
 ghost use Rattle.stay_law.specs.Stays.{Stays};
 ghost use Rattle.staticise.specs.Judging.{judged};
@@ -43,7 +44,7 @@ pub fn owes_along_law()
 /// Removals and other bodies bring no new virtual method.
 pub fn virtuals_left_law()
     ensures removed { (p : NamedProgram) (s : Family) → VirtualsStay p (left_of s p) }
-    ensures bodies { (N : NumberedCodes) (p q : Program) → OtherNumberedBodies N p q → VirtualsStay (named p) (named q) }
+    ensures bodies { (p q : Program) → OtherNumberedBodies AnyCode p q → VirtualsStay (named p) (named q) }
 {}
 
 /// What staticise says of its plan, each well-formed program has.
@@ -68,6 +69,6 @@ pub fn passing_law()
 /// Removals leave no more methods with a receiver, other bodies as many, and a pass that makes methods static fewer.
 pub fn receivers_law()
     ensures removed { (s : LiveSet) (p : Program) → receivers_in (kept_of s p) ≤ receivers_in p }
-    ensures bodies { (N : NumberedCodes) (p q : Program) → OtherNumberedBodies N p q → receivers_in q ≡ receivers_in p }
+    ensures bodies { (p q : Program) → OtherNumberedBodies AnyCode p q → receivers_in q ≡ receivers_in p }
     ensures made { (p : Program) (facts : Facts) (o : Outside) (admitted : List Bool) (c : Changed) → IsStaticisedBy p facts o admitted c → 0 < c.count → receivers_in c.program < receivers_in p }
 {}

@@ -94,7 +94,7 @@ module _ (p : Program) (s : Sound p) (twice : (class : ℕ) → IsTwice p class 
     abbrev q : MethodName
     q = m.entry
 
-    itself : is_method p q.name q.proto m.method ≡ true
+    pub itself : is_method p q.name q.proto m.method ≡ true
     itself = ap (names_method q.name q.proto) (ap (slice_get p.methods) m.number ∙ m.is_entry) ∙ and_both (nat_eq q.name q.name) (nat_eq q.proto q.proto) (number_test q.name q.name refl) (number_test q.proto q.proto refl)
 
     abbrev first : FirstPlace (is_method p q.name q.proto) m.class.methods m.at

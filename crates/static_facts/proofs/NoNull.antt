@@ -2,11 +2,13 @@
 use Rattle.std.proofs.Common.{◌≡◌, ◌⊎◌, inl, inr, ℕ, zero, suc, ◌+◌, ◌-◌, ◌<◌, Bool, true, false, true≢false, List, [], ◌∷◌, length, Option, Some, None, refl, sym, ap, ◌∙◌, subst, arith}
 use Rattle.std.specs.Prelude.{◌==◌, nat_eq, slice_get, slice_index_or, Contains}
 use Rattle.std.specs.Option.{option_and_then, option_map}
+use Rattle.lemmas.proofs.Bools.{untrue}
 use Rattle.lemmas.proofs.Lists.{contains_here, contains_there}
 use Rattle.lemmas.proofs.Options.{none_some, some_same}
 use Rattle.program_model.specs.declared.body.Body.{Body}
 use Rattle.program_model.specs.declared.program.Class.{Class}
 use Rattle.program_model.specs.declared.program.Program.{Program}
+use Rattle.class_defs.proofs.Positions.{number_of}
 use Rattle.dalvik_defs.specs.Effect.{register}
 use Rattle.dalvik_defs.specs.Face.{Bodies, bodies_of, face_of}
 use Rattle.dalvik_defs.specs.Happens.{Setting}
@@ -87,7 +89,7 @@ not_zero null.Any z h a = absurd (true≢false (sym h))
 
 no_word : (n : ℕ) → (n == 0) ≡ false → nat_eq n 0 ≡ false
 no_word zero h = absurd (true≢false h)
-no_word (suc n) h = refl
+no_word (suc n) h = untrue (nat_eq (suc n) 0) (λ e. let z : suc n ≡ 0 = number_of (suc n) 0 e in omega (arith, z))
 
 no_null : (p : NamedProgram) (k : Text) (v : Value) → is_zero (datum_of p k v) ≡ false → is_null v ≡ false
 no_null p k (Word n) h = no_word n h

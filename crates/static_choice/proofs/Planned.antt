@@ -89,13 +89,13 @@ module _ (p : Program) (facts : Facts) (o : Outside) (admitted : List Bool) (s :
       receivers : (m : Method) → Contains c.methods m → is_some (given m.name) ≡ true → is_static m.flags ≡ false
       receivers m i g =
           let x = picked m.name g in
-          let j = place c.methods m (in_from c.methods m i) in
+          let j = place m c.methods (in_from c.methods m i) in
           ap (λ (m : Method). is_static m.flags) (same_method p s twice m.name x.1.stands class c j.0 m e j.1 refl) ∙ (may m.name x.0 x.1).receiver
         where
-          place : (ms : List Method) (m : Method) → In m ms → (j : ℕ) × (slice_get ms j ≡ Some m)
-          place [] m i = elim i [ ]
-          place (y ∷ ms) m (here zs) = (0, refl)
-          place (y ∷ ms) m (there z zs i) = let r = place zs m i in (suc r.0, r.1)
+          place : (m : Method) (ms : List Method) → In m ms → (j : ℕ) × (slice_get ms j ≡ Some m)
+          place m [] i = elim i [ ]
+          place m (y ∷ ms) (here zs) = (0, refl)
+          place m (y ∷ ms) (there z zs i) = let r = place m zs i in (suc r.0, r.1)
 
   pub planned_by : IsPlanned p given (target_of p given)
   planned_by = targets_planned given p s twice own lets

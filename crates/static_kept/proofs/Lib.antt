@@ -1,4 +1,5 @@
 pub mod Kept
+pub mod Bulk
 pub mod Fewer
 mod Known
 pub mod Left

@@ -7,7 +7,8 @@ ghost use Rattle.program_model.specs.declared.pass.Outside.{Outside};
 ghost use Rattle.program_model.specs.declared.program.Program.{Program};
 ghost use Rattle.class_defs.specs.ClassGraph.{IsTwice};
 ghost use Rattle.call_graph.specs.declared.live_set.LiveSet.{LiveSet};
-ghost use Rattle.reach.specs.Kept.{kept_of};
+ghost use Rattle.reach.specs.Kept.{kept_of, size_of};
+ghost use Rattle.thin_pass.specs.Weights.{weight_of};
 ghost use Rattle.dalvik_defs.specs.Names.{Text};
 ghost use Rattle.dalvik_defs.specs.Naming.{named};
 ghost use Rattle.dalvik_defs.specs.Outer.{outer_of};
@@ -71,4 +72,10 @@ pub fn receivers_law()
     ensures removed { (s : LiveSet) (p : Program) → receivers_in (kept_of s p) ≤ receivers_in p }
     ensures bodies { (p q : Program) → OtherNumberedBodies AnyCode p q → receivers_in q ≡ receivers_in p }
     ensures made { (p : Program) (facts : Facts) (o : Outside) (admitted : List Bool) (c : Changed) → IsStaticisedBy p facts o admitted c → 0 < c.count → receivers_in c.program < receivers_in p }
+{}
+
+/// Methods made static are as many as they were, and their code weighs as much.
+pub fn bulk_law()
+    ensures { (p : Program) (facts : Facts) (o : Outside) (admitted : List Bool) (c : Changed) → IsStaticisedBy p facts o admitted c
+        → (size_of c.program ≡ size_of p) × (weight_of c.program ≡ weight_of p) }
 {}

@@ -21,9 +21,11 @@ use Rattle.hierarchy.specs.Shapes.{IsResolved}
 use Rattle.hierarchy.specs.declared.build.Hierarchy.{Hierarchy}
 use Rattle.receivers.specs.Receiving.{interface_at}
 use Rattle.facts.specs.declared.facts.Facts.{Facts}
+use Rattle.insn_set.specs.declared.form.Insn.{Insn}
+use Rattle.insn_set.specs.declared.form.Insn.TheVariants as insn
 use Rattle.insn_set.specs.declared.ops.InvokeKind.{InvokeKind}
 use Rattle.loose_methods.specs.declared.calls.Marks.{Marks}
-use Rattle.loose_methods.specs.Loose.{allows_by, has_receiver, number_at, number_found, is_this, is_it, names_it, named_by, resolves_to, is_subclass, found_by, is_nothing, super_candidates, may_find, misses, may_leave, concerns, is_plain_call}
+use Rattle.loose_methods.specs.Loose.{allows, allows_by, has_receiver, number_at, number_found, is_this, is_it, names_it, named_by, resolves_to, is_subclass, found_by, is_nothing, super_candidates, may_find, misses, may_leave, concerns, is_plain_call}
 use Rattle.loose_methods.specs.Marking.{is_on, IsCandidate}
 use Rattle.loose_methods.specs.Sifting.{number_searched, is_clear, same_some, HasCandidates, Keeps, IsSifted, Sifts, allows_so, allows_entry}
 use Rattle.loose_methods.proofs.Bars.{keeps_all, keeps_one, keeps_both, keeps_same, kept_on, candidates_kept}
@@ -78,6 +80,12 @@ none_kept test marks e = keeps_all marks marks test (λ n m. clash (list_any (λ
     some (m ∷ ms) (suc n) f = or_right m (list_any (λ mark. mark) ms) (some ms n f)
 
 -- a call that is safe or isn't, by its instruction
+-- an instruction that is no call
+pub others_allow : (p : Program) (facts : Facts) (admitted : List Bool) (n caller method position : ℕ) (i : Insn) → ((kind : InvokeKind) (called : ℕ) (args : List ℕ) → i ≡ insn.Invoke kind called args → ⊥) → allows p facts admitted n caller method position i ≡ true
+others_allow p facts admitted n caller method position (insn.Invoke kind called args) h = absurd (h kind called args refl)
+others_allow p facts admitted n caller method position insn.Nop h = refl
+others_allow p facts admitted n caller method position i h = refl
+
 pub call_allows : (p : Program) (facts : Facts) (admitted : List Bool) (n caller method position : ℕ) (kind : InvokeKind) (called : ℕ) (args : List ℕ) (o : Option MethodName) (safe : Bool)
     → safe ≡ (slice_index_or admitted method false && has_receiver facts method position kind args) → allows_entry p caller kind called o safe n ≡ allows_by p facts admitted n caller method position kind called args o
 call_allows p facts admitted n caller method position kind called args None safe e = refl

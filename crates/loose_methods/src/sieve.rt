@@ -21,7 +21,7 @@ fn sieve<'a>(
     outside: &Outside,
     admitted: &'a Admitted,
 ) -> Result<Vec<bool>, AllocError>
-    ensures { IsJudged judged.now → IfOk result (IsSieved judged.now.program.now facts.now outside.now admitted.now.methods.items) }
+    ensures { IsJudged judged.now → IfOk result (λ marks. IsSieved judged.now.program.now facts.now outside.now admitted.now.methods.items marks.items) }
 {
     let mut loose = judged.candidates(alloc, outside)?;
     judged.bar_mentioned(alloc, loose.as_mut_slice())?;
@@ -39,7 +39,8 @@ pub fn find<'a>(
     outside: &Outside,
     admitted: &'a Admitted,
 ) -> Result<Vec<bool>, AllocError>
-    ensures { is_well_formed program.now ≡ true → IsResolved program.now hierarchy.now → IfOk result (IsSieved program.now facts.now outside.now admitted.now.methods.items) }
+    ensures { is_well_formed program.now ≡ true → IsResolved program.now hierarchy.now
+        → IfOk result (λ marks. IsSieved program.now facts.now outside.now admitted.now.methods.items marks.items) }
 {
     let judged = Judged { program, hierarchy };
     sieve(alloc, &judged, facts, outside, admitted)

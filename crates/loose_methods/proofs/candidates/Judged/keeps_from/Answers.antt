@@ -15,16 +15,16 @@ returns-then-is_interface c = λ q j k.
 pub returns-then-definer-class : goal.returns-then-definer-class
 returns-then-definer-class c = λ q j k.
     let p = c.args.self.now.program.now in
-    let no = sym c.is_interface.ensures ∙ c.if-is_interface.false in
-    sym (ap (λ b. (not (nat_eq c.args.definer c.args.class) && is_some (own_virtual p q.name q.proto c.args.definer)) || b) no
+    let plain = sym c.is_interface.ensures ∙ c.if-is_interface.false in
+    sym (ap (λ b. (not (nat_eq c.args.definer c.args.class) && is_some (own_virtual p q.name q.proto c.args.definer)) || b) plain
     ∙ (or_none (not (nat_eq c.args.definer c.args.class) && is_some (own_virtual p q.name q.proto c.args.definer))
     ∙ ap (λ b. not b && is_some (own_virtual p q.name q.proto c.args.definer)) (number_test c.args.definer c.args.class c.if-definer-class.true)))
 
 pub returns : goal.returns
 returns c = λ q j k.
     let p = c.args.self.now.program.now in
-    let no = sym c.is_interface.ensures ∙ c.if-is_interface.false in
+    let plain = sym c.is_interface.ensures ∙ c.if-is_interface.false in
     c.is_some.ensures ∙ (ap is_some (c.own_virtual.ensures q.name q.proto j.resolved.of k)
-    ∙ sym (ap (λ b. (not (nat_eq c.args.definer c.args.class) && is_some (own_virtual p q.name q.proto c.args.definer)) || b) no
+    ∙ sym (ap (λ b. (not (nat_eq c.args.definer c.args.class) && is_some (own_virtual p q.name q.proto c.args.definer)) || b) plain
     ∙ (or_none (not (nat_eq c.args.definer c.args.class) && is_some (own_virtual p q.name q.proto c.args.definer))
     ∙ ap (λ b. not b && is_some (own_virtual p q.name q.proto c.args.definer)) (differ_test c.args.definer c.args.class c.if-definer-class.false))))

@@ -10,7 +10,8 @@ use Rattle.reach.specs.Marked.{IsMarked}
 use Rattle.reach.proofs.Formed.{kept_formed}
 use Rattle.dalvik_defs.specs.Names.{Text}
 use Rattle.dalvik_defs.specs.Naming.{named}
-use Rattle.dalvik_defs.specs.Outer.{outer_of}
+use Rattle.dalvik_defs.specs.Outer.{Outer, outer_of}
+use Rattle.dalvik_defs.specs.Silence.{key_in}
 use Rattle.dalvik_defs.specs.Under.{defines}
 use Rattle.dalvik_defs.specs.declared.program.NamedClass.{NamedClass}
 use Rattle.dalvik_defs.specs.declared.program.NamedProgram.{NamedProgram}
@@ -40,6 +41,9 @@ use Rattle.shut_bridge.proofs.Passes.{thinned_keeps, compacted_keeps, propagated
 use Rattle.shut_bridge.proofs.Folded.{folded_keeps}
 use Rattle.rebind_kept.proofs.Shuts.{rebound_holds}
 use Rattle.rebind_kept.proofs.Kept.{rebound_kept}
+use Rattle.outer_law.specs.Shutting.{with_shut}
+use Rattle.alike_law.specs.Virtual.{VirtualsStay}
+use Rattle.static_kept.proofs.Left.{virtuals_numbered, virtuals_removed}
 use Rattle.rounds_bridge.specs.Owed.{IsSound, Owes, Keeps}
 use Rattle.rounds_bridge.proofs.Heads.{others_define}
 use Rattle.rounds_bridge.proofs.Owing.{owes_same}
@@ -72,7 +76,9 @@ module _ (o : Outside) where
       whole = whole_left p (kept_of s p) refl (kept_part s p.classes) sound.whole;
       typed = keeps_typing p o s marked sound.typed;
     };
+    virtuals = subst (VirtualsStay (named p)) (sym (kept_named p s sound.formed)) (virtuals_removed (named p) (family_of p s));
     outer = refl;
+    shuts = λ t c m e i v. refl;
     fewer = kept_defines p s sound.formed;
     shown = shows_the_same p o s marked sound.typed;
     holds = keeps_shuts p o s marked;
@@ -100,11 +106,17 @@ module _ (o : Outside) where
       whole = whole_left p q kept.others.same (other_part AnyCode p p.classes q.classes kept.others.classes) sound.whole;
       typed = kept.typed;
     };
-    outer = ap (λ (x : Program). outer_of x o) kept.others.same;
+    virtuals = virtuals_numbered AnyCode p q kept.others;
+    outer = subst (λ (x : Outer). x ≡ with_shut (outer_of p o) x.silent x.shut) (sym same) refl;
+    shuts = λ t c m e i v. ap (λ (x : Outer). x.shut (key_in c m)) same;
     fewer = λ t d. sym (others_define AnyCode p t q kept.others) ∙ d;
     shown = kept.shown;
     holds = λ h. subst (ShutsHold (named q)) (ap (λ (x : Program). outer_of x o) (sym kept.others.same)) (shuts h);
   }
+    where
+      -- numbers name what they named
+      same : outer_of q o ≡ outer_of p o
+      same = ap (λ (x : Program). outer_of x o) kept.others.same
 
   -- one that keeps it so for every outside
   bodies_owe : (p q : Program) → IsSound p → IsKept p q → (ShutsHold (named p) (outer_of p o) → ShutsHold (named q) (outer_of p o)) → Owes o p q

@@ -1,9 +1,10 @@
 -- Calls in a row: of instructions, of methods and of classes.
 use Rattle.std.proofs.Common.{◌≡◌, ◌⊎◌, inl, inr, ℕ, zero, suc, ◌+◌, ◌*◌, ◌<◌, ◌≤◌, ◌^◌, Bool, true, false, List, [], ◌∷◌, ◌++◌, length, take, take_all, get_or, Option, Some, None, refl, sym, ap, ◌∙◌, subst, arith}
-use Rattle.std.specs.Prelude.{◌&&◌, slice_get, sum_by, Unit}
+use Rattle.std.specs.Prelude.{◌&&◌, slice_get, sum_by}
 use Rattle.std.specs.List.{list_all}
 use Rattle.std.proofs.lemmas.Bool.{leb-true}
 use Rattle.std.proofs.lemmas.List.{length-take-le}
+use Rattle.std.proofs.lemmas.List.Sums.{sum_by-cons}
 use Rattle.lemmas.proofs.Options.{some_same}
 use Rattle.insn_set.specs.declared.form.Insn.{Insn}
 use Rattle.program_model.specs.Cells.{entries_of, body_cells, method_cells, class_cells, cells_of}
@@ -73,8 +74,8 @@ long_body b = large b.registers (length b.insns) (sum_by entries_of b.insns)
 
 member_sum : {X : Type 0} (f : X → ℕ) (xs : List X) (i : ℕ) (x : X) → slice_get xs i ≡ Some x → f x ≤ sum_by f xs
 member_sum f [] i x e = absurd (cc)
-member_sum f (y ∷ xs) zero x e = let z : f y ≡ f x = ap f (some_same y x e) in omega (arith, z)
-member_sum f (y ∷ xs) (suc i) x e = let z = member_sum f xs i x e in omega (arith, z)
+member_sum f (y ∷ xs) zero x e = let z : f y ≡ f x = ap f (some_same y x e) in let s = sum_by-cons f y xs in omega (arith, z, s)
+member_sum f (y ∷ xs) (suc i) x e = let z = member_sum f xs i x e in let s = sum_by-cons f y xs in omega (arith, z, s)
 
 pub short_codes : (p : Program) → is_well_formed p ≡ true → (c : ℕ) (k : Class) → slice_get p.classes c ≡ Some k → AreShortCodes k.methods
 short_codes p wf c k e = λ i m f. by m.body (cells_at i m f)

@@ -89,7 +89,7 @@ candidates_kept p o test old new a c = λ n e. c n (kept_on test old new n a e).
 -- ---- what is found
 
 module _ (p : Program) (h : Hierarchy) (wf : is_well_formed p ≡ true) (res : IsResolved p h) (o : Outside) (n : ℕ) (c : IsCandidate p o n) (q : MethodName) where
-  virtually : ℕ → Bool
+  abbrev virtually : ℕ → Bool
   virtually d = is_this n (number_found p (finds_virtual p q.name q.proto d))
 
   pub found_is : is_found p n q ≡ list_any (λ d. is_this n (number_found p (finds_virtual p q.name q.proto d))) (receivers p q.class)

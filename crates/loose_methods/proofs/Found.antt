@@ -82,11 +82,14 @@ own_short p name proto c x e = by (slice_get p.classes c) refl e
     by None g f = none_some x f
     by (Some k) g f = got_short p.classes c k g
 
+abbrev place_in : ℕ → ℕ → MethodAt
+place_in c j = record { class = c; place = j }
+
 -- a class that defines such a method has one by that name and proto
 pub method_owned : (p : Program) (name proto c i : ℕ) (k : Class) (m : Method) → slice_get p.classes c ≡ Some k → slice_get k.methods i ≡ Some m → is_method p name proto m ≡ true → is_some (own_method p name proto c) ≡ true
 method_owned p name proto c i k m e f g =
     let first = place_first (is_method p name proto) k.methods i m f g in
-    ap (λ o. is_some (method_of_class p name proto c o)) e ∙ ap (λ o. is_some (option_map (λ j. record { class = c; place = j }) o)) first.is
+    ap (λ o. is_some (method_of_class p name proto c o)) e ∙ ap (λ o. is_some (option_map (place_in c) o)) first.is
 
 -- the method that is found has the name and the proto
 pub record NamedThere (p : Program) (name proto : ℕ) (at : MethodAt) : Type 0 where
@@ -185,10 +188,10 @@ module _ (p : Program) (h : Hierarchy) (wf : is_well_formed p ≡ true) (res : I
     -- ---- the one that a number names through its class or one under that
 
     module _ (called : ℕ) (q : MethodName) (entry : slice_get p.methods called ≡ Some q) where
-      chain : List ℕ
+      abbrev chain : List ℕ
       chain = chain_of p (class_place p q.class)
 
-      own : ℕ → Option MethodAt
+      abbrev own : ℕ → Option MethodAt
       own = own_method p q.name q.proto
 
       pub static_is : finds_static p called ≡ first_among own chain
@@ -197,7 +200,7 @@ module _ (p : Program) (h : Hierarchy) (wf : is_well_formed p ≡ true) (res : I
       resolved_is : resolves_method p called ≡ first_among own (resolution_of p (class_place p q.class))
       resolved_is = ap (by_entry (λ (x : MethodName). first_among (own_method p x.name x.proto) (resolution_of p (class_place p x.class)))) entry
 
-      rest : List ℕ
+      abbrev rest : List ℕ
       rest = interfaces_from (length p.classes) p (flat_map (interface_places p) chain)
 
       -- what is found along the superclasses is what it resolves to
@@ -220,7 +223,7 @@ module _ (p : Program) (h : Hierarchy) (wf : is_well_formed p ≡ true) (res : I
               let first = first_some own (resolution_of p (class_place p q.class)) at (sym resolved_is ∙ g) in
               let at_class : first.class ≡ c.place = sym (method_class p q.name q.proto first.class at first.is) ∙ ap (λ (y : MethodAt). y.class) (here at i) in
               let none : own c.place ≡ None = first_none own chain c.place j among in
-              absurd (cc)
+              none_some at (sym none ∙ ap own (sym at_class) ∙ first.is)
 
           by : (x : Option MethodAt) → finds_static p called ≡ x → is_this n (number_found p (finds_static p called)) ≡ true
           by None g = absurd (by_resolved (resolves_method p called) refl e (sym static_is ∙ g))
@@ -255,10 +258,10 @@ module _ (p : Program) (h : Hierarchy) (wf : is_well_formed p ≡ true) (res : I
     -- ---- what an object finds
 
     module _ (q : MethodName) where
-      virtually : ℕ → Option MethodAt
+      abbrev virtually : ℕ → Option MethodAt
       virtually d = finds_virtual p q.name q.proto d
 
-      among : ℕ → Search
+      abbrev among : ℕ → Search
       among d = finds_among p (flat_map (interface_places p) (chain_of p (Some d))) q.name q.proto
 
       pub none_given : (d : ℕ) → list_any (is_it p n) (class_candidates p q d) ≡ false

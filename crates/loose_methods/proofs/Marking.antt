@@ -65,7 +65,7 @@ module _ (p : Program) (o : Outside) (place : ℕ) (k : Class) (done : ℕ) (old
 
   -- another method isn't
   pub unmarked_more : is_candidate p o place k q m ≡ false → (new : List Bool) → new ≡ now → MarkedTo p o place k (done + 1) old new
-  unmarked_more no new e = subst (λ x. MarkedTo p o place k (done + 1) old x) (sym e) (record {
+  unmarked_more fails new e = subst (λ x. MarkedTo p o place k (done + 1) old x) (sym e) (record {
     long = was.long;
     keeps = was.keeps;
     only = was.only;
@@ -74,7 +74,7 @@ module _ (p : Program) (o : Outside) (place : ℕ) (k : Class) (done : ℕ) (old
       | inr s ↦ (
           let same : m ≡ x = same_method i x s f in
           let names : q ≡ r = some_same q r (sym entry ∙ ap (λ (z : Method). slice_get p.methods z.name) same ∙ g) in
-          absurd (true≢false (sym h ∙ ap (λ z. is_candidate p o place k z x) (sym names) ∙ ap (is_candidate p o place k q) (sym same) ∙ no))
+          absurd (true≢false (sym h ∙ ap (λ z. is_candidate p o place k z x) (sym names) ∙ ap (is_candidate p o place k q) (sym same) ∙ fails))
           )
     ];
   })
@@ -104,11 +104,11 @@ marked_all p o place k done old now le is_class a = record {
 -- ---- classes without candidates
 
 pub no_candidates : (p : Program) (o : Outside) (place : ℕ) (k : Class) (old new : List Bool) → slice_get p.classes place ≡ Some k → is_plain_class p place k ≡ false → new ≡ old → MarksClass p o place old new
-no_candidates p o place k old new is_class no e = subst (λ x. MarksClass p o place old x) (sym e) (record {
+no_candidates p o place k old new is_class fails e = subst (λ x. MarksClass p o place old x) (sym e) (record {
   long = refl;
   keeps = λ n f. f;
   only = λ n f. inl f;
-  all = λ c i m q f g h x. absurd (true≢false (sym (plain c q m x) ∙ ap (is_plain_class p place) (sym (some_same k c (sym is_class ∙ f))) ∙ no));
+  all = λ c i m q f g h x. absurd (true≢false (sym (plain c q m x) ∙ ap (is_plain_class p place) (sym (some_same k c (sym is_class ∙ f))) ∙ fails));
 })
   where
     plain : (c : Class) (q : MethodName) (m : Method) → is_candidate p o place c q m ≡ true → is_plain_class p place c ≡ true

@@ -30,6 +30,10 @@ pub record Same (c d i j : ℕ) (m x : Method) : Type 0 where
   pub place : i ≡ j
   pub method : m ≡ x
 
+-- methods of one class and one number stand at one place
+pub own_once : (p : Program) → is_well_formed p ≡ true → (c i j : ℕ) (k : Class) (m x : Method) → slice_get p.classes c ≡ Some k → slice_get k.methods i ≡ Some m → slice_get k.methods j ≡ Some x → m.name ≡ x.name → i ≡ j
+own_once p wf c i j k m x e f g h = same_number own_method_key k.methods i j m x (methods_differ p k (all_at (class_fits p) p.classes c k (sound p wf).classes_fit e)) f g (ap (λ n. n ∷ []) h)
+
 module _ (p : Program) (wf : is_well_formed p ≡ true) (once : (class : ℕ) → IsTwice p class → ⊥) where
   pub fits : (c : ℕ) (k : Class) (i : ℕ) (m : Method) → Owns p c k i m → MethodFits p k.name m
   fits c k i m o = (class_parts p (sound p wf) c k o.is_class).methods i m o.is_method
@@ -40,10 +44,6 @@ module _ (p : Program) (wf : is_well_formed p ≡ true) (once : (class : ℕ) �
     | inr (inl lt) ↦ absurd (once d (record { earlier = c; before = lt; one = k; other = u; is_one = e; is_other = f; same = g }))
     | inr (inr gt) ↦ absurd (once c (record { earlier = d; before = gt; one = u; other = k; is_one = f; is_other = e; same = sym g }))
   ]
-
-  -- methods of one class and one number stand at one place
-  pub own_once : (c i j : ℕ) (k : Class) (m x : Method) → slice_get p.classes c ≡ Some k → slice_get k.methods i ≡ Some m → slice_get k.methods j ≡ Some x → m.name ≡ x.name → i ≡ j
-  own_once c i j k m x e f g h = same_number own_method_key k.methods i j m x (methods_differ p k (all_at (class_fits p) p.classes c k (sound p wf).classes_fit e)) f g (ap (λ n. n ∷ []) h)
 
   -- a number is defined once
   pub number_once : (c d i j : ℕ) (k u : Class) (m x : Method) → Owns p c k i m → Owns p d u j x → m.name ≡ x.name → Same c d i j m x
@@ -56,7 +56,7 @@ module _ (p : Program) (wf : is_well_formed p ≡ true) (once : (class : ℕ) �
       let y : Some k ≡ Some u = sym a.is_class ∙ ap (slice_get p.classes) classes ∙ b.is_class in
       let same : k ≡ u = cc in
       let there : slice_get k.methods j ≡ Some x = subst (λ w. slice_get w.methods j ≡ Some x) (sym same) b.is_method in
-      let places : i ≡ j = own_once c i j k m x a.is_class a.is_method there h in
+      let places : i ≡ j = own_once p wf c i j k m x a.is_class a.is_method there h in
       record { class = classes; place = places; method = some_same m x (sym a.is_method ∙ ap (slice_get k.methods) places ∙ there) }
 
   -- a class has one method of a name and a proto

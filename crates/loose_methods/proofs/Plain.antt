@@ -65,10 +65,10 @@ leaves_unplain false false true a e = refl
 leaves_unplain r s false a e = absurd (true≢false (sym e))
 
 module _ (p : Program) (n called : ℕ) (q : MethodName) where
-  found : List MethodAt
+  abbrev found : List MethodAt
   found = may_find p 0 call.Virtual called q
 
-  leave : Bool
+  abbrev leave : Bool
   leave = may_leave p 0 call.Virtual called q
 
   unplain : leave ≡ true → is_plain_call p n 0 call.Virtual called q ≡ false
@@ -90,10 +90,10 @@ module _ (p : Program) (h : Hierarchy) (wf : is_well_formed p ≡ true) (res : I
   ranked : IsRanked p
   ranked = res.of.ranked
 
-  test : ℕ → Bool
+  abbrev test : ℕ → Bool
   test d = is_at at (finds_virtual p q.name q.proto d)
 
-  met : List MethodAt
+  abbrev met : List MethodAt
   met = may_find p 0 call.Virtual called q
 
   is_own : at ≡ record { class = c.place; place = c.at }

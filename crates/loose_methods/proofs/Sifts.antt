@@ -194,13 +194,13 @@ module _ (p : Program) (n : ℕ) where
       by false b = refl
 
 module _ (p : Program) (h : Hierarchy) (wf : is_well_formed p ≡ true) (res : IsResolved p h) (o : Outside) (n : ℕ) (c : IsCandidate p o n) (called : ℕ) (q : MethodName) (entry : slice_get p.methods called ≡ Some q) where
-  static : Option MethodAt
+  abbrev static : Option MethodAt
   static = finds_static p called
 
-  s : Bool
+  abbrev s : Bool
   s = is_this n (number_found p static)
 
-  names : Bool
+  abbrev names : Bool
   names = names_it p n called
 
   -- it is found along the superclasses, so the class that is named is the program's
@@ -306,10 +306,10 @@ module _ (p : Program) (h : Hierarchy) (wf : is_well_formed p ≡ true) (res : I
   -- ---- super calls
 
   module _ (caller : ℕ) where
-    search : Search
+    abbrev search : Search
     search = finds_super p caller called
 
-    f : Bool
+    abbrev f : Bool
     f = is_this n (number_searched p search)
 
     rank : IsRanked p

@@ -180,7 +180,7 @@ own_is_some p n t u e = by (own_method p n t u) e
     by (Some at) f = refl
 
 module _ (p : Program) (q : MethodName) (c : ℕ) (under : List ℕ) (a : AreUnder p c under) where
-  test : ℕ → Bool
+  abbrev test : ℕ → Bool
   test u = keeps_from p q c u && list_any (λ d. is_under p d u) under
 
   definer : (u : ℕ) → In u (places p) → is_some (own_method p q.name q.proto u) ≡ true → In u (definers_of p q.name q.proto)

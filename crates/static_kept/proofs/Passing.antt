@@ -10,6 +10,7 @@ use Rattle.facts.specs.declared.facts.Facts.{Facts}
 use Rattle.closed_bridge.specs.Names.{named_facts}
 use Rattle.fold_bridge.specs.Folds.{AreNamed}
 use Rattle.fold_kept.proofs.NamedFacts.{are_named}
+use Rattle.static_formed.proofs.Whole.{staticised_formed}
 use Rattle.stay_law.proofs.Staying.{stays_same}
 use Rattle.staticise.specs.Loosened.{IsStaticisedBy}
 use Rattle.static_kept.specs.Kept.{IsKeptStatic}
@@ -22,11 +23,12 @@ use Rattle.static_kept.proofs.Owing.{along_made}
 use Rattle.static_kept.proofs.Staying.{along_kept}
 
 module _ (o : Outside) (admitted : List Bool) (p q : Program) (x : Loosens o admitted p q) where
-  pub loosened_owes : IsSound p → is_well_formed q ≡ true → OwesAlong o p q
-  loosened_owes sound formed =
+  pub loosened_owes : IsSound p → OwesAlong o p q
+  loosened_owes sound =
       let k = x.certified in
       let names : AreNamed p (outer_of p o) x.facts (named_facts p x.facts) = are_named p o k.live (record { formed = sound.formed; once = x.resolved.of.once; grounded = sound.grounded; sized = k.fits; closed = k.live_closed })
       k.targets x.resolved.of.ranked x.plain x.facts in
+      let formed : is_well_formed q ≡ true = ap is_well_formed x.left ∙ staticised_formed p x.facts o admitted x.changed sound.formed sound.once x.staticised in
       along_made o p q formed (subst (λ (z : Program). IsKeptStatic o p z) (sym x.left)
       (staticised_kept p x.hierarchy o sound.formed x.resolved sound.grounded sound.whole sound.typed x.words x.makers k.live k.targets x.facts k.fits k.live_closed k.targeted k.closed names admitted
       (plan_of p x.facts o admitted sound.formed) x.changed x.staticised))

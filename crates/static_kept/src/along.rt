@@ -63,7 +63,7 @@ pub fn stays_along_law()
 
 /// A pass that makes methods static, by facts that are known of a sound program, owes what passes owe, and what it leaves stays along.
 pub fn passing_law()
-    ensures owes { (o : Outside) (admitted : List Bool) (p q : Program) → Loosens o admitted p q → IsSound p → is_well_formed q ≡ true → OwesAlong o p q }
+    ensures owes { (o : Outside) (admitted : List Bool) (p q : Program) → Loosens o admitted p q → IsSound p → OwesAlong o p q }
     ensures stays { (o : Outside) (admitted : List Bool) (p q : Program) → Loosens o admitted p q → is_well_formed p ≡ true → ((class : ℕ) → IsTwice p class → ⊥) → StaysAlong admitted p q }
 {}
 

@@ -120,7 +120,7 @@ module _ (p : Program) (facts : Facts) (o : Outside) (admitted : List Bool) wher
 
   none_in : (place at position : ℕ) (k : Class) (m : Method) (b : Body) (i : Insn) → slice_get p.classes place ≡ Some k → slice_get k.methods at ≡ Some m → slice_index_or admitted m.name false ≡ false → m.body ≡ Some b → slice_get b.insns position ≡ Some i
       → insn_loosened p (judged p facts o admitted).given i ≡ i
-  none_in place at position k m b (insn.Invoke kind called args) e f no g x = by (target_of p (judged p facts o admitted).given called) refl
+  none_in place at position k m b (insn.Invoke kind called args) e f refused g x = by (target_of p (judged p facts o admitted).given called) refl
     where
       by : (t : Option ℕ) → target_of p (judged p facts o admitted).given called ≡ t → (elim t as (λ t. Insn) [ Some target ↦ insn.Invoke call.Static target args | None ↦ insn.Invoke kind called args ]) ≡ insn.Invoke kind called args
       by None y = refl
@@ -128,16 +128,16 @@ module _ (p : Program) (facts : Facts) (o : Outside) (admitted : List Bool) wher
           let r = target_named called n y in
           let known = calls_known.each n place at position m kind called args r.entry r.given (record { class = k; body = b; is_class = e; is_method = f; is_body = g; is_call = x }) r.there
           (or_left (names_it p n called) (list_any (is_it p n) (may_find p place kind called r.entry)) r.names) in
-          clash (slice_index_or admitted m.name false) known.0 no
-  none_in place at position k m b i e f no g x = refl
+          clash (slice_index_or admitted m.name false) known.0 refused
+  none_in place at position k m b i e f refused g x = refl
 
   all_stay : (given : List (Option ℕ)) (is : List Insn) → ((position : ℕ) (i : Insn) → slice_get is position ≡ Some i → insn_loosened p given i ≡ i) → map (insn_loosened p given) is ≡ is
   all_stay given [] h = refl
   all_stay given (i ∷ is) h = ap (λ j. j ∷ map (insn_loosened p given) is) (h 0 i refl) ∙ ap (λ js. i ∷ js) (all_stay given is (λ position j e. h (suc position) j e))
 
   pub untouched : IsUntouched p admitted (judged p facts o admitted)
-  untouched place at k m e f no = by m.body refl
+  untouched place at k m e f refused = by m.body refl
     where
       by : (x : Option Body) → m.body ≡ x → code_loosened p (judged p facts o admitted).given x ≡ x
       by None g = refl
-      by (Some b) g = ap (λ is. Some (record b { insns = is })) (all_stay (judged p facts o admitted).given b.insns (λ position i x. none_in place at position k m b i e f no g x))
+      by (Some b) g = ap (λ is. Some (record b { insns = is })) (all_stay (judged p facts o admitted).given b.insns (λ position i x. none_in place at position k m b i e f refused g x))

@@ -4,6 +4,7 @@ use Rattle.class_defs.specs.Members.{string_is}
 use Rattle.std.specs.Prelude.{◌&&◌, ◌||◌, ◌==◌, codes, not, cond, is_some, slice_get, slice_set, slice_index_or, replicate, count_by, sum_by, if◌then◌else◌}
 use Rattle.std.specs.List.Sorted.{IsPermutation}
 use Rattle.std.proofs.lemmas.List.Sorted.{sum_by-IsPermutation}
+use Rattle.std.proofs.lemmas.List.Sums.{sum_by-cons}
 use Rattle.std.proofs.lemmas.Nat.{and_or_self}
 use Rattle.lemmas.proofs.Bools.{and_left, and_right, and_both, clash, not_true}
 use Rattle.lemmas.proofs.Lists.{got_short}
@@ -66,7 +67,12 @@ module _ (p : Program) (given : List (Option ℕ)) where
 
   words_fall : (ms : List Method) → count_by has_receiver_word (map (method_loosened p given) ms) ≤ count_by has_receiver_word ms
   words_fall [] = omega arith
-  words_fall (m ∷ ms) = let a = word_falls m in let b = words_fall ms in omega (arith, a, b)
+  words_fall (m ∷ ms) =
+      let a = word_falls m in
+      let b = words_fall ms in
+      let c = sum_by-cons word_of (method_loosened p given m) (map (method_loosened p given) ms) in
+      let d = sum_by-cons word_of m ms in
+      omega (arith, a, b, c, d)
 
   one_falls : (ms : List Method) (i : ℕ) (m : Method) → slice_get ms i ≡ Some m → is_given given m.name ≡ true → has_receiver_word m ≡ true
       → count_by has_receiver_word (map (method_loosened p given) ms) < count_by has_receiver_word ms
@@ -76,8 +82,15 @@ module _ (p : Program) (given : List (Option ℕ)) where
       let a : word_of (method_loosened p given x) ≡ 0 = word_by true x (ap (λ (y : Method). is_given given y.name) same ∙ f) in
       let b : word_of x ≡ 1 = ap word_of same ∙ ap (λ y. cond y 1 0) g in
       let c = words_fall ms in
-      omega (arith, a, b, c)
-  one_falls (x ∷ ms) (suc i) m e f g = let a = word_falls x in let b = one_falls ms i m e f g in omega (arith, a, b)
+      let s = sum_by-cons word_of (method_loosened p given x) (map (method_loosened p given) ms) in
+      let r = sum_by-cons word_of x ms in
+      omega (arith, a, b, c, s, r)
+  one_falls (x ∷ ms) (suc i) m e f g =
+      let a = word_falls x in
+      let b = one_falls ms i m e f g in
+      let s = sum_by-cons word_of (method_loosened p given x) (map (method_loosened p given) ms) in
+      let r = sum_by-cons word_of x ms in
+      omega (arith, a, b, s, r)
 
   class_falls : (c d : Class) → IsLoosenedClass p given c d → class_receivers d ≤ class_receivers c
   class_falls c d r = let a : class_receivers d ≡ count_by has_receiver_word (map (method_loosened p given) c.methods) = sum_by-IsPermutation word_of (map (method_loosened p given) c.methods) d.methods r.methods in let b = words_fall c.methods in omega (arith, a, b)
@@ -89,13 +102,13 @@ module _ (p : Program) (given : List (Option ℕ)) where
   tail x y xs ys a = record { long = (let l = a.long in omega (arith, l)); each = λ k z e. a.each (suc k) z e }
 
   head : (x y : Class) (xs ys : List Class) → AreEach (IsLoosenedClass p given) (x ∷ xs) (y ∷ ys) → IsLoosenedClass p given x y
-  head x y xs ys a = let r = a.each 0 x refl in subst (λ z. IsLoosenedClass p given x z) (sym (some_same y r.0 r.1.0)) r.1.1
+  head x y xs ys a = let r = a.each 0 x refl in subst (λ z. IsLoosenedClass p given x z) (sym (some_same y r.0 r.1)) r.2
 
   classes_fall : (xs ys : List Class) → AreEach (IsLoosenedClass p given) xs ys → sum_by class_receivers ys ≤ sum_by class_receivers xs
   classes_fall [] [] a = omega arith
   classes_fall [] (y ∷ ys) a = let l = a.long in absurd (omega (arith, l))
-  classes_fall (x ∷ xs) [] a = omega arith
-  classes_fall (x ∷ xs) (y ∷ ys) a = let b = class_falls x y (head x y xs ys a) in let c = classes_fall xs ys (tail x y xs ys a) in omega (arith, b, c)
+  classes_fall (x ∷ xs) [] a = let l = a.long in absurd (omega (arith, l))
+  classes_fall (x ∷ xs) (y ∷ ys) a = let b = class_falls x y (head x y xs ys a) in let c = classes_fall xs ys (tail x y xs ys a) in let s = sum_by-cons class_receivers y ys in let r = sum_by-cons class_receivers x xs in omega (arith, b, c, s, r)
 
   classes_less : (xs ys : List Class) (k i : ℕ) (c : Class) (m : Method) → AreEach (IsLoosenedClass p given) xs ys → slice_get xs k ≡ Some c → slice_get c.methods i ≡ Some m → is_given given m.name ≡ true → has_receiver_word m ≡ true
       → sum_by class_receivers ys < sum_by class_receivers xs
@@ -105,8 +118,10 @@ module _ (p : Program) (given : List (Option ℕ)) where
       let same : x ≡ c = some_same x c e in
       let b = class_less x y i m (head x y xs ys a) (ap (λ (z : Class). slice_get z.methods i) same ∙ f) g h in
       let d = classes_fall xs ys (tail x y xs ys a) in
-      omega (arith, b, d)
-  classes_less (x ∷ xs) (y ∷ ys) (suc k) i c m a e f g h = let b = class_falls x y (head x y xs ys a) in let d = classes_less xs ys k i c m (tail x y xs ys a) e f g h in omega (arith, b, d)
+      let s = sum_by-cons class_receivers y ys in
+      let r = sum_by-cons class_receivers x xs in
+      omega (arith, b, d, s, r)
+  classes_less (x ∷ xs) (y ∷ ys) (suc k) i c m a e f g h = let b = class_falls x y (head x y xs ys a) in let d = classes_less xs ys k i c m (tail x y xs ys a) e f g h in let s = sum_by-cons class_receivers y ys in let r = sum_by-cons class_receivers x xs in omega (arith, b, d, s, r)
 
 -- ---- a method that is made static has a receiver
 

@@ -1,6 +1,7 @@
 -- All loose methods, one after another.
 use Rattle.std.proofs.Common.{◌≡◌, ◌⊎◌, inl, inr, ℕ, zero, suc, ◌+◌, ◌<◌, ◌≤◌, Bool, true, false, true≢false, nat_eq, List, [], ◌∷◌, length, replicate, Option, Some, None, refl, sym, ap, ◌∙◌, subst, arith}
 use Rattle.std.specs.Prelude.{◌&&◌, not, cond, is_some, slice_get, slice_set, slice_index_or, count_by, if◌then◌else◌}
+use Rattle.std.proofs.lemmas.List.Sums.{sum_by-cons}
 use Rattle.lemmas.proofs.Bools.{and_left, and_right, clash}
 use Rattle.lemmas.proofs.Lists.{got_short}
 use Rattle.lemmas.proofs.Options.{some_same}
@@ -74,9 +75,9 @@ module _ (p : Program) (facts : Facts) (o : Outside) (admitted : List Bool) wher
 
   set_some : (xs : List (Option ℕ)) (n v : ℕ) → n < length xs → 0 < count_by is_some (slice_set xs n (Some v))
   set_some [] n v lt = absurd (omega (arith, lt))
-  set_some (y ∷ xs) zero v lt = omega arith
+  set_some (y ∷ xs) zero v lt = let s = sum_by-cons (λ o. cond (is_some o) 1 0) (Some v) xs in omega (arith, s)
   set_some (None ∷ xs) (suc n) v lt = set_some xs n v (omega (arith, lt))
-  set_some (Some y ∷ xs) (suc n) v lt = omega arith
+  set_some (Some y ∷ xs) (suc n) v lt = let s = sum_by-cons (λ o. cond (is_some o) 1 0) (Some y) (slice_set xs n (Some v)) in omega (arith, s)
 
   with_sized : (t : Tables) (k : Class) (m : Method) (q : MethodName) (proto : Proto) → IsSized t → IsSized (with_new t (wanted p k m q proto))
   with_sized t k m q proto s = set_long t.given m.name _ ∙ s
@@ -139,14 +140,14 @@ module _ (p : Program) (facts : Facts) (o : Outside) (admitted : List Bool) wher
 
   none_of : (t : Tables) (place : ℕ) (k : Class) (ms : List Method) → IsSized t → count_given (behind_methods p facts o admitted t place k ms) ≡ 0 → NoneOf t place k ms
   none_of t place k [] s e = record { same = refl; none = λ i m f. absurd (cc) }
-  none_of t place k (m ∷ ms) s e = by (step t place k m)
+  none_of t place k (m ∷ ms) s e = by (step t place k m) (λ g. none_of t place k ms s (ap (λ u. count_given (behind_methods p facts o admitted u place k ms)) (sym g) ∙ e))
     where
-      by : Step t place k m → NoneOf t place k (m ∷ ms)
-      by (Gives q proto f y x g) =
+      by : Step t place k m → (behind_method p facts o admitted t place k m ≡ t → NoneOf t place k ms) → NoneOf t place k (m ∷ ms)
+      by (Gives q proto f y x g) more =
           let l = methods_grow (behind_method p facts o admitted t place k m) place k ms (method_sized t place k m s) (subst (λ u. 0 < count_given u) (sym g) (with_some t k m q proto s f)) in
           absurd (omega (arith, l, e))
-      by (Stays a g) =
-          let r = none_of t place k ms s (ap (λ u. count_given (behind_methods p facts o admitted u place k ms)) (sym g) ∙ e) in
+      by (Stays a g) more =
+          let r = more g in
           record { same = ap (λ u. behind_methods p facts o admitted u place k ms) g ∙ r.same; none = each r.none a }
         where
           each : ((i : ℕ) (x : Method) → slice_get ms i ≡ Some x → is_loose_at p facts o admitted t place k x ≡ false) → is_loose_at p facts o admitted t place k m ≡ false → (i : ℕ) (x : Method) → slice_get (m ∷ ms) i ≡ Some x → is_loose_at p facts o admitted t place k x ≡ false
@@ -180,7 +181,7 @@ module _ (p : Program) (facts : Facts) (o : Outside) (admitted : List Bool) wher
   replicate_long zero x = refl
   replicate_long (suc n) x = ap suc (replicate_long n x)
 
-  pub none_counted : (n : ℕ) → count_by is_some (replicate n None) ≡ 0
+  pub none_counted : (n : ℕ) → count_by (λ (x : Option ℕ). is_some x) (replicate n None) ≡ 0
   none_counted zero = refl
   none_counted (suc n) = none_counted n
 

@@ -4,6 +4,7 @@ use Rattle.std.specs.Prelude.{◌&&◌, nat_eq, nat_lt, cond, count_by, slice_ge
 use Rattle.std.specs.List.{list_all}
 use Rattle.std.specs.List.Sorted.{IsNonDecreasingBy, IsPermutation}
 use Rattle.std.proofs.lemmas.Bool.{ltb-false}
+use Rattle.std.proofs.lemmas.List.Sums.{sum_by-cons}
 use Rattle.lemmas.proofs.Bools.{and_both}
 use Rattle.lemmas.proofs.Lists.{got_short, get_map}
 use Rattle.lemmas.proofs.Options.{before_map, some_same}
@@ -21,6 +22,9 @@ use Rattle.staticise.proofs.Few.{few_methods}
 use Rattle.loose_methods.proofs.Marks.{same_or, differ_test}
 use Rattle.loose_methods.proofs.Once.{own_once}
 use Rattle.std.proofs.lemmas.List.Sorted.{sum_by-IsPermutation, All-permutation}
+
+abbrev flag : Bool → ℕ
+flag b = cond b 1 0
 
 module _ (p : Program) where
   pair_fits : (a b : Method) → order_of p a ≤ order_of p b → (a.name ≡ b.name → ⊥) → b.name < 2 ^ 32 → methods_in_order p (a, b) ≡ true
@@ -42,18 +46,20 @@ module _ (p : Program) where
   rising_tail : (x : Method) (xs : List Method) → IsNonDecreasingBy (order_of p) (x ∷ xs) → IsNonDecreasingBy (order_of p) xs
   rising_tail x xs r = λ i j d le lt. r (suc i) (suc j) d (omega (arith, le)) (omega (arith, lt))
 
-  counts : ℕ → List Method → ℕ
+  abbrev counts : ℕ → List Method → ℕ
   counts n ms = count_by (λ m. nat_eq m.name n) ms
 
   in_tail : (n : ℕ) (x : Method) (xs : List Method) → counts n xs ≤ counts n (x ∷ xs)
-  in_tail n x xs = omega arith
+  in_tail n x xs = let s = sum_by-cons (λ (m : Method). cond (nat_eq m.name n) 1 0) x xs in omega (arith, s)
 
   apart : (x y : Method) (xs : List Method) → ((n : ℕ) → counts n (x ∷ y ∷ xs) ≤ 1) → x.name ≡ y.name → ⊥
   apart x y xs h e =
-      let a : cond (nat_eq x.name y.name) 1 0 ≡ 1 = ap (λ b. cond b 1 0) (number_test x.name y.name e) in
-      let b : cond (nat_eq y.name y.name) 1 0 ≡ 1 = ap (λ b. cond b 1 0) (number_test y.name y.name refl) in
+      let a : flag (nat_eq x.name y.name) ≡ 1 = ap flag (number_test x.name y.name e) in
+      let b : flag (nat_eq y.name y.name) ≡ 1 = ap flag (number_test y.name y.name refl) in
       let c = h y.name in
-      omega (arith, a, b, c)
+      let s = sum_by-cons (λ (m : Method). cond (nat_eq m.name y.name) 1 0) x (y ∷ xs) in
+      let r = sum_by-cons (λ (m : Method). cond (nat_eq m.name y.name) 1 0) y xs in
+      omega (arith, a, b, c, s, r)
 
   pub ordered : (xs : List Method) → ((n : ℕ) → count_by (λ m. nat_eq m.name n) xs ≤ 1) → ((i : ℕ) (m : Method) → slice_get xs i ≡ Some m → m.name < 2 ^ 32) → IsNonDecreasingBy (order_of p) xs → IsOrdered p xs
   ordered [] a s r = record { is = refl }
@@ -82,22 +88,25 @@ own_ordered p xs ys a perm r = ordered p ys
 count_none : (n : ℕ) (xs : List Method) → ((i : ℕ) (m : Method) → slice_get xs i ≡ Some m → m.name ≡ n → ⊥) → count_by (λ m. nat_eq m.name n) xs ≡ 0
 count_none n [] h = refl
 count_none n (x ∷ xs) h =
-    let a : cond (nat_eq x.name n) 1 0 ≡ 0 = ap (λ b. cond b 1 0) (differ_test x.name n (h 0 x refl)) in
+    let a : flag (nat_eq x.name n) ≡ 0 = ap flag (differ_test x.name n (h 0 x refl)) in
     let b = count_none n xs (λ i m e. h (suc i) m e) in
-    omega (arith, a, b)
+    let s = sum_by-cons (λ (m : Method). cond (nat_eq m.name n) 1 0) x xs in
+    omega (arith, a, b, s)
 
 count_once : (n : ℕ) (xs : List Method) → ((i j : ℕ) (m x : Method) → slice_get xs i ≡ Some m → slice_get xs j ≡ Some x → m.name ≡ x.name → i ≡ j) → count_by (λ m. nat_eq m.name n) xs ≤ 1
 count_once n [] h = omega arith
 count_once n (x ∷ xs) h = elim (same_or x.name n) [
   | inl s ↦ (
       let b = count_none n xs (λ i m e f. let z : 0 ≡ suc i = h 0 (suc i) x m refl e (s ∙ sym f) in omega (arith, z)) in
-      let a : cond (nat_eq x.name n) 1 0 ≡ 1 = ap (λ b. cond b 1 0) (number_test x.name n s) in
-      omega (arith, a, b)
+      let a : flag (nat_eq x.name n) ≡ 1 = ap flag (number_test x.name n s) in
+      let r = sum_by-cons (λ (m : Method). cond (nat_eq m.name n) 1 0) x xs in
+      omega (arith, a, b, r)
       )
   | inr k ↦ (
       let b = count_once n xs (λ i j m y e f g. let z : suc i ≡ suc j = h (suc i) (suc j) m y e f g in omega (arith, z)) in
-      let a : cond (nat_eq x.name n) 1 0 ≡ 0 = ap (λ b. cond b 1 0) (differ_test x.name n k) in
-      omega (arith, a, b)
+      let a : flag (nat_eq x.name n) ≡ 0 = ap flag (differ_test x.name n k) in
+      let r = sum_by-cons (λ (m : Method). cond (nat_eq m.name n) 1 0) x xs in
+      omega (arith, a, b, r)
       )
 ]
 
@@ -118,6 +127,8 @@ own_mapped f same xs a = record {
     counted : (n : ℕ) (ys : List Method) → count_by (λ m. nat_eq m.name n) (map f ys) ≡ count_by (λ m. nat_eq m.name n) ys
     counted n [] = refl
     counted n (y ∷ ys) =
-        let a : cond (nat_eq (f y).name n) 1 0 ≡ cond (nat_eq y.name n) 1 0 = ap (λ x. cond (nat_eq x n) 1 0) (same y) in
+        let a : flag (nat_eq (f y).name n) ≡ flag (nat_eq y.name n) = ap (λ x. flag (nat_eq x n)) (same y) in
         let b = counted n ys in
-        omega (arith, a, b)
+        let s = sum_by-cons (λ (m : Method). cond (nat_eq m.name n) 1 0) (f y) (map f ys) in
+        let r = sum_by-cons (λ (m : Method). cond (nat_eq m.name n) 1 0) y ys in
+        omega (arith, a, b, s, r)

@@ -54,7 +54,7 @@ module _ (p : Program) (facts : Facts) (o : Outside) (admitted : List Bool) wher
 
   -- ---- what is answered
 
-  module _ (g : Growth) (q : Program) (count : ℕ) (origins : List Origin) (planned : IsPlanned p facts o admitted (Some g)) (is : count ≡ count_by is_some g.given.items) (none : origins ≡ []) (made : IsLoosenedBy p (judged p facts o admitted) q) where
+  module _ (g : Growth) (q : Program) (count : ℕ) (origins : List (List Origin)) (planned : IsPlanned p facts o admitted (Some g)) (is : count ≡ count_by is_some g.given.items) (none : origins ≡ []) (made : IsLoosenedBy p (judged p facts o admitted) q) where
     counted : count ≡ count_given (judged p facts o admitted)
     counted = is ∙ ap (count_by is_some) (sym planned.0.given)
 
@@ -81,7 +81,7 @@ module _ (p : Program) (facts : Facts) (o : Outside) (admitted : List Bool) wher
   pub some_none : (g : Growth) (count : ℕ) → IsPlanned p facts o admitted (Some g) → count ≡ count_by is_some g.given.items → count ≡ 0 → ⊥
   some_none g count planned is z = let l = planned.1 in let e = is ∙ ap (count_by is_some) (sym planned.0.given) in omega (arith, l, e, z)
 
-  module _ (origins : List Origin) (planned : IsPlanned p facts o admitted None) (none : origins ≡ []) where
+  module _ (origins : List (List Origin)) (planned : IsPlanned p facts o admitted None) (none : origins ≡ []) where
     pub none_staticised : IsStaticisedBy p facts o admitted (record { program = p; count = 0; origins = origins })
     none_staticised = record { count = sym planned; same = λ z. refl; loosened = λ l. absurd (omega (arith, l)); origins = none }
 

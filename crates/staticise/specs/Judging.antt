@@ -14,7 +14,7 @@ use Rattle.static_protos.specs.Tables.{Tables, tables_of, wanted, has_room, with
 module _ (p : Program) (facts : Facts) (o : Outside) (admitted : List Bool) where
   -- A method is loose, behind those for which the tables have grown.
   abbrev pub is_loose : Tables → ℕ → Class → Method → MethodName → Proto → Bool
-  is_loose t place k m q proto = may_be_static place k q m && has_room p t (wanted p k m q proto)
+  is_loose t place k m q proto = may_be_static p facts o admitted place k q m && has_room p t (wanted p k m q proto)
 
   abbrev pub is_loose_by : Tables → ℕ → Class → Method → MethodName → Option Proto → Bool
   is_loose_by t place k m q None = false

@@ -25,6 +25,8 @@ use Rattle.const_prop.specs.Folds.{IsFoldedBy, NoneLeft}
 use Rattle.receivers.specs.Receiving.{is_straight}
 use Rattle.devirt.specs.Left.{NoneLeft as NoneBindable}
 use Rattle.devirt.specs.Rebound.{IsReboundBy}
+use Rattle.staticise.specs.Left.{NoneLeft as NoneLoose}
+use Rattle.staticise.specs.Loosened.{IsStaticisedBy}
 use Rattle.copy_prop.specs.Propagated.{IsPropagatedProgram}
 use Rattle.dead_code.specs.Dead.{is_quiet_field}
 use Rattle.dead_code.specs.Wishes.{AreCleaned, NoneDead}
@@ -43,6 +45,7 @@ pub data Pass : Type 0 where
   Reach : Pass
   ConstProp : Pass
   Devirt : Pass
+  Staticise : Pass
   CopyProp : Pass
   DeadCode : Pass
   Squeeze : Pass
@@ -50,7 +53,7 @@ pub data Pass : Type 0 where
 
 -- The passes of a round, in their order.
 abbrev pub passes : List Pass
-passes = Reach ∷ ConstProp ∷ Devirt ∷ CopyProp ∷ DeadCode ∷ Squeeze ∷ Compact ∷ []
+passes = Reach ∷ ConstProp ∷ Devirt ∷ Staticise ∷ CopyProp ∷ DeadCode ∷ Squeeze ∷ Compact ∷ []
 
 -- ---- what each pass does to a well-formed program
 
@@ -128,6 +131,23 @@ pub record IsRebinding (o : Outside) (admitted : List Bool) (p q : Program) (mov
   pub rebinding : Rebinds o admitted p q ⊎ ((q ≡ p) × KeepsForms o admitted p)
   pub still : moved ≡ []
 
+-- Methods are static that can do without a receiver by such facts, and so are their calls. Where the program is left the same, none is
+-- left that can.
+pub record Loosens (o : Outside) (admitted : List Bool) (p q : Program) : Type 0 where
+  pub hierarchy : Hierarchy
+  pub resolved : IsResolved p hierarchy
+  pub facts : Facts
+  pub known : AreKnown o p facts
+  pub changed : Changed
+  pub staticised : IsStaticisedBy p facts o admitted changed
+  pub left : q ≡ changed.program
+  pub none_left : q ≡ p → NoneLoose p facts o admitted
+
+-- Methods that can do without a receiver are static, or nothing changes. No position moves.
+pub record IsLoosening (o : Outside) (admitted : List Bool) (p q : Program) (moved : List (List Origin)) : Type 0 where
+  pub loosening : Loosens o admitted p q ⊎ ((q ≡ p) × KeepsForms o admitted p)
+  pub still : moved ≡ []
+
 -- The verifier refuses some body.
 pub record IsIllTyped (p : Program) (h : Hierarchy) : Type 0 where
   pub method : ℕ
@@ -176,6 +196,7 @@ abbrev pub Does : Outside → List Bool → Pass → Program → Program → Lis
 Does o admitted Reach p q moved = IsRemoval o p q moved
 Does o admitted ConstProp p q moved = IsFolding o admitted p q moved
 Does o admitted Devirt p q moved = IsRebinding o admitted p q moved
+Does o admitted Staticise p q moved = IsLoosening o admitted p q moved
 Does o admitted CopyProp p q moved = IsPropagation admitted p q moved
 Does o admitted DeadCode p q moved = IsCleaning admitted p q moved
 Does o admitted Squeeze p q moved = Thins AreSkips (NothingLeft admitted p) admitted p q moved

@@ -33,7 +33,7 @@ use Rattle.compact.specs.Narrow.{has_narrow_classes}
 use Rattle.compact.specs.Renamed.{IsCompactedProgram}
 use Rattle.kept_bridge.proofs.Compacted.{compacted_kept}
 use Rattle.copy_kept.proofs.Kept.{propagated_kept}
-use Rattle.pipeline.specs.Passes.{Pass, Reach, ConstProp, Devirt, CopyProp, DeadCode, Squeeze, Compact, Removes, IsBarred, IsRemoval, Folds, KeepsForms, IsFolding, Rebinds, IsRebinding, Propagates, KeepsReads, IsPropagation, Thins, IsCleaning, IsCompaction}
+use Rattle.pipeline.specs.Passes.{Pass, Reach, ConstProp, Devirt, Staticise, CopyProp, DeadCode, Squeeze, Compact, Removes, IsBarred, IsRemoval, Folds, KeepsForms, IsFolding, Rebinds, IsRebinding, Loosens, IsLoosening, Propagates, KeepsReads, IsPropagation, Thins, IsCleaning, IsCompaction}
 use Rattle.reach_bridge.specs.Names.{family_of}
 use Rattle.reach_bridge.proofs.Kept.{kept_named}
 use Rattle.reach_bridge.proofs.Within.{shows_the_same, keeps_shuts, keeps_typing}
@@ -43,6 +43,9 @@ use Rattle.rebind_kept.proofs.Shuts.{rebound_holds}
 use Rattle.rebind_kept.proofs.Kept.{rebound_kept}
 use Rattle.outer_law.specs.Shutting.{with_shut}
 use Rattle.alike_law.specs.Virtual.{VirtualsStay}
+use Rattle.static_kept.specs.Owed as along
+use Rattle.static_kept.specs.Passing as loose
+use Rattle.static_kept.proofs.Passing.{loosened_owes}
 use Rattle.static_kept.proofs.Left.{virtuals_numbered, virtuals_removed}
 use Rattle.rounds_bridge.specs.Owed.{IsSound, Owes, Keeps}
 use Rattle.rounds_bridge.proofs.Heads.{others_define}
@@ -151,6 +154,42 @@ module _ (o : Outside) where
   pub devirt_keeps : (admitted : List Bool) → Keeps o admitted Devirt
   devirt_keeps admitted = record { owes = rebinding_owes admitted }
 
+  loosening_owes : (admitted : List Bool) (p q : Program) (moved : List (List Origin)) → IsSound p → IsLoosening o admitted p q moved → Owes o p q
+  loosening_owes admitted p q moved sound h = by h.loosening
+    where
+      known : Loosens o admitted p q → loose.Loosens o admitted p q
+      known x = record {
+        hierarchy = x.hierarchy;
+        resolved = x.resolved;
+        facts = x.facts;
+        certified = x.known.certified;
+        words = x.known.words;
+        makers = x.known.makers;
+        plain = x.known.plain;
+        changed = x.changed;
+        staticised = x.staticised;
+        left = x.left;
+        none_left = x.none_left;
+      }
+
+      owed : along.OwesAlong o p q → Owes o p q
+      owed y = record {
+        sound = record { formed = y.sound.formed; once = y.sound.once; grounded = y.sound.grounded; whole = y.sound.whole; typed = y.sound.typed };
+        virtuals = y.virtuals;
+        outer = y.outer;
+        shuts = y.shuts;
+        fewer = y.fewer;
+        shown = y.shown;
+        holds = y.holds;
+      }
+
+      by : Loosens o admitted p q ⊎ ((q ≡ p) × KeepsForms o admitted p) → Owes o p q
+      by (inl x) = owed (loosened_owes o admitted p q (known x) (record { formed = sound.formed; once = sound.once; grounded = sound.grounded; whole = sound.whole; typed = sound.typed }))
+      by (inr none) = subst (λ (x : Program). Owes o p x) (sym none.0) (owes_same o p sound)
+
+  pub staticise_keeps : (admitted : List Bool) → Keeps o admitted Staticise
+  staticise_keeps admitted = record { owes = loosening_owes admitted }
+
   propagation_owes : (admitted : List Bool) (p q : Program) (moved : List (List Origin)) → IsSound p → IsPropagation admitted p q moved → Owes o p q
   propagation_owes admitted p q moved sound h = by h.propagation
     where
@@ -195,6 +234,7 @@ module _ (o : Outside) where
   each_keeps admitted Reach = reach_keeps admitted
   each_keeps admitted ConstProp = const_prop_keeps admitted
   each_keeps admitted Devirt = devirt_keeps admitted
+  each_keeps admitted Staticise = staticise_keeps admitted
   each_keeps admitted CopyProp = copy_prop_keeps admitted
   each_keeps admitted DeadCode = dead_code_keeps admitted
   each_keeps admitted Squeeze = squeeze_keeps admitted

@@ -8,6 +8,7 @@ use Rattle.facts.specs.declared.facts.Facts.{Facts}
 use Rattle.const_prop.specs.Folds.{NoneLeft}
 use Rattle.receivers.specs.Receiving.{is_straight}
 use Rattle.devirt.specs.Left.{NoneLeft as NoCallLeft}
+use Rattle.staticise.specs.Left.{NoneLeft as NoneLoose}
 use Rattle.pipeline.specs.Passes.{AreKnown}
 
 -- Facts that are known of the program leave nothing to write in the bodies of admitted methods.
@@ -17,6 +18,14 @@ pub record NoneKnown (o : Outside) (admitted : List Bool) (p : Program) : Type 0
   pub facts : Facts
   pub known : AreKnown o p facts
   pub none_left : NoneLeft p hierarchy facts admitted
+
+-- Facts that are known of the program let no method be static that has a receiver.
+pub record NoneLoosable (o : Outside) (admitted : List Bool) (p : Program) : Type 0 where
+  pub hierarchy : Hierarchy
+  pub resolved : IsResolved p hierarchy
+  pub facts : Facts
+  pub known : AreKnown o p facts
+  pub none_left : NoneLoose p facts o admitted
 
 -- Such facts, and the kinds of receivers, leave no call in these bodies to name another method. (`is_straight`: the lists of
 -- interfaces name interfaces alone.)

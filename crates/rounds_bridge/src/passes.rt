@@ -2,7 +2,7 @@
 
 ghost use Rattle.std.specs.Prelude.{Bool, List};
 ghost use Rattle.program_model.specs.declared.pass.Outside.{Outside};
-ghost use Rattle.pipeline.specs.Passes.{Reach, ConstProp, Devirt, CopyProp, DeadCode, Squeeze, Compact};
+ghost use Rattle.pipeline.specs.Passes.{Reach, ConstProp, Devirt, Staticise, CopyProp, DeadCode, Squeeze, Compact};
 ghost use Rattle.rounds_bridge.specs.Owed.{Keeps};
 
 /// A removal of what is not reached keeps what a pass owes, and so does a removal that is barred.
@@ -18,6 +18,11 @@ pub fn const_prop_keeps_law()
 /// Bodies whose calls name what all their receivers find keep what a pass owes.
 pub fn devirt_keeps_law()
     ensures { (o : Outside) (admitted : List Bool) → Keeps o admitted Devirt }
+{}
+
+/// Methods that are static which could do without a receiver keep what a pass owes.
+pub fn staticise_keeps_law()
+    ensures { (o : Outside) (admitted : List Bool) → Keeps o admitted Staticise }
 {}
 
 /// Bodies whose stale reads read originals keep what a pass owes.

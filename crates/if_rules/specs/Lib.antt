@@ -1,0 +1,3 @@
+pub mod Fired
+pub mod Instances
+pub mod Matched

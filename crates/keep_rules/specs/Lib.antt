@@ -4,6 +4,7 @@ pub mod Entries
 pub mod Fits
 pub mod Grown
 pub mod Marks
+pub mod Matching
 pub mod Outside
 pub mod Rows
 pub mod Silent

@@ -1,5 +1,6 @@
 //! What keep rules in ProGuard's language keep of a program: [`outside_of`] answers lists of numbers of the program's
-//! tables, each ascending. The rules themselves are read by `rule_text`, whose calls this crate hands on.
+//! tables, each ascending. The rules themselves are read by `rule_text`, whose calls this crate hands on. What a class specification and its
+//! lines match stands open to `if_rules`.
 #![tactic(auto)]
 
 mod above;
@@ -9,11 +10,14 @@ mod describe;
 mod fit;
 mod keep;
 mod marks;
+mod matching;
 mod members;
 mod names;
 mod outside;
 mod tables;
 mod view;
 
+pub use matching::classes_matched;
+pub use members::{field_fits, method_fits};
 pub use outside::outside_of;
 pub use rule_text::{RuleFault, Rules, read_rules};

@@ -1,0 +1,184 @@
+//! The table of rules some of which have a condition.
+
+ghost use Rattle.std.specs.Prelude.{◌≡◌, ◌<◌, ◌≤◌, ◌+◌, ◌^◌, ◌++◌, List, [], true, false, length, IfOk, OnOk};
+ghost use Rattle.hierarchy.specs.Shapes.{IsResolved};
+ghost use Rattle.program_model.specs.ProgramRules.{is_well_formed};
+ghost use Rattle.if_text.specs.Items.{Item};
+ghost use Rattle.if_text.specs.Readings.{AreRead};
+ghost use Rattle.if_rules.specs.Fired.{IsTableOf};
+
+use crate::instances::{Instance, instances_of};
+use crate::live::holds;
+use call_graph::{LiveSet, live_members};
+use hierarchy::Hierarchy;
+use if_text::{IfRule, IfRules};
+use keep_rules::outside_of as table_of;
+use program_model::{Outside, Program};
+use rule_text::{Entry, RuleFault, Rules, read_rules};
+use std::alloc::{AllocError, Global};
+
+/// More bytes than a text may have.
+const TOO_LONG: usize = 1 << 32;
+
+/// The rules that the text of an instance spells, none where it spells none. A text too long to be read counts as want of memory.
+fn spelled(alloc: Global, text: &[u8]) -> Result<Vec<Entry>, AllocError> {
+    if text.len() >= TOO_LONG {
+        return Err(AllocError);
+    }
+    match read_rules(alloc, text) {
+        Ok(rules) => Ok(rules.entries),
+        Err(RuleFault::NoMemory) => Err(AllocError),
+        Err(_) => Ok(Vec::new(alloc)),
+    }
+}
+
+/// Adds the rules of an instance.
+fn add(alloc: Global, instance: &Instance, entries: &mut Vec<Entry>) -> Result<(), AllocError> {
+    let rules = spelled(alloc, instance.text.as_slice())?;
+    for rule in rules {
+        entries.push(rule)?;
+    }
+    Ok(())
+}
+
+/// Adds the rules of an instance that holds and wasn't added, and answers whether it did.
+fn add_one(
+    alloc: Global,
+    instance: &Instance,
+    added: bool,
+    rules: &[IfRule],
+    program: &Program,
+    live: &LiveSet,
+    entries: &mut Vec<Entry>,
+    row: &mut Vec<bool>,
+) -> Result<bool, AllocError> {
+    if added {
+        return Ok(false);
+    }
+    let holds = holds(rules, instance, program, live, row)?;
+    if !holds {
+        return Ok(false);
+    }
+    add(alloc, instance, entries)?;
+    Ok(true)
+}
+
+/// Adds the rules of each instance that holds and wasn't added, and answers how many there were.
+fn add_each(
+    alloc: Global,
+    instances: &[Instance],
+    added: &mut [bool],
+    rules: &[IfRule],
+    program: &Program,
+    live: &LiveSet,
+    entries: &mut Vec<Entry>,
+) -> Result<usize, AllocError>
+    requires { length added.old ≡ length instances.now }
+{
+    let mut count: usize = 0;
+    let mut row = Vec::new(alloc);
+    for place in 0..instances.len() {
+        let instance = &instances[place];
+        let one = add_one(
+            alloc,
+            instance,
+            added[place],
+            rules,
+            program,
+            live,
+            entries,
+            &mut row,
+        )?;
+        if one {
+            added[place] = true;
+            count += 1;
+        }
+    }
+    Ok(count)
+}
+
+/// No instance was added.
+fn none_added(alloc: Global, count: usize) -> Result<Vec<bool>, AllocError> {
+    let mut added = Vec::new(alloc);
+    added.resize(count, false)?;
+    Ok(added)
+}
+
+/// Adds the rules of the instances that hold by a table, and answers how many there were.
+fn add_by(
+    alloc: Global,
+    instances: &[Instance],
+    added: &mut [bool],
+    rules: &mut IfRules,
+    program: &Program,
+    hierarchy: &Hierarchy,
+    table: &Outside,
+) -> Result<usize, AllocError>
+    requires { length added.old ≡ length instances.now }
+{
+    let live = live_members(alloc, program, hierarchy, table)?;
+    add_each(
+        alloc,
+        instances,
+        added,
+        rules.ifs.as_slice(),
+        program,
+        &live,
+        &mut rules.plain.entries,
+    )
+}
+
+/// The table behind which no instance holds that wasn't added.
+fn settle(
+    alloc: Global,
+    instances: &[Instance],
+    rules: &mut IfRules,
+    program: &Program,
+    hierarchy: &Hierarchy,
+) -> Result<Outside, AllocError>
+    requires types { length program.now.types < 2 ^ 32 }
+    requires fields { length program.now.fields < 2 ^ 32 }
+    requires methods { length program.now.methods < 2 ^ 32 }
+    requires classes { length program.now.classes < 2 ^ 32 }
+{
+    let mut added = none_added(alloc, instances.len())?;
+    let mut left = instances.len();
+    loop {
+        let table = table_of(alloc, &rules.plain, program, hierarchy)?;
+        let count = add_by(
+            alloc,
+            instances,
+            added.as_mut_slice(),
+            rules,
+            program,
+            hierarchy,
+            &table,
+        )?;
+        if count == 0 {
+            return Ok(table);
+        }
+        left -= count;
+    }
+}
+
+/// What the rules keep of the program, by number: the table of the rules without a condition, and of the instances of those with one that hold
+/// where something is live by such a table. Without a rule that has a condition it is the table of the rules. Where it is answered, the rules
+/// of the instances stand behind those without a condition. The only error is want of memory.
+pub fn outside_of(
+    alloc: Global,
+    rules: &mut IfRules,
+    program: &Program,
+    hierarchy: &Hierarchy,
+) -> Result<Outside, AllocError>
+    requires types { length program.now.types < 2 ^ 32 }
+    requires fields { length program.now.fields < 2 ^ 32 }
+    requires methods { length program.now.methods < 2 ^ 32 }
+    requires classes { length program.now.classes < 2 ^ 32 }
+    ensures { (items : List Item) → is_well_formed program.now ≡ true → IsResolved program.now hierarchy.now → AreRead items rules.old → IfOk result (IsTableOf program.now items) }
+{
+    if rules.ifs.is_empty() {
+        return table_of(alloc, &rules.plain, program, hierarchy);
+    }
+    let instances = instances_of(alloc, rules.ifs.as_slice(), program, hierarchy)?;
+    settle(alloc, instances.as_slice(), rules, program, hierarchy)
+}

@@ -1,0 +1,4 @@
+mod Halts
+mod Items
+mod Kept
+mod Loops

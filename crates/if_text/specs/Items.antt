@@ -1,6 +1,6 @@
 -- Rules with conditions (ProGuard manual, "Keep options", -if): `-if`, a class specification, and a keep rule in whose words a reference
 -- may stand wherever a name may. A text spells such rules among rules and options that have no condition.
-use Rattle.std.specs.Prelude.{◌≡◌, ◌≤◌, ℕ, ◌+◌, Bool, true, false, if◌then◌else◌, List, [], ◌∷◌, ◌++◌, map, codes, All}
+use Rattle.std.specs.Prelude.{◌≡◌, ◌≤◌, ℕ, ◌+◌, Bool, true, false, if◌then◌else◌, List, [], ◌∷◌, ◌++◌, map, codes}
 use Rattle.std.specs.List.{flat_map, list_all, list_any}
 use Rattle.std.specs.Str.{IsUtf8}
 use Rattle.rule_text.specs.Places.{is_keep}
@@ -47,6 +47,10 @@ abbrev pub IsItem : Item → Type 0
 IsItem (Plain e) = is_entry e ≡ true
 IsItem (If r) = IsIfRule r
 
+abbrev pub AreItems : List Item → Type 0
+AreItems [] = Unit {0}
+AreItems (i ∷ is) = IsItem i × AreItems is
+
 -- a rule with its condition is one rule
 abbrev pub count_items : List Item → ℕ
 count_items [] = 0
@@ -56,7 +60,7 @@ count_items (If r ∷ is) = 1 + count_items is
 -- a text spells rules and options, some of them with a condition
 pub record SpellsItems (text : List ℕ) (items : List Item) : Type 0 where
   pub characters : IsUtf8 text
-  pub written : All IsItem items
+  pub written : AreItems items
   pub words : flat_map item_words items ≡ words_of text
   pub few : count_items items ≤ 4096
 

@@ -7,4 +7,4 @@ use Rattle.if_text.specs.declared.slots.Source.TheVariants.{Line}
 -- so many slots of a line that has begun at a place
 pub record Adds (start count : ℕ) (old new : List Source) : Type 0 where
   pub is : new ≡ old ++ numbered (λ i. Line i) (length old - start) count
-  pub long : start ≤ length new
+  pub begun : start ≤ length old

@@ -1,5 +1,5 @@
 -- What is known behind each step of reading a text with conditions.
-use Rattle.std.specs.Prelude.{◌≡◌, ◌<◌, ℕ, suc, true, false, List, [], ◌∷◌, ◌++◌, map, take, Vec, All}
+use Rattle.std.specs.Prelude.{◌≡◌, ◌≤◌, ◌+◌, ℕ, true, false, if◌then◌else◌, List, ◌∷◌, ◌++◌, map, Vec}
 use Rattle.std.specs.List.{list_all}
 use Rattle.std.specs.declared.alloc.Global.{Global}
 use Rattle.rule_text.specs.Halts.{IsRefusedEntry}
@@ -9,8 +9,8 @@ use Rattle.rule_text.specs.Tokens.{Word}
 use Rattle.rule_text.specs.declared.stop.Halt.{Halt}
 use Rattle.rule_text.specs.declared.stop.Halt.TheVariants as halt
 use Rattle.rule_text.specs.declared.token.Token.{Token as Lexed}
-use Rattle.if_text.specs.Faults.{IsKeptTo, IsConditionTo, ItemsTo}
-use Rattle.if_text.specs.Items.{IfRule, Item, are_good}
+use Rattle.if_text.specs.Faults.{IsKeptTo, IsConditionTo, ItemsTo, begins_item}
+use Rattle.if_text.specs.Items.{IfRule, Item, are_good, count_items}
 use Rattle.if_text.specs.Parts.{parts_of}
 use Rattle.if_text.specs.Readings.{AreRead, IsIfOf}
 use Rattle.if_text.specs.Wildcards.{is_good_in}
@@ -67,6 +67,17 @@ pub record ReadsTo (tokens hidden : List Lexed) (at : ℕ) (rules : IfRules) : T
   pub are : ItemsTo tokens hidden at items
   pub read : AreRead items rules
 
+-- with so many rules
+pub record ReadsCounted (tokens hidden : List Lexed) (at : ℕ) (rules : IfRules) (count : ℕ) : Type 0 where
+  pub reads : ReadsTo tokens hidden at rules
+  pub counted : count_items reads.items ≡ count
+
 -- one more was read behind others
 abbrev pub AddsItem : List Lexed → List Lexed → ℕ → ℕ → IfRules → IfRules → Type 0
-AddsItem tokens hidden at next old new = ReadsTo tokens hidden at old → ReadsTo tokens hidden next new
+AddsItem tokens hidden at next old new =
+    (count : ℕ) → ReadsCounted tokens hidden at old count → ReadsCounted tokens hidden next new (count + (if begins_item (first_word (words_at tokens at)) then 1 else 0))
+
+-- no more rules than a text may have
+pub record ReadsFew (tokens hidden : List Lexed) (at : ℕ) (rules : IfRules) : Type 0 where
+  pub reads : ReadsTo tokens hidden at rules
+  pub few : count_items reads.items ≤ 4096

@@ -51,8 +51,10 @@ fn number_of(digits: &[u8]) -> u32
     ensures { result ≡ number_from 0 digits.now }
 {
     let mut number = 0;
-    for digit in digits {
+    let mut rest = digits;
+    while let [digit, behind @ ..] = rest {
         number = next_number(number, *digit);
+        rest = behind;
     }
     number
 }
@@ -130,8 +132,10 @@ pub fn parts_of(alloc: Global, word: &[u8]) -> Result<Vec<Part>, AllocError>
 {
     let mut parts = Vec::new(alloc);
     let mut open = Vec::new(alloc);
-    for byte in word {
+    let mut rest = word;
+    while let [byte, behind @ ..] = rest {
         step(&mut parts, &mut open, *byte)?;
+        rest = behind;
     }
     give_up(&mut parts, &mut open)?;
     Ok(parts)
@@ -148,10 +152,12 @@ fn is_reference(part: Part) -> bool
 pub fn some_reference(parts: &[Part]) -> bool
     ensures { result ≡ list_any is_reference parts.now }
 {
-    for part in parts {
+    let mut rest = parts;
+    while let [part, behind @ ..] = rest {
         if is_reference(*part) {
             return true;
         }
+        rest = behind;
     }
     false
 }

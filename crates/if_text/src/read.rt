@@ -1,18 +1,19 @@
 //! Reading of a text.
 
-ghost use Rattle.std.specs.Prelude.{◌≡◌, ◌+◌, ◌<◌, ◌≤◌, ◌^◌, ◌∷◌, ◌++◌, ℕ, List, true, false, map, suc, if◌then◌else◌, length, IsTrue, IsErr, OnOk, IfOk, IfErr, IfSome, IfNone, MatchOption};
+ghost use Rattle.std.specs.Prelude.{◌≡◌, ◌+◌, ◌<◌, ◌≤◌, ◌^◌, [], ℕ, List, Vec, true, false, map, suc, take, if◌then◌else◌, length, slice_index_or, OnOk, IfOk, IfErr, MatchOption};
+ghost use Rattle.std.specs.declared.alloc.Global.{Global as Heap};
 ghost use Rattle.std.specs.List.{list_all};
 ghost use Rattle.std.specs.Str.{IsUtf8, IsValidUpTo};
+ghost use Rattle.rule_text.specs.Fault.{IsFault};
 ghost use Rattle.rule_text.specs.Fronts.{AreTokensOf};
-ghost use Rattle.rule_text.specs.Rules as meant;
-ghost use Rattle.rule_text.specs.Steps.{first_word, words_at};
 ghost use Rattle.rule_text.specs.declared.stop.Halt.TheVariants.{TooMany};
-ghost use Rattle.if_text.specs.Faults.{AreMasked, ItemsTo, is_if_at, IsConditionTo, HaltsItem, HaltsItems, IsItemFault, IsIfFault, begins_item};
-ghost use Rattle.if_text.specs.Items.{Item, SpellsItems};
+ghost use Rattle.rule_text.specs.declared.token.Token.{Token as Lexed};
+ghost use Rattle.if_text.specs.Faults.{AreMasked, is_if_at, HaltsItem, HaltsItems, IsRefusedAt, IsOptionAt, IsItemFault, IsFaultIn, HasIfFault, IsIfFault, begins_item};
 ghost use Rattle.if_text.specs.Parts.{parts_of};
-ghost use Rattle.if_text.specs.Steps.{AddsItem, HaltsKept, ReadsKept, ReadsIf, ReadsTo};
+ghost use Rattle.if_text.specs.Steps.{AddsItem, HaltsKept, ReadsKept, ReadsIf, ReadsFew};
 ghost use Rattle.if_text.specs.Readings.{IsIfReading};
-ghost use Rattle.if_text.specs.Wildcards.{slots, is_good_in};
+ghost use Rattle.if_text.specs.Wildcards.{is_good_in};
+ghost use Rattle.if_text.specs.declared.parts.Part.{Part as Parted};
 
 use crate::parts::{Part, parts_of};
 use crate::rules::{IfRule, IfRules};
@@ -31,8 +32,10 @@ fn parts_of_each(alloc: Global, tokens: &[Token<'_>]) -> Result<Vec<Vec<Part>>, 
     ensures { IfOk result (λ words. map (λ parts. parts.items) words.items ≡ map (λ t. parts_of t.word.now) tokens.now) }
 {
     let mut words = Vec::new(alloc);
-    for token in tokens {
+    let mut rest = tokens;
+    while let [token, behind @ ..] = rest {
         words.push(parts_of(alloc, token.word)?)?;
+        rest = behind;
     }
     Ok(words)
 }
@@ -51,11 +54,12 @@ fn is_good(slots: &[Source], part: Part) -> bool
 fn are_good(slots: &[Source], parts: &[Part]) -> bool
     ensures { result ≡ list_all (is_good_in slots.now) parts.now }
 {
-    for part in parts {
-        let good = is_good(slots, *part);
-        if !good {
+    let mut rest = parts;
+    while let [part, behind @ ..] = rest {
+        if !is_good(slots, *part) {
             return false;
         }
+        rest = behind;
     }
     true
 }
@@ -64,7 +68,7 @@ fn are_good(slots: &[Source], parts: &[Part]) -> bool
 fn first_bad(slots: &[Source], words: &[Vec<Part>]) -> usize
     ensures inside { result ≤ length words.now }
     ensures before { list_all (λ parts. list_all (is_good_in slots.now) parts.items) (take result words.now) ≡ true }
-    ensures there { (parts : Vec Part Global) → slice_get words.now result ≡ Some parts → list_all (is_good_in slots.now) parts.items ≡ false }
+    ensures there { (parts : Vec Parted Heap) → result < length words.now → parts ≡ slice_index_or words.now result parts → list_all (is_good_in slots.now) parts.items ≡ false }
 {
     let mut at: usize = 0;
     while at < words.len() {
@@ -185,9 +189,8 @@ fn read_items(
     requires begin { at.old ≡ 0 }
     requires none { rules.old.plain.entries.items ≡ [] }
     requires no_ifs { rules.old.ifs.items ≡ [] }
-    ensures step { OnOk result (ReadsTo tokens.now hidden.now (length tokens.now) rules.new) }
+    ensures step { OnOk result (ReadsFew tokens.now hidden.now (length tokens.now) rules.new) }
     ensures halt { IfErr result (HaltsItems tokens.now hidden.now at.new) }
-    ensures some { IsErr result → 0 < length tokens.now }
 {
     let mut count: u32 = 0;
     while *at < tokens.len() {
@@ -198,7 +201,10 @@ fn read_items(
 }
 
 /// The fault of a token that fits nothing, or of a text that ends too early.
-fn syntax_fault(tokens: &Tokens<'_>, at: usize) -> RuleFault {
+fn syntax_fault(tokens: &Tokens<'_>, at: usize) -> RuleFault
+    requires { tokens.now.ends + 1 < 2 ^ 32 }
+    ensures { (hidden : List Lexed) → IsRefusedAt tokens.now.items.items hidden at → IsItemFault tokens.now hidden result }
+{
     match tokens.items.get(at) {
         Some(token) => RuleFault::Syntax { line: token.line },
         None => RuleFault::Syntax {
@@ -208,7 +214,10 @@ fn syntax_fault(tokens: &Tokens<'_>, at: usize) -> RuleFault {
 }
 
 /// The fault of an option that isn't known.
-fn option_fault(tokens: &Tokens<'_>, at: usize) -> RuleFault {
+fn option_fault(tokens: &Tokens<'_>, at: usize) -> RuleFault
+    requires { tokens.now.ends + 1 < 2 ^ 32 }
+    ensures { (hidden : List Lexed) → IsOptionAt tokens.now.items.items hidden at → IsItemFault tokens.now hidden result }
+{
     match tokens.items.get(at) {
         Some(token) => RuleFault::Option { line: token.line },
         None => syntax_fault(tokens, at),

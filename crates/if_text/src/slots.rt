@@ -148,8 +148,10 @@ fn push_condition(out: &mut Vec<Source>, condition: &Condition) -> Result<(), Al
 fn push_conditions(out: &mut Vec<Source>, conditions: &[Condition]) -> Result<(), AllocError>
     ensures { (cs : List meant.Condition) → AreEach IsConditionOf conditions.now cs → OnOk result (out.new.items ≡ out.old.items ++ flat_map condition_slots cs) }
 {
-    for condition in conditions {
+    let mut rest = conditions;
+    while let [condition, behind @ ..] = rest {
         push_condition(out, condition)?;
+        rest = behind;
     }
     Ok(())
 }
@@ -158,8 +160,10 @@ fn push_conditions(out: &mut Vec<Source>, conditions: &[Condition]) -> Result<()
 fn push_blank_names(out: &mut Vec<Source>, names: &[NamePattern]) -> Result<(), AllocError>
     ensures { (ws : List Word) → AreEach IsPatternOf names.now ws → OnOk result (out.new.items ≡ out.old.items ++ flat_map (λ w. blanks (name_wilds w)) ws) }
 {
-    for name in names {
+    let mut rest = names;
+    while let [name, behind @ ..] = rest {
         push_blank_name(out, name)?;
+        rest = behind;
     }
     Ok(())
 }
@@ -216,8 +220,10 @@ fn push_line_types(out: &mut Vec<Source>, start: usize, kinds: &[TypePattern]) -
     requires { start ≤ length out.old.items }
     ensures { (ws : List Word) → AreEach IsTypeOf kinds.now ws → OnOk result (Adds start (sum_by type_wilds ws) out.old.items out.new.items) }
 {
-    for kind in kinds {
+    let mut rest = kinds;
+    while let [kind, behind @ ..] = rest {
         push_line_type(out, start, kind)?;
+        rest = behind;
     }
     Ok(())
 }

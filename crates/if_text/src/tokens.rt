@@ -23,11 +23,12 @@ pub fn is_if(word: &[u8]) -> bool
 pub fn has_if(tokens: &[Token<'_>]) -> bool
     ensures { result ≡ list_any (λ t. word_eq t.word.now if_word) tokens.now }
 {
-    for token in tokens {
-        let is = is_if(token.word);
-        if is {
+    let mut rest = tokens;
+    while let [token, behind @ ..] = rest {
+        if is_if(token.word) {
             return true;
         }
+        rest = behind;
     }
     false
 }
@@ -80,12 +81,14 @@ pub fn masked_tokens<'a>(
     ensures { IfOk result (λ hidden. AreMasked tokens.now hidden.items) }
 {
     let mut hidden = Vec::new(alloc);
-    for token in tokens {
+    let mut rest = tokens;
+    while let [token, behind @ ..] = rest {
         let word = masked(alloc, token.word)?;
         hidden.push(Token {
             word,
             line: token.line,
         })?;
+        rest = behind;
     }
     Ok(hidden)
 }

@@ -1,9 +1,7 @@
 //! The text of an instance.
 
-ghost use Rattle.std.specs.Prelude.{◌≡◌, ◌<◌, ◌+◌, ◌-◌, ◌*◌, ◌^◌, ◌++◌, ◌∷◌, ◌&&◌, nat_le, IfOk, OnOk};
-ghost use Rattle.std.specs.List.{flat_map, list_any};
-ghost use Rattle.rule_text.specs.Glob.{begins_pair};
-ghost use Rattle.if_text.specs.Wildcards.{source_in};
+ghost use Rattle.std.specs.Prelude.{◌≡◌, ◌<◌, ◌++◌, ◌&&◌, [], true, length, nat_le, slice_index_or, IfOk, OnOk};
+ghost use Rattle.std.specs.List.{list_any};
 ghost use Rattle.if_rules.specs.Instances.{unit_bytes, code_of, code_bytes, utf8, text_of, part_bytes, parts_bytes, words_bytes, is_line, names_line};
 ghost use Rattle.if_rules.specs.Lists.{lists_of};
 ghost use Rattle.if_rules.specs.Filled.{texts_in};
@@ -60,7 +58,10 @@ fn code_of(high: u16, low: u16) -> u32
 }
 
 /// Adds the first character of a text, and answers what is behind it.
-fn push_first<'t>(out: &mut Vec<u8>, text: &'t [u16]) -> Result<&'t [u16], AllocError> {
+fn push_first<'t>(out: &mut Vec<u8>, text: &'t [u16]) -> Result<&'t [u16], AllocError>
+    ensures is { IfOk result (λ rest. out.new.items ++ utf8 rest.now ≡ out.old.items ++ utf8 text.now) }
+    ensures short { IfOk result (λ rest. 0 < length text.now → length rest.now < length text.now) }
+{
     match text {
         [high @ 0xd800..=0xdbff, low @ 0xdc00..=0xdfff, behind @ ..] => {
             push_code(out, code_of(*high, *low))?;
@@ -86,7 +87,9 @@ fn push_utf8(out: &mut Vec<u8>, text: &[u16]) -> Result<(), AllocError>
 }
 
 /// The text with a number.
-fn text_at(texts: &[Vec<u16>], place: usize) -> &[u16] {
+fn text_at(texts: &[Vec<u16>], place: usize) -> &[u16]
+    ensures { result.now ≡ slice_index_or (lists_of texts.now) place [] }
+{
     match texts.get(place) {
         Some(text) => text.as_slice(),
         None => &[],

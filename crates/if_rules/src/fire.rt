@@ -1,11 +1,14 @@
 //! The table of rules some of which have a condition.
 
-ghost use Rattle.std.specs.Prelude.{◌≡◌, ◌<◌, ◌≤◌, ◌+◌, ◌^◌, ◌++◌, List, [], true, false, length, IfOk, OnOk};
+ghost use Rattle.std.specs.Prelude.{◌≡◌, ◌<◌, ◌^◌, ◌&&◌, List, [], true, false, not, length, replicate, All, IfOk, OnOk};
 ghost use Rattle.hierarchy.specs.Shapes.{IsResolved};
 ghost use Rattle.program_model.specs.ProgramRules.{is_well_formed};
-ghost use Rattle.if_text.specs.Items.{Item};
-ghost use Rattle.if_text.specs.Readings.{AreRead};
-ghost use Rattle.if_rules.specs.Fired.{IsTableOf};
+ghost use Rattle.rule_text.specs.Related.{AreEach};
+ghost use Rattle.if_text.specs.Items.{IfRule as Meant, Item, plain_of, ifs_of};
+ghost use Rattle.if_text.specs.Readings.{AreRead, IsIfOf};
+ghost use Rattle.if_rules.specs.Added.{AddsBy, AddsRound, AddsText, holds};
+ghost use Rattle.if_rules.specs.Fired.{IsSettled, IsTableOf};
+ghost use Rattle.if_rules.specs.Listed.{AreInstances, IsInstance};
 
 use crate::instances::{Instance, instances_of};
 use crate::live::holds;
@@ -18,10 +21,12 @@ use rule_text::{Entry, RuleFault, Rules, read_rules};
 use std::alloc::{AllocError, Global};
 
 /// More bytes than a text may have.
-const TOO_LONG: usize = 1 << 32;
+const TOO_LONG: usize = 4_294_967_296;
 
 /// The rules that the text of an instance spells, none where it spells none. A text too long to be read counts as want of memory.
-fn spelled(alloc: Global, text: &[u8]) -> Result<Vec<Entry>, AllocError> {
+fn spelled(alloc: Global, text: &[u8]) -> Result<Vec<Entry>, AllocError>
+    ensures { IfOk result (λ rules. AddsText text.now [] rules.items) }
+{
     if text.len() >= TOO_LONG {
         return Err(AllocError);
     }
@@ -33,7 +38,9 @@ fn spelled(alloc: Global, text: &[u8]) -> Result<Vec<Entry>, AllocError> {
 }
 
 /// Adds the rules of an instance.
-fn add(alloc: Global, instance: &Instance, entries: &mut Vec<Entry>) -> Result<(), AllocError> {
+fn add(alloc: Global, instance: &Instance, entries: &mut Vec<Entry>) -> Result<(), AllocError>
+    ensures { OnOk result (AddsText instance.now.text.items entries.old.items entries.new.items) }
+{
     let rules = spelled(alloc, instance.text.as_slice())?;
     for rule in rules {
         entries.push(rule)?;
@@ -51,12 +58,16 @@ fn add_one(
     live: &LiveSet,
     entries: &mut Vec<Entry>,
     row: &mut Vec<bool>,
-) -> Result<bool, AllocError> {
+) -> Result<bool, AllocError>
+    ensures tells { (rs : List Meant) → is_well_formed program.now ≡ true → AreEach IsIfOf rules.now rs → IfOk result (λ one. one ≡ (not added && holds program.now live.now rs instance.now)) }
+    ensures adds { IfOk result (λ one. one ≡ true → AddsText instance.now.text.items entries.old.items entries.new.items) }
+    ensures stays { IfOk result (λ one. one ≡ false → entries.new.items ≡ entries.old.items) }
+{
     if added {
         return Ok(false);
     }
-    let holds = holds(rules, instance, program, live, row)?;
-    if !holds {
+    let there = holds(rules, instance, program, live, row)?;
+    if !there {
         return Ok(false);
     }
     add(alloc, instance, entries)?;
@@ -74,6 +85,8 @@ fn add_each(
     entries: &mut Vec<Entry>,
 ) -> Result<usize, AllocError>
     requires { length added.old ≡ length instances.now }
+    ensures { (rs : List Meant) → is_well_formed program.now ≡ true → AreEach IsIfOf rules.now rs → All (IsInstance program.now rs) instances.now
+        → IfOk result (λ count. AddsRound program.now live.now rs instances.now count added.old added.new entries.old.items entries.new.items) }
 {
     let mut count: usize = 0;
     let mut row = Vec::new(alloc);
@@ -98,7 +111,9 @@ fn add_each(
 }
 
 /// No instance was added.
-fn none_added(alloc: Global, count: usize) -> Result<Vec<bool>, AllocError> {
+fn none_added(alloc: Global, count: usize) -> Result<Vec<bool>, AllocError>
+    ensures { IfOk result (λ added. added.items ≡ replicate count false) }
+{
     let mut added = Vec::new(alloc);
     added.resize(count, false)?;
     Ok(added)
@@ -115,6 +130,9 @@ fn add_by(
     table: &Outside,
 ) -> Result<usize, AllocError>
     requires { length added.old ≡ length instances.now }
+    ensures ifs { rules.new.ifs.items ≡ rules.old.ifs.items }
+    ensures adds { (rs : List Meant) → is_well_formed program.now ≡ true → IsResolved program.now hierarchy.now → AreEach IsIfOf rules.old.ifs.items rs → All (IsInstance program.now rs) instances.now
+        → IfOk result (AddsBy program.now table.now rs instances.now added.old added.new rules.old.plain.entries.items rules.new.plain.entries.items) }
 {
     let live = live_members(alloc, program, hierarchy, table)?;
     add_each(
@@ -140,6 +158,8 @@ fn settle(
     requires fields { length program.now.fields < 2 ^ 32 }
     requires methods { length program.now.methods < 2 ^ 32 }
     requires classes { length program.now.classes < 2 ^ 32 }
+    ensures { (items : List Item) → is_well_formed program.now ≡ true → IsResolved program.now hierarchy.now → AreRead items rules.old → AreInstances program.now (ifs_of items) instances.now
+        → IfOk result (IsSettled program.now (plain_of items) (ifs_of items)) }
 {
     let mut added = none_added(alloc, instances.len())?;
     let mut left = instances.len();

@@ -1,12 +1,20 @@
 //! The instances that the rules with conditions may have in a program, whatever is live.
 
-ghost use Rattle.std.specs.Prelude.{◌≡◌, ◌<◌, ◌≤◌, ◌^◌, ◌++◌, List, true, length, IfOk, OnOk};
+ghost use Rattle.std.specs.Prelude.{◌≡◌, ◌<◌, ◌^◌, ◌∷◌, [], List, true, false, length, slice_get, Some, IfOk, IfSome, IfNone, OnOk};
 ghost use Rattle.hierarchy.specs.Shapes.{IsOf};
 ghost use Rattle.program_model.specs.ProgramRules.{is_well_formed};
-ghost use Rattle.rule_text.specs.Related.{AreEach};
+ghost use Rattle.keep_rules.specs.Fits.{has_names};
+ghost use Rattle.keep_rules.specs.Matching.{IsMatchedAt};
+ghost use Rattle.rule_defs.specs.Kept.{lines_of};
+ghost use Rattle.rule_text.specs.Related.{AreEach, AreBoth, AreMembersOf, IsMemberOf};
+ghost use Rattle.rule_text.specs.Rules as meant;
 ghost use Rattle.if_text.specs.Items.{IfRule as Meant};
 ghost use Rattle.if_text.specs.Readings.{IsIfOf};
-ghost use Rattle.if_rules.specs.Listed.{AreInstances, AddsClass, AddsMembers, AddsRule};
+ghost use Rattle.if_rules.specs.Filled.{texts_in};
+ghost use Rattle.if_rules.specs.Instances.{names_of, uses_line, words_bytes};
+ghost use Rattle.if_rules.specs.Lists.{lists_of};
+ghost use Rattle.if_rules.specs.Listed.{AreInstances, Grew, IsGiven, IsOnly, OfChoice, OfFields, OfMethods, OfPlace, OfRule, PushesOne};
+ghost use Rattle.if_rules.specs.declared.instances.Choice.TheVariants as choice;
 
 use crate::fill::{Texts, filled, uses_line};
 use crate::texts::{class_texts, descriptor, field_texts, method_texts};
@@ -49,7 +57,9 @@ fn names_at(
     program: &Program,
     class: &Class,
     row: &mut Vec<bool>,
-) -> Result<Vec<Vec<u16>>, AllocError> {
+) -> Result<Vec<Vec<u16>>, AllocError>
+    ensures { (r : Meant) → IsIfOf at.now.rule.now r → IfOk result (λ out. lists_of out.items ≡ names_of program.now r.condition class.now) }
+{
     let names = at.rule.condition.names.as_slice();
     class_texts(alloc, names, descriptor(program, class.name), row)
 }
@@ -61,7 +71,9 @@ fn push_instance(
     choice: Choice,
     texts: &Texts,
     out: &mut Vec<Instance>,
-) -> Result<(), AllocError> {
+) -> Result<(), AllocError>
+    ensures { OnOk result (PushesOne at.now.number at.now.class choice (words_bytes at.now.rule.now.slots.items (texts_in texts.now) (lists_of at.now.rule.now.words.items)) out.old.items out.new.items) }
+{
     let text = filled(
         alloc,
         at.rule.slots.as_slice(),
@@ -85,7 +97,10 @@ fn push_each(
     class: &Class,
     row: &mut Vec<bool>,
     out: &mut Vec<Instance>,
-) -> Result<(), AllocError> {
+) -> Result<(), AllocError>
+    ensures { (rs : List Meant) (g : IsGiven program.now rs at.now.rule.now at.now.number at.now.class class.now) → uses_line g.rule ≡ false
+        → OnOk result (Grew program.now rs (OfChoice at.now.number at.now.class choice.Each) out.old.items out.new.items) }
+{
     let texts = Texts {
         name: names_at(alloc, at, program, class, row)?,
         line: Vec::new(alloc),
@@ -103,7 +118,10 @@ fn push_method(
     place: usize,
     row: &mut Vec<bool>,
     out: &mut Vec<Instance>,
-) -> Result<(), AllocError> {
+) -> Result<(), AllocError>
+    ensures { (rs : List Meant) (g : IsGiven program.now rs at.now.rule.now at.now.number at.now.class class.now) (m : meant.MemberRule) → has_names program.now class.now ≡ true → uses_line g.rule ≡ true → lines_of g.rule.condition ≡ m ∷ [] → IsMemberOf line.now m
+        → OnOk result (Grew program.now rs (OfChoice at.now.number at.now.class (choice.Method place)) out.old.items out.new.items) }
+{
     let Some(method) = class.methods.as_slice().get(place) else {
         return Ok(());
     };
@@ -128,7 +146,10 @@ fn push_field(
     place: usize,
     row: &mut Vec<bool>,
     out: &mut Vec<Instance>,
-) -> Result<(), AllocError> {
+) -> Result<(), AllocError>
+    ensures { (rs : List Meant) (g : IsGiven program.now rs at.now.rule.now at.now.number at.now.class class.now) (m : meant.MemberRule) → has_names program.now class.now ≡ true → uses_line g.rule ≡ true → lines_of g.rule.condition ≡ m ∷ [] → IsMemberOf line.now m
+        → OnOk result (Grew program.now rs (OfChoice at.now.number at.now.class (choice.Field place)) out.old.items out.new.items) }
+{
     let Some(field) = class.fields.as_slice().get(place) else {
         return Ok(());
     };
@@ -152,7 +173,10 @@ fn push_methods(
     class: &Class,
     row: &mut Vec<bool>,
     out: &mut Vec<Instance>,
-) -> Result<(), AllocError> {
+) -> Result<(), AllocError>
+    ensures { (rs : List Meant) (g : IsGiven program.now rs at.now.rule.now at.now.number at.now.class class.now) (m : meant.MemberRule) → has_names program.now class.now ≡ true → uses_line g.rule ≡ true → lines_of g.rule.condition ≡ m ∷ [] → IsMemberOf line.now m
+        → OnOk result (Grew program.now rs (OfMethods at.now.number at.now.class (length class.now.methods)) out.old.items out.new.items) }
+{
     for place in 0..class.methods.len() {
         push_method(alloc, at, line, program, class, place, row, out)?;
     }
@@ -168,7 +192,10 @@ fn push_fields(
     class: &Class,
     row: &mut Vec<bool>,
     out: &mut Vec<Instance>,
-) -> Result<(), AllocError> {
+) -> Result<(), AllocError>
+    ensures { (rs : List Meant) (g : IsGiven program.now rs at.now.rule.now at.now.number at.now.class class.now) (m : meant.MemberRule) → has_names program.now class.now ≡ true → uses_line g.rule ≡ true → lines_of g.rule.condition ≡ m ∷ [] → IsMemberOf line.now m
+        → OnOk result (Grew program.now rs (OfFields at.now.number at.now.class (length class.now.fields)) out.old.items out.new.items) }
+{
     for place in 0..class.fields.len() {
         push_field(alloc, at, line, program, class, place, row, out)?;
     }
@@ -176,7 +203,10 @@ fn push_fields(
 }
 
 /// The line of a condition that has one alone.
-fn only_line(members: &Option<Vec<MemberRule>>) -> Option<&MemberRule> {
+fn only_line(members: &Option<Vec<MemberRule>>) -> Option<&MemberRule>
+    ensures some { (k : meant.ClassRule) → AreBoth AreMembersOf members.now k.members → IfSome result (λ line. IsOnly line.now (lines_of k)) }
+    ensures none { (k : meant.ClassRule) (m : meant.MemberRule) → AreBoth AreMembersOf members.now k.members → IfNone result (lines_of k ≡ m ∷ [] → ⊥) }
+{
     match members {
         Some(lines) => match lines.as_slice() {
             [line] => Some(line),
@@ -194,7 +224,9 @@ fn push_class(
     class: &Class,
     row: &mut Vec<bool>,
     out: &mut Vec<Instance>,
-) -> Result<(), AllocError> {
+) -> Result<(), AllocError>
+    ensures { (rs : List Meant) (g : IsGiven program.now rs at.now.rule.now at.now.number at.now.class class.now) → has_names program.now class.now ≡ true → OnOk result (Grew program.now rs (OfPlace at.now.number at.now.class) out.old.items out.new.items) }
+{
     let uses = uses_line(at.rule.slots.as_slice(), at.rule.words.as_slice());
     if !uses {
         return push_each(alloc, at, program, class, row, out);
@@ -215,7 +247,10 @@ fn push_place(
     program: &Program,
     row: &mut Vec<bool>,
     out: &mut Vec<Instance>,
-) -> Result<(), AllocError> {
+) -> Result<(), AllocError>
+    ensures { (rs : List Meant) (r : Meant) → is_well_formed program.now ≡ true → slice_get rs at.now.number ≡ Some r → IsIfOf at.now.rule.now r → IsMatchedAt program.now r.condition at.now.class
+        → OnOk result (Grew program.now rs (OfPlace at.now.number at.now.class) out.old.items out.new.items) }
+{
     match program.classes.as_slice().get(at.class) {
         Some(class) => push_class(alloc, at, program, class, row, out),
         None => Ok(()),
@@ -233,6 +268,8 @@ fn push_rule(
 ) -> Result<(), AllocError>
     requires types { length program.now.types < 2 ^ 32 }
     requires classes { length program.now.classes < 2 ^ 32 }
+    ensures { (rs : List Meant) (r : Meant) → is_well_formed program.now ≡ true → IsOf program.now hierarchy.now → slice_get rs number ≡ Some r → IsIfOf rule.now r
+        → OnOk result (Grew program.now rs (OfRule number) out.old.items out.new.items) }
 {
     let places = classes_matched(alloc, &rule.condition, program, hierarchy)?;
     let mut row = Vec::new(alloc);

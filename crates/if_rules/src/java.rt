@@ -1,6 +1,7 @@
 //! Types as Java writes them.
 
-ghost use Rattle.std.specs.Prelude.{◌≡◌, ◌++◌, map, codes, IfOk, OnOk};
+ghost use Rattle.std.specs.Prelude.{◌≡◌, ◌∷◌, ◌++◌, false, map, nat_eq, IfOk, OnOk};
+ghost use Rattle.rule_text.specs.Related.{brackets};
 ghost use Rattle.dalvik_defs.specs.Names.{item_of};
 ghost use Rattle.rule_defs.specs.Patterns.{inner};
 ghost use Rattle.rule_text.specs.Pieces.{primitives};
@@ -13,16 +14,16 @@ fn primitive_name(letter: u16) -> &'static [u8]
     ensures { result.now ≡ named_by letter primitives }
 {
     match letter {
-        90 => b"boolean",
-        66 => b"byte",
-        67 => b"char",
-        83 => b"short",
-        73 => b"int",
-        74 => b"long",
-        70 => b"float",
-        68 => b"double",
-        86 => b"void",
-        _ => b"",
+        90 => b"boolean".as_slice(),
+        66 => b"byte".as_slice(),
+        67 => b"char".as_slice(),
+        83 => b"short".as_slice(),
+        73 => b"int".as_slice(),
+        74 => b"long".as_slice(),
+        70 => b"float".as_slice(),
+        68 => b"double".as_slice(),
+        86 => b"void".as_slice(),
+        _ => b"".as_slice(),
     }
 }
 
@@ -74,7 +75,10 @@ pub fn inside(descriptor: &[u16]) -> &[u16]
 }
 
 /// Adds a type that is no array.
-fn push_item(out: &mut Vec<u16>, first: u16, behind: &[u16]) -> Result<(), AllocError> {
+fn push_item(out: &mut Vec<u16>, first: u16, behind: &[u16]) -> Result<(), AllocError>
+    requires { nat_eq first 91 ≡ false }
+    ensures { OnOk result (out.new.items ≡ out.old.items ++ java (first ∷ behind.now)) }
+{
     if first == 76 {
         push_class(out, before_last(behind))
     } else {
@@ -83,7 +87,9 @@ fn push_item(out: &mut Vec<u16>, first: u16, behind: &[u16]) -> Result<(), Alloc
 }
 
 /// Adds brackets.
-fn push_brackets(out: &mut Vec<u16>, depth: usize) -> Result<(), AllocError> {
+fn push_brackets(out: &mut Vec<u16>, depth: usize) -> Result<(), AllocError>
+    ensures { OnOk result (out.new.items ≡ out.old.items ++ brackets depth) }
+{
     for _ in 0..depth {
         out.push(91)?;
         out.push(93)?;

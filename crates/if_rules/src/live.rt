@@ -1,9 +1,17 @@
 //! Which instances hold.
 
-ghost use Rattle.std.specs.Prelude.{◌≡◌, List, true, false, length, slice_get, Some, IfOk};
-ghost use Rattle.std.specs.List.{list_all};
+ghost use Rattle.std.specs.Prelude.{◌≡◌, ◌&&◌, List, true, false, Some, None, slice_get, IfOk};
+ghost use Rattle.std.specs.List.{list_all, list_any};
+ghost use Rattle.dalvik_defs.specs.Naming.{named_field, named_method};
+ghost use Rattle.keep_rules.specs.Fits.{has_field_name, has_method_name, has_names};
+ghost use Rattle.program_model.specs.ProgramRules.{is_well_formed};
+ghost use Rattle.rule_defs.specs.Kept.{lines_of};
+ghost use Rattle.rule_defs.specs.Members.{matches_field, matches_method};
 ghost use Rattle.rule_text.specs.Related.{AreEach, IsMemberOf};
 ghost use Rattle.rule_text.specs.Rules as meant;
+ghost use Rattle.if_text.specs.Items.{IfRule as Meant};
+ghost use Rattle.if_text.specs.Readings.{IsIfOf};
+ghost use Rattle.if_rules.specs.Added.{are_live, holds, holds_in, is_met};
 ghost use Rattle.if_rules.specs.Instances.{is_on};
 
 use crate::instances::{Choice, Instance};
@@ -31,7 +39,10 @@ fn has_method(
     methods: &[Method],
     marks: &[bool],
     row: &mut Vec<bool>,
-) -> Result<bool, AllocError> {
+) -> Result<bool, AllocError>
+    ensures { (m : meant.MemberRule) → list_all (has_method_name program.now) methods.now ≡ true → IsMemberOf line.now m
+        → IfOk result (λ has. has ≡ list_any (λ d. is_on marks.now d.name && matches_method m (named_method program.now d)) methods.now) }
+{
     for method in methods {
         if is_on(marks, method.name) {
             let fits = method_fits(line, program, method, row)?;
@@ -50,7 +61,10 @@ fn has_field(
     fields: &[Field],
     marks: &[bool],
     row: &mut Vec<bool>,
-) -> Result<bool, AllocError> {
+) -> Result<bool, AllocError>
+    ensures { (m : meant.MemberRule) → list_all (has_field_name program.now) fields.now ≡ true → IsMemberOf line.now m
+        → IfOk result (λ has. has ≡ list_any (λ d. is_on marks.now d.name && matches_field m (named_field program.now d)) fields.now) }
+{
     for field in fields {
         if is_on(marks, field.name) {
             let fits = field_fits(line, program, field, row)?;
@@ -69,7 +83,9 @@ fn is_met(
     class: &Class,
     live: &LiveSet,
     row: &mut Vec<bool>,
-) -> Result<bool, AllocError> {
+) -> Result<bool, AllocError>
+    ensures { (m : meant.MemberRule) → has_names program.now class.now ≡ true → IsMemberOf line.now m → IfOk result (λ met. met ≡ is_met program.now live.now class.now m) }
+{
     let methods = live.methods.as_slice();
     let method = has_method(line, program, class.methods.as_slice(), methods, row)?;
     if method {
@@ -91,7 +107,9 @@ fn are_met(
     class: &Class,
     live: &LiveSet,
     row: &mut Vec<bool>,
-) -> Result<bool, AllocError> {
+) -> Result<bool, AllocError>
+    ensures { (ms : List meant.MemberRule) → has_names program.now class.now ≡ true → AreEach IsMemberOf lines.now ms → IfOk result (λ met. met ≡ list_all (is_met program.now live.now class.now) ms) }
+{
     for line in lines {
         let met = is_met(line, program, class, live, row)?;
         if !met {
@@ -102,7 +120,9 @@ fn are_met(
 }
 
 /// The lines of a condition.
-fn lines_of(rule: &IfRule) -> &[MemberRule] {
+fn lines_of(rule: &IfRule) -> &[MemberRule]
+    ensures { (r : Meant) → IsIfOf rule.now r → AreEach IsMemberOf result.now (lines_of r.condition) }
+{
     match &rule.condition.members {
         Some(lines) => lines.as_slice(),
         None => &[],
@@ -110,7 +130,9 @@ fn lines_of(rule: &IfRule) -> &[MemberRule] {
 }
 
 /// Whether the method at a place of the class is live.
-fn has_live_method(methods: &[Method], place: usize, live: &LiveSet) -> bool {
+fn has_live_method(methods: &[Method], place: usize, live: &LiveSet) -> bool
+    ensures { result ≡ elim (slice_get methods.now place) [ Some m ↦ is_on live.now.methods.items m.name | None ↦ false ] }
+{
     match methods.get(place) {
         Some(method) => is_on(live.methods.as_slice(), method.name),
         None => false,
@@ -118,7 +140,9 @@ fn has_live_method(methods: &[Method], place: usize, live: &LiveSet) -> bool {
 }
 
 /// Whether the field at a place of the class is live.
-fn has_live_field(fields: &[Field], place: usize, live: &LiveSet) -> bool {
+fn has_live_field(fields: &[Field], place: usize, live: &LiveSet) -> bool
+    ensures { result ≡ elim (slice_get fields.now place) [ Some f ↦ is_on live.now.fields.items f.name | None ↦ false ] }
+{
     match fields.get(place) {
         Some(field) => is_on(live.fields.as_slice(), field.name),
         None => false,
@@ -133,7 +157,9 @@ fn has_members(
     class: &Class,
     live: &LiveSet,
     row: &mut Vec<bool>,
-) -> Result<bool, AllocError> {
+) -> Result<bool, AllocError>
+    ensures { (r : Meant) → has_names program.now class.now ≡ true → IsIfOf rule.now r → IfOk result (λ are. are ≡ are_live program.now live.now r class.now choice) }
+{
     match choice {
         Choice::Each => are_met(lines_of(rule), program, class, live, row),
         Choice::Method(place) => Ok(has_live_method(class.methods.as_slice(), place, live)),
@@ -149,7 +175,9 @@ fn holds_in(
     class: &Class,
     live: &LiveSet,
     row: &mut Vec<bool>,
-) -> Result<bool, AllocError> {
+) -> Result<bool, AllocError>
+    ensures { (r : Meant) → has_names program.now class.now ≡ true → IsIfOf rule.now r → IfOk result (λ there. there ≡ holds_in program.now live.now r class.now choice) }
+{
     if !is_on(live.classes.as_slice(), class.name) {
         return Ok(false);
     }
@@ -163,7 +191,9 @@ pub fn holds(
     program: &Program,
     live: &LiveSet,
     row: &mut Vec<bool>,
-) -> Result<bool, AllocError> {
+) -> Result<bool, AllocError>
+    ensures { (rs : List Meant) → is_well_formed program.now ≡ true → AreEach IsIfOf rules.now rs → IfOk result (λ there. there ≡ holds program.now live.now rs instance.now) }
+{
     let Some(rule) = rules.get(instance.rule) else {
         return Ok(false);
     };

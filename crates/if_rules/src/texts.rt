@@ -1,12 +1,14 @@
 //! What the wildcards of types, members and class names matched.
 
-ghost use Rattle.std.specs.Prelude.{◌≡◌, ◌++◌, List, map, IfOk, OnOk};
-ghost use Rattle.dalvik_defs.specs.Naming.{text_at, type_at, field_at, method_at};
+ghost use Rattle.std.specs.Prelude.{◌≡◌, ◌∷◌, ◌++◌, [], List, true, map, length, nat_lt, slice_get, IfOk, OnOk};
+ghost use Rattle.dalvik_defs.specs.Naming.{text_at, type_at, field_at, method_at, signature_at};
+ghost use Rattle.keep_rules.specs.Fits.{signature_of, has_signature};
+ghost use Rattle.rule_text.specs.declared.pattern.Named.TheVariants as named;
 ghost use Rattle.rule_text.specs.Related.{AreEach, IsPatternOf, IsItemOf, IsTypeOf, AreArgumentsOf, IsWhatOf};
 ghost use Rattle.rule_text.specs.Rules as meant;
 ghost use Rattle.rule_text.specs.Tokens.{Word};
 ghost use Rattle.if_rules.specs.Lists.{lists_of};
-ghost use Rattle.if_rules.specs.Matched.{item_texts, type_texts, types_texts, argument_texts, method_texts, field_texts, class_texts, name_texts};
+ghost use Rattle.if_rules.specs.Matched.{java, item_texts, type_texts, types_texts, argument_texts, method_texts, field_texts, class_texts, name_texts};
 
 use crate::globs::{behind_units, name_texts};
 use crate::java::{inside, java};
@@ -88,7 +90,10 @@ fn types_texts(
 {
     let mut left = patterns;
     let mut rest = kinds;
-    while let ([pattern, patterns_behind @ ..], [kind, kinds_behind @ ..]) = (left, rest) {
+    while let [pattern, patterns_behind @ ..] = left {
+        let [kind, kinds_behind @ ..] = rest else {
+            return Ok(());
+        };
         type_texts(alloc, pattern, descriptor(program, *kind), row, out)?;
         left = patterns_behind;
         rest = kinds_behind;
@@ -140,7 +145,10 @@ fn spelled_texts(
     proto: &Proto,
     row: &mut Vec<bool>,
     out: &mut Vec<Vec<u16>>,
-) -> Result<(), AllocError> {
+) -> Result<(), AllocError>
+    ensures { (w : meant.What) → IsWhatOf what.now w
+        → OnOk result (lists_of out.new.items ≡ lists_of out.old.items ++ method_texts w (text_at program.now name) (signature_of program.now proto.now)) }
+{
     match what {
         What::All | What::Fields | What::Methods | What::Field { .. } => Ok(()),
         What::Init(arguments) => argument_texts(
@@ -179,7 +187,10 @@ fn named_method_texts(
     method: &MethodName,
     row: &mut Vec<bool>,
     out: &mut Vec<Vec<u16>>,
-) -> Result<(), AllocError> {
+) -> Result<(), AllocError>
+    ensures { (w : meant.What) → nat_lt method.now.proto (length program.now.protos) ≡ true → IsWhatOf what.now w
+        → OnOk result (lists_of out.new.items ≡ lists_of out.old.items ++ method_texts w (text_at program.now method.now.name) (signature_at program.now method.now.proto)) }
+{
     match program.protos.as_slice().get(method.proto as usize) {
         Some(proto) => spelled_texts(alloc, what, program, method.name, proto, row, out),
         None => Ok(()),
@@ -193,7 +204,10 @@ pub fn method_texts(
     program: &Program,
     method: u32,
     row: &mut Vec<bool>,
-) -> Result<Vec<Vec<u16>>, AllocError> {
+) -> Result<Vec<Vec<u16>>, AllocError>
+    ensures { (w : meant.What) → has_signature program.now (slice_get program.now.methods method) ≡ true → IsWhatOf what.now w
+        → IfOk result (λ out. lists_of out.items ≡ method_texts w (method_at program.now method).name (method_at program.now method).signature) }
+{
     let mut out = Vec::new(alloc);
     if let Some(name) = program.methods.as_slice().get(method as usize) {
         named_method_texts(alloc, what, program, name, row, &mut out)?;
@@ -209,7 +223,10 @@ fn named_field_texts(
     field: &FieldName,
     row: &mut Vec<bool>,
     out: &mut Vec<Vec<u16>>,
-) -> Result<(), AllocError> {
+) -> Result<(), AllocError>
+    ensures { (w : meant.What) → IsWhatOf what.now w
+        → OnOk result (lists_of out.new.items ≡ lists_of out.old.items ++ field_texts w (text_at program.now field.now.name) (type_at program.now field.now.kind)) }
+{
     match what {
         What::Field { kind, name } => {
             let descriptor = descriptor(program, field.kind);
@@ -231,7 +248,10 @@ pub fn field_texts(
     program: &Program,
     field: u32,
     row: &mut Vec<bool>,
-) -> Result<Vec<Vec<u16>>, AllocError> {
+) -> Result<Vec<Vec<u16>>, AllocError>
+    ensures { (w : meant.What) → nat_lt field (length program.now.fields) ≡ true → IsWhatOf what.now w
+        → IfOk result (λ out. lists_of out.items ≡ field_texts w (field_at program.now field).name (field_at program.now field).kind) }
+{
     let mut out = Vec::new(alloc);
     if let Some(name) = program.fields.as_slice().get(field as usize) {
         named_field_texts(alloc, what, program, name, row, &mut out)?;

@@ -137,7 +137,9 @@ ifs_more (Plain e ∷ is) i = ifs_more is i
 ifs_more (If r ∷ is) i = ap (λ rs. r ∷ rs) (ifs_more is i)
 
 pub count_more : (is : List Item) (i : Item) → count_items (is ++ i ∷ []) ≡ count_items is + count_items (i ∷ [])
-count_more [] i = refl
+count_more [] i =
+    let e : count_items (i ∷ []) ≡ 0 + count_items (i ∷ []) = omega arith in
+    e
 count_more (Plain e ∷ is) i =
     let more : count_items (is ++ i ∷ []) ≡ count_items is + count_items (i ∷ []) = count_more is i in
     let one : count_items (Plain e ∷ (is ++ i ∷ [])) ≡ (if is_rule e then 1 else 0) + count_items (is ++ i ∷ []) = refl in
@@ -307,6 +309,7 @@ plain_reading text rules reading none = record {
 -- ---- where reading halts
 
 pub counts_none : (tokens hidden : List Lexed) (at : ℕ) (rules : IfRules) → at ≡ 0 → rules.plain.entries.items ≡ [] → rules.ifs.items ≡ [] → ReadsCounted tokens hidden at rules 0
+unfolding reads_none
 counts_none tokens hidden at rules begin plain ifs = record { reads = reads_none tokens hidden at rules begin plain ifs; counted = refl }
 
 stands : (tokens hidden : List Lexed) (at count : ℕ) (rules : IfRules) → ReadsCounted tokens hidden at rules count → at < length tokens → StandsBefore tokens hidden at count
@@ -330,8 +333,8 @@ halted_item tokens hidden at next count more rules w halt.Option c few inside fi
   front = stands tokens hidden at count rules c inside;
   few = few;
   option = h.1;
-  unknown = h.2.0;
-  other = h.2.1;
+  unknown = h.2;
+  other = h.3;
 })
 halted_item tokens hidden at next count more rules w halt.TooMany c few inside first is most h = absurd h
 

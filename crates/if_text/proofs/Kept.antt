@@ -62,11 +62,11 @@ kept_to tokens hidden at next slice one is le option reads whole = record {
 pub kept_read : (tokens hidden : List Lexed) (ss : List Source) (at next : ℕ) (slice : List Lexed) (read : Vec Parts Global) (one : ReadEntry) → slice ≡ take (next - at) (drop at tokens) → at ≤ next
     → is_keep (first_word (words_at hidden at)) ≡ true → Reads IsEntryOf is_entry entry_words hidden at next one → EndsWhole Between hidden at next → ReadAs read.items slice → list_all (good_parts ss) read.items ≡ true
     → ReadsKept tokens hidden ss at next read
-kept_read tokens hidden ss at next slice read one is le option reads whole as good = record {
+kept_read tokens hidden ss at next slice read one is le option reads whole found_as good = record {
   words = map word_of slice;
   are = kept_to tokens hidden at next slice one is le option reads whole;
-  read_as = as ∙ read_words slice;
-  good = sym (good_same ss read.items slice as) ∙ good;
+  read_as = found_as ∙ read_words slice;
+  good = sym (good_same ss read.items slice found_as) ∙ good;
 }
 
 -- ---- the first reference that names nothing
@@ -130,8 +130,8 @@ pub bad_read : (tokens hidden : List Lexed) (ss : List Source) (at end k : ℕ) 
     → is_keep (first_word (words_at hidden at)) ≡ true → Reads IsEntryOf is_entry entry_words hidden at end one → EndsWhole Between hidden at end → ReadAs read.items slice
     → list_all (good_parts ss) (take k read.items) ≡ true → k < length read.items → ((p : Parts) → p ≡ slice_index_or read.items k p → good_parts ss p ≡ false) → (p : Parts) → p ≡ slice_index_or read.items k p
     → IsBadAt tokens hidden ss at (at + k)
-bad_read tokens hidden ss at end k slice read one is le option reads whole as before inside there p here =
-    let t : TokenAt k read.items slice = token_at k read.items slice as inside in
+bad_read tokens hidden ss at end k slice read one is le option reads whole found_as before inside there p here =
+    let t : TokenAt k read.items slice = token_at k read.items slice found_as inside in
     let words : map word_of slice ≡ map word_of (take k slice) ++ t.token.word.now ∷ map word_of (drop (suc k) slice) = split_words k slice t.token t.split in
     let long : length read.items ≡ length slice = read_long read.items slice as in
     let size : length slice ≤ end - at = subst (λ xs. length xs ≤ end - at) (sym is) (take_short (end - at) (drop at tokens)) in
@@ -145,6 +145,6 @@ bad_read tokens hidden ss at end k slice read one is le option reads whole as be
       rest = map word_of (drop (suc k) slice);
       are = subst (IsKeptTo tokens hidden at end) words (kept_to tokens hidden at end slice one is le option reads whole);
       there = between tokens at (at + k) (omega arith) ∙ ap (λ xs. map word_of xs ++ words_at tokens (at + k)) front;
-      good = sym (good_same ss (take k read.items) (take k slice) (read_take k read.items slice as)) ∙ before;
+      good = sym (good_same ss (take k read.items) (take k slice) (read_take k read.items slice found_as)) ∙ before;
       bad = ap (list_all (is_good_in ss)) (sym (t.parts p here)) ∙ there p here;
     }

@@ -1,12 +1,12 @@
 -- Loops over lists of which each is one of each, and slots of a line.
-use Rattle.std.proofs.Common.{◌≡◌, ◌≤◌, ◌+◌, ◌-◌, ℕ, zero, suc, List, [], ◌∷◌, ◌++◌, length, sum_by, refl, sym, ap, subst, ◌∙◌, arith, length-append}
+use Rattle.std.proofs.Common.{◌≡◌, ◌≤◌, ◌+◌, ◌-◌, ℕ, zero, suc, List, [], ◌∷◌, ◌++◌, length, refl, sym, ap, subst, ◌∙◌, arith, length-append}
 use Rattle.std.specs.List.{flat_map}
 use Rattle.std.proofs.lemmas.List.{append-nil, append_assoc}
 use Rattle.rule_text.specs.Related.{AreEach, IsTypeOf}
 use Rattle.rule_text.specs.Tokens.{Word}
 use Rattle.rule_text.specs.declared.rules.TypePattern.{TypePattern}
 use Rattle.if_text.specs.Slots.{Adds}
-use Rattle.if_text.specs.Wildcards.{numbered, type_wilds}
+use Rattle.if_text.specs.Wildcards.{numbered, type_wilds, types_wilds}
 use Rattle.if_text.specs.declared.slots.Source.{Source}
 use Rattle.if_text.specs.declared.slots.Source.TheVariants.{Line}
 
@@ -39,8 +39,9 @@ left_end P f all out init ss none l = end_by P f out init ss l.left (subst (λ (
 
 pub numbered_append : (make : ℕ → Source) (from a b : ℕ) → numbered make from (a + b) ≡ numbered make from a ++ numbered make (from + a) b
 numbered_append make from zero b =
+    let none : zero + b ≡ b = omega arith in
     let e : from ≡ from + 0 = omega arith in
-    ap (λ n. numbered make n b) e
+    ap (numbered make from) none ∙ ap (λ n. numbered make n b) e
 numbered_append make from (suc a) b =
     let one : suc a + b ≡ suc (a + b) = omega arith in
     let e : suc from + a ≡ from + suc a = omega arith in
@@ -87,17 +88,17 @@ pub record LeftTypes (start : ℕ) (rest : List TypePattern) (out init : List So
   pub left : List Word
   pub are : AreEach IsTypeOf rest left
   pub done : ℕ
-  pub count : done + sum_by type_wilds left ≡ sum_by type_wilds ws
+  pub count : done + types_wilds left ≡ types_wilds ws
   pub adds : Adds start done init out
 
 pub types_begin : (start : ℕ) (ts : List TypePattern) (init : List Source) (ws : List Word) → start ≤ length init → AreEach IsTypeOf ts ws → LeftTypes start ts init init ws
-types_begin start ts init ws begun are = record { left = ws; are = are; done = 0; count = refl; adds = adds_none start init begun }
+types_begin start ts init ws begun are = record { left = ws; are = are; done = 0; count = (omega arith); adds = adds_none start init begun }
 
 types_by : (start : ℕ) (t : TypePattern) (rest : List TypePattern) (out new init : List Source) (ws left : List Word) (done : ℕ) → ((w : Word) → IsTypeOf t w → Adds start (type_wilds w) out new)
-    → AreEach IsTypeOf (t ∷ rest) left → done + sum_by type_wilds left ≡ sum_by type_wilds ws → Adds start done init out → LeftTypes start rest new init ws
+    → AreEach IsTypeOf (t ∷ rest) left → done + types_wilds left ≡ types_wilds ws → Adds start done init out → LeftTypes start rest new init ws
 types_by start t rest out new init ws [] done more are count adds = absurd are
 types_by start t rest out new init ws (w ∷ left) done more are count adds =
-    let here : sum_by type_wilds (w ∷ left) ≡ type_wilds w + sum_by type_wilds left = refl in
+    let here : types_wilds (w ∷ left) ≡ type_wilds w + types_wilds left = refl in
     record {
       left = left;
       are = are.1;
@@ -110,11 +111,11 @@ pub types_more : (start : ℕ) (t : TypePattern) (all rest : List TypePattern) (
     → LeftTypes start all out init ws → LeftTypes start rest new init ws
 types_more start t all rest out new init ws is more l = types_by start t rest out new init ws l.left l.done more (subst (λ (ts : List TypePattern). AreEach IsTypeOf ts l.left) is l.are) l.count l.adds
 
-types_end_by : (start : ℕ) (out init : List Source) (ws left : List Word) (done : ℕ) → AreEach IsTypeOf [] left → done + sum_by type_wilds left ≡ sum_by type_wilds ws → Adds start done init out → Adds start (sum_by type_wilds ws) init out
+types_end_by : (start : ℕ) (out init : List Source) (ws left : List Word) (done : ℕ) → AreEach IsTypeOf [] left → done + types_wilds left ≡ types_wilds ws → Adds start done init out → Adds start (types_wilds ws) init out
 types_end_by start out init ws [] done are count adds =
-    let e : done ≡ sum_by type_wilds ws = omega (arith, count) in
+    let e : done ≡ types_wilds ws = omega (arith, count) in
     subst (λ n. Adds start n init out) e adds
 types_end_by start out init ws (w ∷ left) done are count adds = absurd are
 
-pub types_end : (start : ℕ) (all : List TypePattern) (out init : List Source) (ws : List Word) → all ≡ [] → LeftTypes start all out init ws → Adds start (sum_by type_wilds ws) init out
+pub types_end : (start : ℕ) (all : List TypePattern) (out init : List Source) (ws : List Word) → all ≡ [] → LeftTypes start all out init ws → Adds start (types_wilds ws) init out
 types_end start all out init ws none l = types_end_by start out init ws l.left l.done (subst (λ (ts : List TypePattern). AreEach IsTypeOf ts l.left) none l.are) l.count l.adds

@@ -18,27 +18,27 @@ number_from n (c ∷ cs) = number_from (next_number n c) cs
 
 -- the number behind a `<`
 abbrev pub number_in : List ℕ → ℕ
-number_in open = number_from 0 (drop 1 open)
+number_in begun = number_from 0 (drop 1 begun)
 
 abbrev pub bytes_in : List ℕ → List Part
 bytes_in cs = map (λ c. Byte c) cs
 
 -- `>` behind `<` and digits
 abbrev pub closes : List ℕ → ℕ → Bool
-closes open c = nat_eq c 62 && nat_lt 1 (length open)
+closes begun c = nat_eq c 62 && nat_lt 1 (length begun)
 
 -- a digit behind `<`, or behind digits
 abbrev pub goes_on : List ℕ → ℕ → Bool
-goes_on open c = is_digit c && nat_lt 0 (length open)
+goes_on begun c = is_digit c && nat_lt 0 (length begun)
 
 -- the parts of a word behind the beginning of what may be a reference, `<` and digits; none is begun where this is empty
 abbrev pub parts_from : List ℕ → Word → List Part
-parts_from open [] = bytes_in open
-parts_from open (c ∷ cs) =
-    if nat_eq c 60 then bytes_in open ++ parts_from (c ∷ []) cs
-    else if closes open c then Ref (number_in open) ∷ parts_from [] cs
-    else if goes_on open c then parts_from (open ++ c ∷ []) cs
-    else bytes_in open ++ (Byte c ∷ parts_from [] cs)
+parts_from begun [] = bytes_in begun
+parts_from begun (c ∷ cs) =
+    if nat_eq c 60 then bytes_in begun ++ parts_from (c ∷ []) cs
+    else if closes begun c then Ref (number_in begun) ∷ parts_from [] cs
+    else if goes_on begun c then parts_from (begun ++ c ∷ []) cs
+    else bytes_in begun ++ (Byte c ∷ parts_from [] cs)
 
 abbrev pub parts_of : Word → List Part
 parts_of w = parts_from [] w

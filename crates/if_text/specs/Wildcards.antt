@@ -1,7 +1,7 @@
 -- The wildcards of a class specification, in the order of its text, and what a reference may name of them (ProGuard manual, "Class
 -- specifications"). Wildcards are `?`, `*` and `**` in names, and `***` and `%` as types; stars side by side are one. `...`, and a `*`
 -- that names all members, are none.
-use Rattle.std.specs.Prelude.{ℕ, zero, suc, ◌+◌, ◌-◌, Bool, true, false, ◌&&◌, not, if◌then◌else◌, nat_eq, nat_lt, List, [], ◌∷◌, ◌++◌, sum_by, replicate, length, codes, Option, Some, None, slice_index_or}
+use Rattle.std.specs.Prelude.{ℕ, zero, suc, ◌+◌, ◌-◌, Bool, true, false, ◌&&◌, not, if◌then◌else◌, nat_eq, nat_lt, List, [], ◌∷◌, ◌++◌, replicate, length, codes, Option, Some, None, slice_index_or}
 use Rattle.std.specs.List.{flat_map}
 use Rattle.rule_text.specs.declared.pattern.Piece.{Piece}
 use Rattle.rule_text.specs.declared.pattern.Piece.TheVariants as piece
@@ -44,9 +44,13 @@ item_wilds w = if word_eq w (codes "***") then 1 else if word_eq w (codes "%") t
 abbrev pub type_wilds : Word → ℕ
 type_wilds w = item_wilds (bare w)
 
+abbrev pub types_wilds : List Word → ℕ
+types_wilds [] = 0
+types_wilds (w ∷ ws) = type_wilds w + types_wilds ws
+
 abbrev pub argument_wilds : Arguments → ℕ
 argument_wilds Any = 0
-argument_wilds (These ws) = sum_by type_wilds ws
+argument_wilds (These ws) = types_wilds ws
 
 abbrev pub what_wilds : What → ℕ
 what_wilds All = 0

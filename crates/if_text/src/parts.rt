@@ -60,10 +60,10 @@ fn number_of(digits: &[u8]) -> u32
 }
 
 /// The number behind `<`.
-fn number_in(open: &[u8]) -> u32
-    ensures { result ≡ number_in open.now }
+fn number_in(begun: &[u8]) -> u32
+    ensures { result ≡ number_in begun.now }
 {
-    match open {
+    match begun {
         [_, digits @ ..] => number_of(digits),
         _ => 0,
     }
@@ -71,14 +71,14 @@ fn number_in(open: &[u8]) -> u32
 
 /// Whether a reference of which so many bytes stand before it ends with the byte.
 fn closes(len: usize, byte: u8) -> bool
-    ensures { (open : List ℕ) → len ≡ length open → result ≡ closes open byte }
+    ensures { (begun : List ℕ) → len ≡ length begun → result ≡ closes begun byte }
 {
     byte == GREATER && len > 1
 }
 
 /// Whether it goes on with the byte.
 fn goes_on(len: usize, byte: u8) -> bool
-    ensures { (open : List ℕ) → len ≡ length open → result ≡ goes_on open byte }
+    ensures { (begun : List ℕ) → len ≡ length begun → result ≡ goes_on begun byte }
 {
     is_digit(byte) && len > 0
 }
@@ -94,34 +94,34 @@ fn push_bytes(parts: &mut Vec<Part>, bytes: &[u8]) -> Result<(), AllocError>
 }
 
 /// Ends a reference that isn't one: its bytes are bytes.
-fn give_up(parts: &mut Vec<Part>, open: &mut Vec<u8>) -> Result<(), AllocError>
-    ensures parts { OnOk result (parts.new.items ≡ parts.old.items ++ bytes_in open.old.items) }
-    ensures open { open.new.items ≡ [] }
+fn give_up(parts: &mut Vec<Part>, begun: &mut Vec<u8>) -> Result<(), AllocError>
+    ensures parts { OnOk result (parts.new.items ≡ parts.old.items ++ bytes_in begun.old.items) }
+    ensures begun { begun.new.items ≡ [] }
 {
-    let pushed = push_bytes(parts, open.as_slice());
-    open.clear();
+    let pushed = push_bytes(parts, begun.as_slice());
+    begun.clear();
     pushed
 }
 
-/// Goes on by a byte: `open` is what is read of a reference.
-fn step(parts: &mut Vec<Part>, open: &mut Vec<u8>, byte: u8) -> Result<(), AllocError>
-    ensures { OnOk result ((rest : List ℕ) → parts.new.items ++ parts_from open.new.items rest ≡ parts.old.items ++ parts_from open.old.items (byte ∷ rest)) }
+/// Goes on by a byte: `begun` is what is read of a reference.
+fn step(parts: &mut Vec<Part>, begun: &mut Vec<u8>, byte: u8) -> Result<(), AllocError>
+    ensures { OnOk result ((rest : List ℕ) → parts.new.items ++ parts_from begun.new.items rest ≡ parts.old.items ++ parts_from begun.old.items (byte ∷ rest)) }
 {
     if byte == LESS {
-        give_up(parts, open)?;
-        open.push(byte)?;
+        give_up(parts, begun)?;
+        begun.push(byte)?;
         return Ok(());
     }
-    if closes(open.len(), byte) {
-        parts.push(Part::Ref(number_in(open.as_slice())))?;
-        open.clear();
+    if closes(begun.len(), byte) {
+        parts.push(Part::Ref(number_in(begun.as_slice())))?;
+        begun.clear();
         return Ok(());
     }
-    if goes_on(open.len(), byte) {
-        open.push(byte)?;
+    if goes_on(begun.len(), byte) {
+        begun.push(byte)?;
         return Ok(());
     }
-    give_up(parts, open)?;
+    give_up(parts, begun)?;
     parts.push(Part::Byte(byte))?;
     Ok(())
 }
@@ -131,13 +131,13 @@ pub fn parts_of(alloc: Global, word: &[u8]) -> Result<Vec<Part>, AllocError>
     ensures { IfOk result (λ parts. parts.items ≡ parts_of word.now) }
 {
     let mut parts = Vec::new(alloc);
-    let mut open = Vec::new(alloc);
+    let mut begun = Vec::new(alloc);
     let mut rest = word;
     while let [byte, behind @ ..] = rest {
-        step(&mut parts, &mut open, *byte)?;
+        step(&mut parts, &mut begun, *byte)?;
         rest = behind;
     }
-    give_up(&mut parts, &mut open)?;
+    give_up(&mut parts, &mut begun)?;
     Ok(parts)
 }
 

@@ -1,11 +1,11 @@
 //! The wildcards of a class specification.
 
-ghost use Rattle.std.specs.Prelude.{◌≡◌, ◌+◌, ◌≤◌, ◌++◌, ℕ, List, [], true, false, not, length, sum_by, IfOk, OnOk};
+ghost use Rattle.std.specs.Prelude.{◌≡◌, ◌+◌, ◌≤◌, ◌++◌, ℕ, List, [], true, false, not, length, IfOk, OnOk};
 ghost use Rattle.std.specs.List.{flat_map};
 ghost use Rattle.rule_text.specs.Rules as meant;
 ghost use Rattle.rule_text.specs.Tokens.{Word};
 ghost use Rattle.rule_text.specs.Related.{AreEach, AreBoth, AreMembersOf, IsAboveOf, IsPatternOf, IsItemOf, IsTypeOf, AreArgumentsOf, IsWhatOf, IsConditionOf, IsMemberOf, IsClassOf};
-ghost use Rattle.if_text.specs.Wildcards.{is_wild, wild_count, name_wilds, item_wilds, type_wilds, argument_wilds, what_wilds, blanks, numbered, condition_slots, name_slots, mark_slots, above_slots, line_slots, lines_slots, members_slots, slots, source_in, is_something};
+ghost use Rattle.if_text.specs.Wildcards.{is_wild, wild_count, name_wilds, item_wilds, type_wilds, types_wilds, argument_wilds, what_wilds, blanks, numbered, condition_slots, name_slots, mark_slots, above_slots, line_slots, lines_slots, members_slots, slots, source_in, is_something};
 ghost use Rattle.if_text.specs.Slots.{Adds};
 ghost use Rattle.if_text.specs.declared.slots.Source.TheVariants as source;
 
@@ -218,7 +218,7 @@ fn push_line_type(out: &mut Vec<Source>, start: usize, kind: &TypePattern) -> Re
 /// Adds the slots of the types of arguments.
 fn push_line_types(out: &mut Vec<Source>, start: usize, kinds: &[TypePattern]) -> Result<(), AllocError>
     requires { start ≤ length out.old.items }
-    ensures { (ws : List Word) → AreEach IsTypeOf kinds.now ws → OnOk result (Adds start (sum_by type_wilds ws) out.old.items out.new.items) }
+    ensures { (ws : List Word) → AreEach IsTypeOf kinds.now ws → OnOk result (Adds start (types_wilds ws) out.old.items out.new.items) }
 {
     let mut rest = kinds;
     while let [kind, behind @ ..] = rest {

@@ -60,8 +60,8 @@ fn stand_in(word: &[u8]) -> &'static [u8]
     ensures { result.now ≡ stand_in word.now }
 {
     match word {
-        [b'@', ..] => b"@x",
-        _ => b"x",
+        [b'@', ..] => b"@x".as_slice(),
+        _ => b"x".as_slice(),
     }
 }
 

@@ -4,7 +4,7 @@ use Rattle.if_text.proofs.parts.parts_of.Given as goal
 
 -- the parts that are read, and those of the rest, are the word's
 abbrev pub invariant-loop-rest : goal.invariant-loop-rest
-invariant-loop-rest l = l.parts.items ++ parts_from l.open.items l.rest ≡ parts_of l.fn.word
+invariant-loop-rest l = l.parts.items ++ parts_from l.begun.items l.rest ≡ parts_of l.fn.word
 
 abbrev pub decreases-loop-rest : goal.decreases-loop-rest
 decreases-loop-rest l = length l.rest

@@ -1,3 +1,4 @@
+mod Counts
 mod Halts
 mod Items
 mod Kept

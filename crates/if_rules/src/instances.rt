@@ -119,7 +119,8 @@ fn push_method(
     row: &mut Vec<bool>,
     out: &mut Vec<Instance>,
 ) -> Result<(), AllocError>
-    ensures { (rs : List Meant) (g : IsGiven program.now rs at.now.rule.now at.now.number at.now.class class.now) (m : meant.MemberRule) → has_names program.now class.now ≡ true → uses_line g.rule ≡ true → lines_of g.rule.condition ≡ m ∷ [] → IsMemberOf line.now m
+    ensures { (rs : List Meant) (g : IsGiven program.now rs at.now.rule.now at.now.number at.now.class class.now) (m : meant.MemberRule) → has_names program.now class.now ≡ true
+        → uses_line g.rule ≡ true → lines_of g.rule.condition ≡ m ∷ [] → IsMemberOf line.now m
         → OnOk result (Grew program.now rs (OfChoice at.now.number at.now.class (choice.Method place)) out.old.items out.new.items) }
 {
     let Some(method) = class.methods.as_slice().get(place) else {
@@ -147,7 +148,8 @@ fn push_field(
     row: &mut Vec<bool>,
     out: &mut Vec<Instance>,
 ) -> Result<(), AllocError>
-    ensures { (rs : List Meant) (g : IsGiven program.now rs at.now.rule.now at.now.number at.now.class class.now) (m : meant.MemberRule) → has_names program.now class.now ≡ true → uses_line g.rule ≡ true → lines_of g.rule.condition ≡ m ∷ [] → IsMemberOf line.now m
+    ensures { (rs : List Meant) (g : IsGiven program.now rs at.now.rule.now at.now.number at.now.class class.now) (m : meant.MemberRule) → has_names program.now class.now ≡ true
+        → uses_line g.rule ≡ true → lines_of g.rule.condition ≡ m ∷ [] → IsMemberOf line.now m
         → OnOk result (Grew program.now rs (OfChoice at.now.number at.now.class (choice.Field place)) out.old.items out.new.items) }
 {
     let Some(field) = class.fields.as_slice().get(place) else {
@@ -174,7 +176,8 @@ fn push_methods(
     row: &mut Vec<bool>,
     out: &mut Vec<Instance>,
 ) -> Result<(), AllocError>
-    ensures { (rs : List Meant) (g : IsGiven program.now rs at.now.rule.now at.now.number at.now.class class.now) (m : meant.MemberRule) → has_names program.now class.now ≡ true → uses_line g.rule ≡ true → lines_of g.rule.condition ≡ m ∷ [] → IsMemberOf line.now m
+    ensures { (rs : List Meant) (g : IsGiven program.now rs at.now.rule.now at.now.number at.now.class class.now) (m : meant.MemberRule) → has_names program.now class.now ≡ true
+        → uses_line g.rule ≡ true → lines_of g.rule.condition ≡ m ∷ [] → IsMemberOf line.now m
         → OnOk result (Grew program.now rs (OfMethods at.now.number at.now.class (length class.now.methods)) out.old.items out.new.items) }
 {
     for place in 0..class.methods.len() {
@@ -193,7 +196,8 @@ fn push_fields(
     row: &mut Vec<bool>,
     out: &mut Vec<Instance>,
 ) -> Result<(), AllocError>
-    ensures { (rs : List Meant) (g : IsGiven program.now rs at.now.rule.now at.now.number at.now.class class.now) (m : meant.MemberRule) → has_names program.now class.now ≡ true → uses_line g.rule ≡ true → lines_of g.rule.condition ≡ m ∷ [] → IsMemberOf line.now m
+    ensures { (rs : List Meant) (g : IsGiven program.now rs at.now.rule.now at.now.number at.now.class class.now) (m : meant.MemberRule) → has_names program.now class.now ≡ true
+        → uses_line g.rule ≡ true → lines_of g.rule.condition ≡ m ∷ [] → IsMemberOf line.now m
         → OnOk result (Grew program.now rs (OfFields at.now.number at.now.class (length class.now.fields)) out.old.items out.new.items) }
 {
     for place in 0..class.fields.len() {
@@ -225,7 +229,8 @@ fn push_class(
     row: &mut Vec<bool>,
     out: &mut Vec<Instance>,
 ) -> Result<(), AllocError>
-    ensures { (rs : List Meant) (g : IsGiven program.now rs at.now.rule.now at.now.number at.now.class class.now) → has_names program.now class.now ≡ true → OnOk result (Grew program.now rs (OfPlace at.now.number at.now.class) out.old.items out.new.items) }
+    ensures { (rs : List Meant) (g : IsGiven program.now rs at.now.rule.now at.now.number at.now.class class.now) → has_names program.now class.now ≡ true
+        → OnOk result (Grew program.now rs (OfPlace at.now.number at.now.class) out.old.items out.new.items) }
 {
     let uses = uses_line(at.rule.slots.as_slice(), at.rule.words.as_slice());
     if !uses {

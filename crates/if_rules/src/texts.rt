@@ -130,7 +130,8 @@ fn typed_texts(
     row: &mut Vec<bool>,
     out: &mut Vec<Vec<u16>>,
 ) -> Result<(), AllocError>
-    ensures { (k w : Word) → IsTypeOf kind.now k → IsPatternOf name.now w → OnOk result (lists_of out.new.items ≡ lists_of out.old.items ++ (type_texts k descriptor.now ++ name_texts named.Member w units.now)) }
+    ensures { (k w : Word) → IsTypeOf kind.now k → IsPatternOf name.now w
+        → OnOk result (lists_of out.new.items ≡ lists_of out.old.items ++ (type_texts k descriptor.now ++ name_texts named.Member w units.now)) }
 {
     type_texts(alloc, kind, descriptor, row, out)?;
     name_texts(alloc, name, Named::Member, units, row, out)
@@ -233,11 +234,7 @@ fn named_field_texts(
             let units = string_units(program, field.name);
             typed_texts(alloc, kind, name, descriptor, units, row, out)
         }
-        What::All
-        | What::Fields
-        | What::Methods
-        | What::Init(_)
-        | What::Method { .. } => Ok(()),
+        What::All | What::Fields | What::Methods | What::Init(_) | What::Method { .. } => Ok(()),
     }
 }
 

@@ -87,8 +87,8 @@ if_step tokens at is = step_at (map word_of tokens) at is
 -- the words of a keep rule with references
 kept_words : (tokens hidden : List Lexed) (at next : ℕ) (ws : List Word) → AreMasked tokens hidden → (k : IsKeptTo tokens hidden at next ws) → entry_words k.entry ≡ map masked ws
 kept_words tokens hidden at next ws m k = append_cancel_right (entry_words k.entry) (map masked ws) (words_at hidden next) (
-  sym k.words ∙ masked_at tokens hidden at m ∙ ap (map masked) k.spelled ∙ map_append ws (words_at tokens next) ∙ ap (λ xs. map masked ws ++ xs) (sym (masked_at tokens hidden next m))
-)
+    sym k.words ∙ masked_at tokens hidden at m ∙ ap (map masked) k.spelled ∙ map_append ws (words_at tokens next) ∙ ap (λ xs. map masked ws ++ xs) (sym (masked_at tokens hidden next m))
+    )
 
 first_of : (e : Entry) (rest : List Word) → first_word (entry_words e ++ rest) ≡ first_word (entry_words e)
 first_of (Setting name words) rest = refl
@@ -107,8 +107,8 @@ keep_rule tokens hidden at next ws m k =
 
 if_words_at : (tokens hidden : List Lexed) (at mid next : ℕ) (r : IfRule) → IsConditionTo tokens at mid r.condition → IsKeptTo tokens hidden mid next r.words → words_at tokens at ≡ item_words (If r) ++ words_at tokens next
 if_words_at tokens hidden at mid next r c k = if_step tokens at c.is_if ∙ ap (λ xs. if_word ∷ xs) (
-  c.words ∙ ap (λ xs. class_rule_words r.condition ++ xs) k.spelled ∙ sym (append_assoc (class_rule_words r.condition) r.words (words_at tokens next))
-)
+    c.words ∙ ap (λ xs. class_rule_words r.condition ++ xs) k.spelled ∙ sym (append_assoc (class_rule_words r.condition) r.words (words_at tokens next))
+    )
 
 -- the words of items before a place
 pub spelled_to : (tokens hidden : List Lexed) (at : ℕ) (items : List Item) → ItemsTo tokens hidden at items → words_at tokens 0 ≡ flat_map item_words items ++ words_at tokens at
@@ -156,7 +156,7 @@ pub read_entry_more : (items : List Item) (e : Entry) (one : ReadEntry) (old new
     → AreRead (items ++ Plain e ∷ []) new
 read_entry_more items e one old new read is plain ifs = record {
   plain = subst (λ rs. AreEntriesOf rs (plain_of (items ++ Plain e ∷ []))) (sym plain) (subst (AreEntriesOf (old.plain.entries.items ++ one ∷ [])) (sym (plain_more items (Plain e)))
-  (each_more IsEntryOf old.plain.entries.items (plain_of items) one e read.plain is));
+      (each_more IsEntryOf old.plain.entries.items (plain_of items) one e read.plain is));
   ifs = subst (λ rs. AreEach IsIfOf rs (ifs_of (items ++ Plain e ∷ []))) (sym ifs) (subst (AreEach IsIfOf old.ifs.items) (sym (ifs_more items (Plain e) ∙ append-nil (ifs_of items))) read.ifs);
 }
 
@@ -166,7 +166,7 @@ pub read_if_more : (items : List Item) (r : IfRule) (one : ReadIf) (old new : If
 read_if_more items r one old new read is ifs plain = record {
   plain = subst (λ rs. AreEntriesOf rs (plain_of (items ++ If r ∷ []))) (sym plain) (subst (AreEntriesOf old.plain.entries.items) (sym (plain_more items (If r) ∙ append-nil (plain_of items))) read.plain);
   ifs = subst (λ rs. AreEach IsIfOf rs (ifs_of (items ++ If r ∷ []))) (sym ifs) (subst (AreEach IsIfOf (old.ifs.items ++ one ∷ [])) (sym (ifs_more items (If r)))
-  (each_more IsIfOf old.ifs.items (ifs_of items) one r read.ifs is));
+      (each_more IsIfOf old.ifs.items (ifs_of items) one r read.ifs is));
 }
 
 -- a rule begins with the first word of an item just where the item counts

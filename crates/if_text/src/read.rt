@@ -82,6 +82,7 @@ fn first_bad(slots: &[Source], words: &[Vec<Part>]) -> usize
 }
 
 /// The words of a keep rule that may have references.
+#[tactic(auto, using(crate::proofs::Halts::keep_inside, crate::proofs::Items::same_length, crate::proofs::Halts::entry_halts, crate::proofs::Kept::kept_read))]
 fn read_kept(
     alloc: Global,
     tokens: &[Token<'_>],
@@ -112,6 +113,7 @@ fn read_kept(
 }
 
 /// A rule with a condition behind its `-if`.
+#[tactic(auto, using(crate::proofs::Halts::condition_halts, crate::proofs::Halts::kept_halts, crate::proofs::Halts::reads_if))]
 fn read_if(
     alloc: Global,
     tokens: &[Token<'_>],
@@ -136,6 +138,7 @@ fn read_if(
 }
 
 /// Adds a rule with or without a condition, or an option.
+#[tactic(auto, using(crate::proofs::Items::adds_entry, crate::proofs::Items::adds_if, crate::proofs::Halts::plain_halts))]
 fn read_item(
     alloc: Global,
     tokens: &[Token<'_>],
@@ -178,6 +181,7 @@ fn count_item(word: &[u8], rules: u32) -> Result<u32, Halt>
 }
 
 /// Adds the rules and options of all tokens. At a fault `at` is its place.
+#[tactic(auto, using(crate::proofs::Items::counts_none, crate::proofs::Items::counts_more, crate::proofs::Items::crowded, crate::proofs::Items::halted_item))]
 fn read_items(
     alloc: Global,
     tokens: &[Token<'_>],
@@ -253,6 +257,7 @@ fn no_rules(alloc: Global) -> IfRules
 }
 
 /// The rules and options of the tokens of a text with conditions, or their fault.
+#[tactic(auto, using(crate::proofs::Items::whole_text))]
 fn read_tokens(alloc: Global, tokens: &Tokens<'_>) -> Result<IfRules, RuleFault>
     requires lines { tokens.now.ends + 1 < 2 ^ 32 }
     ensures ok { (text : List ℕ) → IsUtf8 text → AreTokensOf text tokens.now → IfOk result (IsIfReading text) }
@@ -297,6 +302,7 @@ fn read_with_ifs(alloc: Global, text: &[u8], tokens: &Tokens<'_>) -> Result<IfRu
 }
 
 /// The rules and options of a text without conditions, or its fault.
+#[tactic(auto, using(crate::proofs::Items::plain_reading))]
 fn read_plain(alloc: Global, text: &[u8]) -> Result<IfRules, RuleFault>
     requires { length text.now < 2 ^ 32 }
     ensures ok { IfOk result (IsIfReading text.now) }

@@ -71,6 +71,7 @@ fn wild_count(pieces: &[Piece]) -> usize
 }
 
 /// How many wildcards a name has.
+#[tactic(auto, using(crate::proofs::Counts::wilds_of))]
 fn name_wilds(name: &NamePattern) -> usize
     ensures { (w : Word) → IsPatternOf name.now w → result ≡ name_wilds w }
 {
@@ -78,6 +79,7 @@ fn name_wilds(name: &NamePattern) -> usize
 }
 
 /// How many wildcards an item has.
+#[tactic(auto, using(crate::proofs::Counts::any_wilds, crate::proofs::Counts::primitive_wilds, crate::proofs::Counts::letter_wilds, crate::proofs::Counts::class_wilds))]
 fn item_wilds(item: &ItemPattern) -> usize
     ensures { (w : Word) → IsItemOf item.now w → result ≡ item_wilds w }
 {
@@ -89,6 +91,7 @@ fn item_wilds(item: &ItemPattern) -> usize
 }
 
 /// How many wildcards a type has.
+#[tactic(auto, using(crate::proofs::Counts::type_by))]
 fn type_wilds(kind: &TypePattern) -> usize
     ensures { (w : Word) → IsTypeOf kind.now w → result ≡ type_wilds w }
 {
@@ -106,6 +109,7 @@ fn push_blanks(out: &mut Vec<Source>, count: usize) -> Result<(), AllocError>
 }
 
 /// Adds slots of wildcards of the class's name.
+#[tactic(auto, using(crate::proofs::Loops::numbered_more))]
 fn push_names(out: &mut Vec<Source>, count: usize) -> Result<(), AllocError>
     ensures { OnOk result (out.new.items ≡ out.old.items ++ numbered (λ i. source.Name i) 0 count) }
 {
@@ -116,6 +120,7 @@ fn push_names(out: &mut Vec<Source>, count: usize) -> Result<(), AllocError>
 }
 
 /// Adds slots of wildcards of what a line names, behind those that begin at `start`.
+#[tactic(auto, using(crate::proofs::Loops::adds_none, crate::proofs::Loops::adds_one, crate::proofs::Loops::adds_long))]
 fn push_lines(out: &mut Vec<Source>, start: usize, count: usize) -> Result<(), AllocError>
     requires { start ≤ length out.old.items }
     ensures { OnOk result (Adds start count out.old.items out.new.items) }
@@ -145,6 +150,7 @@ fn push_condition(out: &mut Vec<Source>, condition: &Condition) -> Result<(), Al
 }
 
 /// Adds the slots of conditions.
+#[tactic(auto, using(crate::proofs::Loops::left_begin, crate::proofs::Loops::left_more, crate::proofs::Loops::left_end))]
 fn push_conditions(out: &mut Vec<Source>, conditions: &[Condition]) -> Result<(), AllocError>
     ensures { (cs : List meant.Condition) → AreEach IsConditionOf conditions.now cs → OnOk result (out.new.items ≡ out.old.items ++ flat_map condition_slots cs) }
 {
@@ -157,6 +163,7 @@ fn push_conditions(out: &mut Vec<Source>, conditions: &[Condition]) -> Result<()
 }
 
 /// Adds the slots of names of which no reference may name one.
+#[tactic(auto, using(crate::proofs::Loops::left_begin, crate::proofs::Loops::left_more, crate::proofs::Loops::left_end))]
 fn push_blank_names(out: &mut Vec<Source>, names: &[NamePattern]) -> Result<(), AllocError>
     ensures { (ws : List Word) → AreEach IsPatternOf names.now ws → OnOk result (out.new.items ≡ out.old.items ++ flat_map (λ w. blanks (name_wilds w)) ws) }
 {
@@ -216,7 +223,12 @@ fn push_line_type(out: &mut Vec<Source>, start: usize, kind: &TypePattern) -> Re
 }
 
 /// Adds the slots of the types of arguments.
-fn push_line_types(out: &mut Vec<Source>, start: usize, kinds: &[TypePattern]) -> Result<(), AllocError>
+#[tactic(auto, using(crate::proofs::Loops::types_begin, crate::proofs::Loops::types_more, crate::proofs::Loops::types_end, crate::proofs::Loops::adds_long))]
+fn push_line_types(
+    out: &mut Vec<Source>,
+    start: usize,
+    kinds: &[TypePattern],
+) -> Result<(), AllocError>
     requires { start ≤ length out.old.items }
     ensures { (ws : List Word) → AreEach IsTypeOf kinds.now ws → OnOk result (Adds start (types_wilds ws) out.old.items out.new.items) }
 {
@@ -229,7 +241,11 @@ fn push_line_types(out: &mut Vec<Source>, start: usize, kinds: &[TypePattern]) -
 }
 
 /// Adds the slots of arguments.
-fn push_arguments(out: &mut Vec<Source>, start: usize, arguments: &Arguments) -> Result<(), AllocError>
+fn push_arguments(
+    out: &mut Vec<Source>,
+    start: usize,
+    arguments: &Arguments,
+) -> Result<(), AllocError>
     requires { start ≤ length out.old.items }
     ensures { (a : meant.Arguments) → AreArgumentsOf arguments.now a → OnOk result (Adds start (argument_wilds a) out.old.items out.new.items) }
 {
@@ -240,7 +256,13 @@ fn push_arguments(out: &mut Vec<Source>, start: usize, arguments: &Arguments) ->
 }
 
 /// Adds the slots of a field.
-fn push_field(out: &mut Vec<Source>, start: usize, kind: &TypePattern, name: &NamePattern) -> Result<(), AllocError>
+#[tactic(auto, using(crate::proofs::Loops::adds_all, crate::proofs::Loops::adds_long))]
+fn push_field(
+    out: &mut Vec<Source>,
+    start: usize,
+    kind: &TypePattern,
+    name: &NamePattern,
+) -> Result<(), AllocError>
     requires { start ≤ length out.old.items }
     ensures { (k w : Word) → IsTypeOf kind.now k → IsPatternOf name.now w → OnOk result (Adds start (type_wilds k + name_wilds w) out.old.items out.new.items) }
 {
@@ -249,6 +271,7 @@ fn push_field(out: &mut Vec<Source>, start: usize, kind: &TypePattern, name: &Na
 }
 
 /// Adds the slots of a method behind those of its result.
+#[tactic(auto, using(crate::proofs::Loops::adds_all, crate::proofs::Loops::adds_long))]
 fn push_method(
     out: &mut Vec<Source>,
     start: usize,

@@ -74,10 +74,7 @@ fn masked<'a>(alloc: Global, word: &'a [u8]) -> Result<&'a [u8], AllocError>
 }
 
 /// The tokens with names in place of words with references.
-pub fn masked_tokens<'a>(
-    alloc: Global,
-    tokens: &[Token<'a>],
-) -> Result<Vec<Token<'a>>, AllocError>
+pub fn masked_tokens<'a>(alloc: Global, tokens: &[Token<'a>]) -> Result<Vec<Token<'a>>, AllocError>
     ensures { IfOk result (λ hidden. AreMasked tokens.now hidden.items) }
 {
     let mut hidden = Vec::new(alloc);

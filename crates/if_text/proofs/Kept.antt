@@ -133,7 +133,7 @@ pub bad_read : (tokens hidden : List Lexed) (ss : List Source) (at end k : ℕ) 
 bad_read tokens hidden ss at end k slice read one is le option reads whole found_as before inside there p here =
     let t : TokenAt k read.items slice = token_at k read.items slice found_as inside in
     let words : map word_of slice ≡ map word_of (take k slice) ++ t.token.word.now ∷ map word_of (drop (suc k) slice) = split_words k slice t.token t.split in
-    let long : length read.items ≡ length slice = read_long read.items slice as in
+    let long : length read.items ≡ length slice = read_long read.items slice found_as in
     let size : length slice ≤ end - at = subst (λ xs. length xs ≤ end - at) (sym is) (take_short (end - at) (drop at tokens)) in
     let less : k ≤ end - at = omega (arith, inside, long, size) in
     let same : (at + k) - at ≡ k = omega arith in

@@ -3,3 +3,4 @@ mod Halts
 mod Items
 mod Kept
 mod Loops
+mod Texts

@@ -78,4 +78,4 @@ ifs_of (If r ∷ is) = r ∷ ifs_of is
 
 -- some word of a text is `-if`
 abbrev pub has_if : List ℕ → Bool
-has_if text = list_any (word_eq if_word) (words_of text)
+has_if text = list_any (λ w. word_eq w if_word) (words_of text)

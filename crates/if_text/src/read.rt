@@ -8,7 +8,7 @@ ghost use Rattle.rule_text.specs.Fault.{IsFault};
 ghost use Rattle.rule_text.specs.Fronts.{AreTokensOf};
 ghost use Rattle.rule_text.specs.declared.stop.Halt.TheVariants.{TooMany};
 ghost use Rattle.rule_text.specs.declared.token.Token.{Token as Lexed};
-ghost use Rattle.if_text.specs.Faults.{AreMasked, is_if_at, HaltsItem, HaltsItems, IsRefusedAt, IsOptionAt, IsItemFault, IsFaultIn, HasIfFault, IsIfFault, begins_item};
+ghost use Rattle.if_text.specs.Faults.{AreMasked, is_if_at, HaltsItem, HaltsItems, IsRefusedAt, IsOptionAt, IsItemFault, HasIfFault, IsIfFault, begins_item};
 ghost use Rattle.if_text.specs.Parts.{parts_of};
 ghost use Rattle.if_text.specs.Steps.{AddsItem, HaltsKept, ReadsKept, ReadsIf, ReadsFew};
 ghost use Rattle.if_text.specs.Readings.{IsIfReading};
@@ -257,11 +257,11 @@ fn no_rules(alloc: Global) -> IfRules
 }
 
 /// The rules and options of the tokens of a text with conditions, or their fault.
-#[tactic(auto, using(crate::proofs::Items::whole_text))]
+#[tactic(auto, using(crate::proofs::Items::whole_text, crate::proofs::Texts::fault_in, crate::proofs::Texts::no_memory_in))]
 fn read_tokens(alloc: Global, tokens: &Tokens<'_>) -> Result<IfRules, RuleFault>
     requires lines { tokens.now.ends + 1 < 2 ^ 32 }
     ensures ok { (text : List ℕ) → IsUtf8 text → AreTokensOf text tokens.now → IfOk result (IsIfReading text) }
-    ensures fault { (text : List ℕ) → IsUtf8 text → AreTokensOf text tokens.now → IfErr result (IsFaultIn text) }
+    ensures fault { (text : List ℕ) → IsUtf8 text → AreTokensOf text tokens.now → IfErr result (HasIfFault text) }
 {
     let hidden = masked_tokens(alloc, tokens.items.as_slice())?;
     let mut rules = no_rules(alloc);
@@ -318,6 +318,7 @@ fn read_plain(alloc: Global, text: &[u8]) -> Result<IfRules, RuleFault>
 /// The rules and options of a text, those with a condition apart, or its fault: where no word is `-if` that of a text without conditions, and
 /// otherwise bytes that are not UTF-8, or the first place where no rule or option goes on. A reference that names nothing is looked for where
 /// its keep rule fits otherwise.
+#[tactic(auto, using(crate::proofs::Texts::has_same, crate::proofs::Texts::some_token, crate::proofs::Texts::no_memory, crate::proofs::Texts::plain_fault, crate::proofs::Texts::if_fault))]
 pub fn read_rules(alloc: Global, text: &[u8]) -> Result<IfRules, RuleFault>
     requires { length text.now < 2 ^ 32 }
     ensures ok { IfOk result (IsIfReading text.now) }

@@ -54,7 +54,7 @@ pub record PushesOne (number place : ℕ) (c : Choice) (text : List ℕ) (old ne
   pub rule : one.rule ≡ number
   pub class : one.class ≡ place
   pub choice : one.choice ≡ c
-  pub text : one.text.items ≡ text
+  pub says : one.text.items ≡ text
 
 -- an instance with these numbers, this choice and this text is there
 pub record HasInstance (out : List Instance) (number place : ℕ) (c : Choice) (text : List ℕ) : Type 0 where
@@ -63,7 +63,7 @@ pub record HasInstance (out : List Instance) (number place : ℕ) (c : Choice) (
   pub rule : one.rule ≡ number
   pub class : one.class ≡ place
   pub choice : one.choice ≡ c
-  pub text : one.text.items ≡ text
+  pub says : one.text.items ≡ text
 
 -- Instances were added: all of those that the test names.
 pub record Grew (p : Program) (rs : List IfRule) (named : ℕ → ℕ → Choice → Type 0) (old new : List Instance) : Type 0 where

@@ -88,7 +88,7 @@ odd c zero is = cc
 odd c (suc n) is = and_false (nat_eq c 91) (are_brackets (93 ∷ brackets n)) is
 
 end_by : (c d e : ℕ) (cs : Word) → ((e ∷ cs) ≡ []) ⊎ (ends_in_brackets (e ∷ cs) ≡ true) → ((c ∷ d ∷ e ∷ cs) ≡ []) ⊎ (ends_in_brackets (c ∷ d ∷ e ∷ cs) ≡ true)
-end_by c d e cs (inl no) = cc
+end_by c d e cs (inl never) = cc
 end_by c d e [] (inr is) = cc
 end_by c d e (f ∷ cs) (inr is) = inr is
 
@@ -100,11 +100,11 @@ brackets_end (c ∷ d ∷ []) n is = inr (three (nat_eq c 91) (nat_eq d 93) (are
 brackets_end (c ∷ d ∷ e ∷ cs) n is = end_by c d e cs (brackets_end (e ∷ cs) n (three (nat_eq c 91) (nat_eq d 93) (are_brackets ((e ∷ cs) ++ brackets n)) is).1)
 
 bare_by : (c : ℕ) (rest : Word) (b : Bool) → are_brackets (c ∷ rest) ≡ b → (b ≡ true → ⊥) → bare (c ∷ rest) ≡ c ∷ bare rest
-bare_by c rest true e no = absurd (no refl)
-bare_by c rest false e no = rw e refl
+bare_by c rest true e none = absurd (none refl)
+bare_by c rest false e none = rw e refl
 
 none_by : (front : Word) (c : ℕ) → ends_in_brackets (c ∷ front) ≡ false → ((c ∷ front) ≡ []) ⊎ (ends_in_brackets (c ∷ front) ≡ true) → ⊥
-none_by front c last (inl no) = cc
+none_by front c last (inl never) = cc
 none_by front c last (inr is) = clash (sym is ∙ last)
 
 behind_last : (c : ℕ) (front : Word) → ends_in_brackets (c ∷ front) ≡ false → ends_in_brackets front ≡ false

@@ -8,6 +8,7 @@ pub mod FitLemmas
 pub mod GrownLemmas
 pub mod KeepLemmas
 pub mod MarkLemmas
+pub mod MatchingLemmas
 pub mod MemberLemmas
 pub mod NumberLemmas
 pub mod OwnLemmas

@@ -19,6 +19,7 @@ use rule_text::ClassRule;
 use std::alloc::{AllocError, Global};
 
 /// Adds the place of a class, if the specification matches it.
+#[tactic(auto, using(crate::proofs::MatchingLemmas::adds_none, crate::proofs::MatchingLemmas::adds_one, crate::proofs::MatchingLemmas::no_class, crate::proofs::MatchingLemmas::no_match))]
 fn push_matching(
     rule: &ClassRule,
     program: &Program,

@@ -1,5 +1,5 @@
 -- Where reading a rule with a condition halts.
-use Rattle.std.proofs.Common.{◌≡◌, ◌<◌, ◌≤◌, ℕ, zero, suc, Bool, true, false, ◌&&◌, ◌||◌, List, [], ◌∷◌, map, drop, length, Vec, refl, sym, ap, subst, ◌∙◌, arith, cond}
+use Rattle.std.proofs.Common.{◌≡◌, ◌<◌, ◌≤◌, ◌-◌, ℕ, zero, suc, Bool, true, false, ◌&&◌, ◌||◌, List, [], ◌∷◌, map, drop, length, Vec, refl, sym, ap, subst, ◌∙◌, arith, length-drop}
 use Rattle.std.specs.List.{list_all, list_any}
 use Rattle.std.specs.declared.alloc.Global.{Global}
 use Rattle.std.proofs.lemmas.List.{length-map}
@@ -9,8 +9,8 @@ use Rattle.rule_text.specs.Reads.{Reads}
 use Rattle.rule_text.specs.Refusals.{IsRefused, EndsWhole}
 use Rattle.rule_text.specs.Related.{IsClassOf}
 use Rattle.rule_text.specs.Rules.{ClassRule}
-use Rattle.rule_text.specs.Spelling.{begins_option, begins_rule, is_class_rule, class_rule_words}
-use Rattle.rule_text.specs.Steps.{AtSyntax, first_word, words_at}
+use Rattle.rule_text.specs.Spelling.{word_eq, begins_option, begins_rule, is_class_rule, class_rule_words}
+use Rattle.rule_text.specs.Steps.{AtSyntax, BeginOtherwise, first_word, words_at}
 use Rattle.rule_text.specs.Tokens.{Word}
 use Rattle.rule_text.specs.declared.rules.ClassRule.{ClassRule as ReadClass}
 use Rattle.rule_text.specs.declared.stop.Halt.{Halt}
@@ -19,12 +19,13 @@ use Rattle.rule_text.specs.declared.stop.Stop.{Stop}
 use Rattle.rule_text.specs.declared.stop.Stop.TheVariants as stop
 use Rattle.rule_text.specs.declared.token.Token.{Token as Lexed}
 use Rattle.if_text.specs.Faults.{is_if_at, IsConditionTo, IsRefusedItem, InEntry, InCondition, NoRule, InKept, AtReference, HaltsItem}
-use Rattle.if_text.specs.Items.{IfRule, are_good}
+use Rattle.if_text.specs.Items.{IfRule, are_good, if_word}
 use Rattle.if_text.specs.Steps.{good_words, ReadsKept, ReadsIf, IsNotKept, NoOption, Refused, Bad, HaltsKept}
 use Rattle.if_text.specs.Wildcards.{slots, is_good_in}
 use Rattle.if_text.specs.declared.parts.Part.{Part}
 use Rattle.if_text.specs.declared.slots.Source.{Source}
 use Rattle.if_text.specs.declared.rules.IfRule.{IfRule as ReadIf}
+use Rattle.rule_text.proofs.EntryLemmas.{other_word}
 use Rattle.if_text.proofs.Items.{word_of}
 
 -- a keep option stands at a place inside
@@ -104,3 +105,23 @@ plain_halts tokens hidden at next (halt.Inside stop.NoMemory) other before = tt
 plain_halts tokens hidden at next (halt.Inside stop.Syntax) other before = InEntry at next before
 plain_halts tokens hidden at next halt.Option other before = (before.0, before.1, before.2, other)
 plain_halts tokens hidden at next halt.TooMany other before = before
+
+-- ---- one word on
+
+pub next_is : (tokens : List Lexed) (at next : ℕ) (w : Word) → words_at tokens at ≡ w ∷ words_at tokens next → at ≤ length tokens → next ≤ length tokens → next ≡ suc at
+next_is tokens at next w is here there =
+    let size : length (map word_of tokens) ≡ length tokens = length-map tokens word_of in
+    let one : length (words_at tokens at) ≡ length (map word_of tokens) - at = length-drop at (map word_of tokens) in
+    let two : length (words_at tokens next) ≡ length (map word_of tokens) - next = length-drop next (map word_of tokens) in
+    let more : length (words_at tokens at) ≡ suc (length (words_at tokens next)) = ap length is in
+    omega (arith, size, one, two, more, here, there)
+
+pub if_there : (tokens : List Lexed) (at next : ℕ) → words_at tokens at ≡ if_word ∷ words_at tokens next → is_if_at tokens at ≡ true
+if_there tokens at next is = ap (λ ws. word_eq (first_word ws) if_word) is
+
+other_first : (ws : List Word) → BeginOtherwise if_word ws → word_eq (first_word ws) if_word ≡ false
+other_first [] other = refl
+other_first (w ∷ ws) other = other_word w if_word (word_eq w if_word) refl (λ e. other ws (ap (λ v. v ∷ ws) e))
+
+pub not_if : (tokens : List Lexed) (at : ℕ) → BeginOtherwise if_word (words_at tokens at) → is_if_at tokens at ≡ false
+not_if tokens at other = other_first (words_at tokens at) other

@@ -138,7 +138,7 @@ fn read_if(
 }
 
 /// Adds a rule with or without a condition, or an option.
-#[tactic(auto, using(crate::proofs::Items::adds_entry, crate::proofs::Items::adds_if, crate::proofs::Halts::plain_halts))]
+#[tactic(auto, using(crate::proofs::Items::adds_entry, crate::proofs::Items::adds_if, crate::proofs::Halts::plain_halts, crate::proofs::Halts::next_is, crate::proofs::Halts::if_there, crate::proofs::Halts::not_if))]
 fn read_item(
     alloc: Global,
     tokens: &[Token<'_>],

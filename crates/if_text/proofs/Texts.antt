@@ -11,6 +11,7 @@ use Rattle.rule_text.specs.declared.fault.RuleFault.TheVariants as fault
 use Rattle.rule_text.specs.declared.token.Token.{Token as Lexed}
 use Rattle.rule_text.specs.declared.token.Tokens.{Tokens}
 use Rattle.rule_text.proofs.EntryLemmas.{words_from}
+use Rattle.rule_text.proofs.FaultLemmas.{few_ends}
 use Rattle.if_text.specs.Faults.{AreMasked, IsRefusedAt, IsOptionAt, IsAtLine, IsItemFault, IsFaultIn, HasIfFault, IsIfFault}
 use Rattle.if_text.specs.Items.{if_word, has_if}
 use Rattle.if_text.proofs.Items.{word_of}
@@ -53,3 +54,6 @@ plain_fault text found none is = inl (none, is)
 
 pub if_fault : (text : List ℕ) (found : RuleFault) → has_if text ≡ true → HasIfFault text found → IsIfFault text found
 if_fault text found has is = inr (has, is)
+
+pub few_lines : (text : List ℕ) (tokens : Tokens) → AreTokensOf text tokens → list_any (λ t. word_eq t.word.now if_word) tokens.items.items ≡ true → tokens.ends < length text
+few_lines text tokens are has = few_ends text tokens are (some_token tokens.items.items has)

@@ -318,7 +318,7 @@ fn read_plain(alloc: Global, text: &[u8]) -> Result<IfRules, RuleFault>
 /// The rules and options of a text, those with a condition apart, or its fault: where no word is `-if` that of a text without conditions, and
 /// otherwise bytes that are not UTF-8, or the first place where no rule or option goes on. A reference that names nothing is looked for where
 /// its keep rule fits otherwise.
-#[tactic(auto, using(crate::proofs::Texts::has_same, crate::proofs::Texts::some_token, crate::proofs::Texts::no_memory, crate::proofs::Texts::plain_fault, crate::proofs::Texts::if_fault))]
+#[tactic(auto, using(crate::proofs::Texts::has_same, crate::proofs::Texts::few_lines, crate::proofs::Texts::no_memory, crate::proofs::Texts::plain_fault, crate::proofs::Texts::if_fault))]
 pub fn read_rules(alloc: Global, text: &[u8]) -> Result<IfRules, RuleFault>
     requires { length text.now < 2 ^ 32 }
     ensures ok { IfOk result (IsIfReading text.now) }

@@ -77,8 +77,8 @@ read_take (suc k) [] [] is = refl
 read_take (suc k) [] (t ∷ ts) is = cc
 read_take (suc k) (p ∷ ps) [] is = cc
 read_take (suc k) (p ∷ ps) (t ∷ ts) is =
-    let one : p.items ≡ parts_of t.word.now = grind in
-    let rest : ReadAs ps ts = grind in
+    let one : p.items ≡ parts_of t.word.now = grind arith in
+    let rest : ReadAs ps ts = grind arith in
     ap (λ xs. xs ∷ map (λ parts. parts.items) (take k ps)) one ∙ ap (λ xs. parts_of t.word.now ∷ xs) (read_take k ps ts rest)
 
 -- the token at a place, and the parts that were read of it
@@ -91,10 +91,10 @@ token_at : (k : ℕ) (read : List Parts) (slice : List Lexed) → ReadAs read sl
 token_at k [] slice is inside = absurd (omega arith)
 token_at k (p ∷ ps) [] is inside = cc
 token_at zero (p ∷ ps) (t ∷ ts) is inside =
-    let one : p.items ≡ parts_of t.word.now = grind in
+    let one : p.items ≡ parts_of t.word.now = grind arith in
     record { token = t; split = refl; parts = λ q e. ap (λ x. x.items) e ∙ one }
 token_at (suc k) (p ∷ ps) (t ∷ ts) is inside =
-    let rest : ReadAs ps ts = grind in
+    let rest : ReadAs ps ts = grind arith in
     let more : TokenAt k ps ts = token_at k ps ts rest (omega arith) in
     record { token = more.token; split = ap (λ xs. t ∷ xs) more.split; parts = more.parts }
 
@@ -116,7 +116,7 @@ read_long [] [] is = refl
 read_long [] (t ∷ ts) is = cc
 read_long (p ∷ ps) [] is = cc
 read_long (p ∷ ps) (t ∷ ts) is =
-    let rest : ReadAs ps ts = grind in
+    let rest : ReadAs ps ts = grind arith in
     ap suc (read_long ps ts rest)
 
 take_short : (n : ℕ) (xs : List Lexed) → length (take n xs) ≤ n

@@ -186,12 +186,12 @@ struct Store<'a> {
 }
 
 /// Nothing is known, for so many bodies and calls.
-fn no_store(
+fn no_store<'a>(
     alloc: Global,
-    ground: Ground<'_>,
+    ground: Ground<'a>,
     codes: usize,
     calls: usize,
-) -> Result<Store<'_>, AllocError> {
+) -> Result<Store<'a>, AllocError> {
     Ok(Store {
         passing: Passing::new(alloc, calls)?,
         cells: Cells::new(alloc, ground.numbering.cells)?,

@@ -6,8 +6,9 @@ ghost use Rattle.dex_pools.specs.Used.{marked, no_use, program_names};
 ghost use Rattle.dex_pools.specs.Numbering.{numbers_from, numbers_of, kinds, type_entry, proto_entry, field_entry, method_entry, names_of_type, names_of_proto, names_of_field, names_of_method, close_methods, close_fields, close_protos, close_types, used_in};
 
 use crate::classes::walk_program;
-use crate::used::{Named, Used, none_used};
+use crate::used::{Named, Used, unset_all};
 use program_model::{FieldName, MethodName, Program, Proto};
+use seq::Seq;
 use std::alloc::{AllocError, Global};
 
 /// The numbers of the flags that are set. The greatest number of 32 bits stands for none.
@@ -156,16 +157,31 @@ fn close_types(alloc: Global, used: &mut Used, program: &Program) -> Result<(), 
     Ok(())
 }
 
-/// The entries that the written program needs: what its classes name, and what these entries name in turn.
+/// Marks the entries that the written program needs, and no other: what its classes name, and what these entries name in
+/// turn.
 #[tactic(auto, unfolding(crate::specs::Numbering::used_in))]
+fn mark_all(alloc: Global, used: &mut Used, program: &Program) -> Result<(), AllocError>
+    ensures { OnOk result (used.new ≡ used_in program.now) }
+{
+    unset_all(alloc, used, program)?;
+    walk_program(used, program);
+    close_methods(alloc, used, program)?;
+    close_fields(alloc, used, program)?;
+    close_protos(alloc, used, program)?;
+    close_types(alloc, used, program)
+}
+
+/// The entries that the written program needs.
 pub fn used_in(alloc: Global, program: &Program) -> Result<Used, AllocError>
     ensures { IfOk result (λ used. used ≡ used_in program.now) }
 {
-    let mut used = none_used(alloc, program)?;
-    walk_program(&mut used, program);
-    close_methods(alloc, &mut used, program)?;
-    close_fields(alloc, &mut used, program)?;
-    close_protos(alloc, &mut used, program)?;
-    close_types(alloc, &mut used, program)?;
+    let mut used = Used {
+        strings: Seq::new(alloc),
+        types: Seq::new(alloc),
+        protos: Seq::new(alloc),
+        fields: Seq::new(alloc),
+        methods: Seq::new(alloc),
+    };
+    mark_all(alloc, &mut used, program)?;
     Ok(used)
 }

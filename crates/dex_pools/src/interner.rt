@@ -1,8 +1,8 @@
 //! The entries that a written program needs, in order, and their new numbers.
 
-ghost use Rattle.std.specs.Prelude.{◌≡◌, length, IfOk};
+ghost use Rattle.std.specs.Prelude.{◌≡◌, length, IfOk, OnOk};
 ghost use Rattle.dex_pools.specs.Interned.{IsInterned};
-ghost use Rattle.dex_pools.specs.Numbering.{string_key, type_key, proto_key, field_key, method_key, IsNumbered};
+ghost use Rattle.dex_pools.specs.Numbering.{string_key, type_key, proto_key, field_key, method_key, IsNumbered, used_in};
 
 use crate::close::used_in;
 use crate::numbering::{
@@ -118,6 +118,77 @@ fn number_methods(
     number_table(alloc, used.methods.as_slice(), methods.len(), &keys)
 }
 
+/// Puts what a table has in place of these.
+fn put(numbered: Numbered, order: &mut Vec<u32>, numbers: &mut Vec<u32>)
+    ensures ordered { order.new ≡ numbered.order }
+    ensures placed { numbers.new ≡ numbered.numbers }
+{
+    let Numbered {
+        order: entries,
+        numbers: places,
+    } = numbered;
+    *order = entries;
+    *numbers = places;
+}
+
+/// Puts the used entries of each table in order, in place of what is there. Each list stands behind a `&mut`, so that
+/// nothing is let go where memory runs out: each way out past ten lists would cost the proof that they go.
+fn number_all(
+    alloc: Global,
+    used: &Used,
+    program: &Program,
+    interner: &mut Interner,
+) -> Result<(), AllocError>
+    requires { used.now ≡ used_in program.now }
+    ensures { OnOk result (IsInterned program.now interner.new) }
+{
+    let order = &mut interner.order;
+    let numbers = &mut interner.numbers;
+    let strings = number_strings(alloc, used, program)?;
+    put(strings, &mut order.strings, &mut numbers.strings);
+    let types = number_types(alloc, used, program, &numbers.strings)?;
+    put(types, &mut order.types, &mut numbers.types);
+    let protos = number_protos(alloc, used, program, &numbers.types)?;
+    put(protos, &mut order.protos, &mut numbers.protos);
+    let fields = number_fields(alloc, used, program, &numbers.strings, &numbers.types)?;
+    put(fields, &mut order.fields, &mut numbers.fields);
+    let methods = number_methods(
+        alloc,
+        used,
+        program,
+        &numbers.strings,
+        &numbers.types,
+        &numbers.protos,
+    )?;
+    put(methods, &mut order.methods, &mut numbers.methods);
+    Ok(())
+}
+
+/// The used entries of each table in order.
+fn collect_used(alloc: Global, used: &Used, program: &Program) -> Result<Interner, AllocError>
+    requires { used.now ≡ used_in program.now }
+    ensures { IfOk result (IsInterned program.now) }
+{
+    let mut interner = Interner {
+        numbers: Renumber {
+            strings: Vec::new(alloc),
+            types: Vec::new(alloc),
+            protos: Vec::new(alloc),
+            fields: Vec::new(alloc),
+            methods: Vec::new(alloc),
+        },
+        order: Order {
+            strings: Vec::new(alloc),
+            types: Vec::new(alloc),
+            protos: Vec::new(alloc),
+            fields: Vec::new(alloc),
+            methods: Vec::new(alloc),
+        },
+    };
+    number_all(alloc, used, program, &mut interner)?;
+    Ok(interner)
+}
+
 impl Interner {
     /// The entries that the written program needs: what its classes name, and what these entries name in turn. Strings
     /// stand by their units, types by their strings, protos by their results and then their parameters, fields by class,
@@ -127,33 +198,7 @@ impl Interner {
         ensures { IfOk result (IsInterned program.now) }
     {
         let used = used_in(alloc, program)?;
-        let strings = number_strings(alloc, &used, program)?;
-        let types = number_types(alloc, &used, program, &strings.numbers)?;
-        let protos = number_protos(alloc, &used, program, &types.numbers)?;
-        let fields = number_fields(alloc, &used, program, &strings.numbers, &types.numbers)?;
-        let methods = number_methods(
-            alloc,
-            &used,
-            program,
-            &strings.numbers,
-            &types.numbers,
-            &protos.numbers,
-        )?;
-        let numbers = Renumber {
-            strings: strings.numbers,
-            types: types.numbers,
-            protos: protos.numbers,
-            fields: fields.numbers,
-            methods: methods.numbers,
-        };
-        let order = Order {
-            strings: strings.order,
-            types: types.order,
-            protos: protos.order,
-            fields: fields.order,
-            methods: methods.order,
-        };
-        Ok(Interner { numbers, order })
+        collect_used(alloc, &used, program)
     }
 
     /// The new number of each used entry, and 4,294,967,295 for each other one.

@@ -96,6 +96,15 @@ fn words_of(unit: u16) -> u16 {
     }
 }
 
+/// How many registers arguments of these types take.
+fn words_of_all(found: &[Vec<u16>]) -> u16 {
+    let mut words: u16 = 0;
+    for one in found {
+        words = words.saturating_add(words_of(short_unit(one.as_slice())));
+    }
+    words
+}
+
 /// The number of a key, 0 for one that is new.
 fn number_of(numbers: &mut Numbers, key: Vec<u16>) -> Result<u32, AllocError> {
     Ok(*numbers.entry(key)?.or_insert(0))
@@ -188,6 +197,36 @@ impl Names {
         number_of(&mut self.types, key)
     }
 
+    /// The numbers of types.
+    fn kinds(&mut self, found: &[Vec<u16>]) -> Result<Seq<u32>, AllocError> {
+        let mut numbers = Seq::new(self.alloc);
+        for one in found {
+            numbers.push(self.kind(one.as_slice())?)?;
+        }
+        Ok(numbers)
+    }
+
+    /// The number of the shorty of a proto.
+    fn shorty(&mut self, found: &[Vec<u16>], answer: &[u16]) -> Result<u32, AllocError> {
+        let mut shorty = Vec::new(self.alloc);
+        shorty.push(short_unit(answer))?;
+        for one in found {
+            shorty.push(short_unit(one.as_slice()))?;
+        }
+        self.string(shorty.as_slice())
+    }
+
+    /// The entry of a proto.
+    fn proto_entry(&mut self, found: &[Vec<u16>], answer: &[u16]) -> Result<Proto, AllocError> {
+        let shorty = self.shorty(found, answer)?;
+        let result = self.kind(answer)?;
+        Ok(Proto {
+            shorty,
+            result,
+            parameters: self.kinds(found)?,
+        })
+    }
+
     /// A proto by its parameters, side by side, and its result.
     pub fn proto(
         &mut self,
@@ -195,27 +234,17 @@ impl Names {
         parameters: &[u16],
         answer: &[u16],
     ) -> Result<ProtoOf, AllocError> {
-        let alloc = self.alloc;
-        let mut shorty = Vec::new(alloc);
-        shorty.push(short_unit(answer))?;
-        let mut numbers = Seq::new(alloc);
-        let mut words: u16 = 0;
-        for one in &descriptors(alloc, parameters)? {
-            let unit = short_unit(one.as_slice());
-            shorty.push(unit)?;
-            words = words.saturating_add(words_of(unit));
-            numbers.push(self.kind(one.as_slice())?)?;
-        }
-        let entry = Proto {
-            shorty: self.string(shorty.as_slice())?,
-            result: self.kind(answer)?,
-            parameters: numbers,
-        };
-        let number = number_of(&mut self.protos, key_of(alloc, &[answer, parameters])?)?;
+        let key = key_of(self.alloc, &[answer, parameters])?;
+        let number = number_of(&mut self.protos, key)?;
+        let found = descriptors(self.alloc, parameters)?;
+        let entry = self.proto_entry(found.as_slice(), answer)?;
         if let Some(place) = program.protos.items.get_mut(number as usize) {
             *place = entry;
         }
-        Ok(ProtoOf { number, words })
+        Ok(ProtoOf {
+            number,
+            words: words_of_all(found.as_slice()),
+        })
     }
 
     /// The number of a field by its class, its name and its type.

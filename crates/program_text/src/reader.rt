@@ -202,14 +202,12 @@ impl Assembler {
         })
     }
 
-    /// The words of a line of a class or a member.
-    fn heading<'a>(&mut self, text: &'a str) -> Result<Heading<'a>, Trouble> {
-        let mut heading = Heading {
-            flags: Flags(0),
-            marks: Seq::new(self.alloc),
-            words: Vec::new(self.alloc),
-            first: None,
-        };
+    /// Reads the words of a line of a class or a member.
+    fn fill_heading<'a>(
+        &mut self,
+        text: &'a str,
+        heading: &mut Heading<'a>,
+    ) -> Result<(), Trouble> {
         let (said, value) = match text.split_once('=') {
             Some((said, value)) => (said, Some(value)),
             None => (text, None),
@@ -226,16 +224,29 @@ impl Assembler {
         if let Some(value) = value {
             heading.first = Some(self.value(value.trim())?);
         }
+        Ok(())
+    }
+
+    /// The words of a line of a class or a member.
+    fn heading<'a>(&mut self, text: &'a str) -> Result<Heading<'a>, Trouble> {
+        let mut heading = Heading {
+            flags: Flags(0),
+            marks: Seq::new(self.alloc),
+            words: Vec::new(self.alloc),
+            first: None,
+        };
+        self.fill_heading(text, &mut heading)?;
         Ok(heading)
     }
 
     /// The method that goes on ends.
     fn end_method(&mut self) -> Result<(), AllocError> {
+        let lines = self.lines.clone()?;
         let Some(mut method) = self.method.take() else {
             return Ok(());
         };
         method.body = self.body.take();
-        method.lines = self.lines.clone()?;
+        method.lines = lines;
         self.lines = Seq::new(self.alloc);
         self.line = None;
         if let Some(class) = &mut self.class {
@@ -253,14 +264,61 @@ impl Assembler {
         }
     }
 
+    /// The number of the class that a line names first, whose members are those that follow.
+    fn name_class(&mut self, words: &[&str]) -> Result<u32, Trouble> {
+        let name = words.first().copied().ok_or(Trouble::Words)?;
+        self.class_name = units_of(self.alloc, name)?;
+        self.kind(name)
+    }
+
+    /// An interface of the class.
+    fn add_interface(&mut self, word: &str) -> Result<(), Trouble> {
+        let kind = self.kind(word)?;
+        match &mut self.class {
+            Some(class) => Ok(class.interfaces.push(kind)?),
+            None => Err(Trouble::Words),
+        }
+    }
+
+    /// The source of the class.
+    fn set_source(&mut self, word: &str) -> Result<(), Trouble> {
+        let string = self.string(word)?;
+        if let Some(class) = &mut self.class {
+            class.source = Some(string);
+        }
+        Ok(())
+    }
+
+    /// What the words of the class's line say behind its name.
+    fn add_above(&mut self, words: &[&str]) -> Result<(), Trouble> {
+        let mut superclass = None;
+        let mut part = Part::Name;
+        for word in words {
+            match (Part::of(*word), part) {
+                (Some(next), _) => part = next,
+                (None, Part::Name) => {}
+                (None, Part::Superclass) => superclass = Some(self.kind(*word)?),
+                (None, Part::Interfaces) => self.add_interface(*word)?,
+                (None, Part::Source) => self.set_source(*word)?,
+            }
+        }
+        let superclass = match superclass {
+            Some(kind) => kind,
+            None => self.kind(OBJECT)?,
+        };
+        if let Some(class) = &mut self.class {
+            class.superclass = superclass;
+        }
+        Ok(())
+    }
+
     /// A class begins.
     fn begin_class(&mut self, text: &str) -> Result<(), Trouble> {
         self.end_class()?;
         let heading = self.heading(text)?;
-        let name = heading.words.first().copied().ok_or(Trouble::Words)?;
-        self.class_name = units_of(self.alloc, name)?;
-        let mut class = Class {
-            name: self.kind(name)?,
+        let name = self.name_class(heading.words.as_slice())?;
+        self.class = Some(Class {
+            name,
             flags: heading.flags,
             superclass: 0,
             interfaces: Seq::new(self.alloc),
@@ -268,35 +326,25 @@ impl Assembler {
             marks: heading.marks,
             fields: Seq::new(self.alloc),
             methods: Seq::new(self.alloc),
-        };
-        let mut superclass = None;
-        let mut part = Part::Name;
-        for word in &heading.words {
-            match (Part::of(*word), part) {
-                (Some(next), _) => part = next,
-                (None, Part::Name) => {}
-                (None, Part::Superclass) => superclass = Some(self.kind(*word)?),
-                (None, Part::Interfaces) => class.interfaces.push(self.kind(*word)?)?,
-                (None, Part::Source) => class.source = Some(self.string(*word)?),
-            }
-        }
-        class.superclass = match superclass {
-            Some(kind) => kind,
-            None => self.kind(OBJECT)?,
-        };
-        self.class = Some(class);
-        Ok(())
+        });
+        self.add_above(heading.words.as_slice())
+    }
+
+    /// The number of the field of the class that a line names.
+    fn field_named(&mut self, words: &[&str]) -> Result<u32, Trouble> {
+        let name = words.first().copied().ok_or(Trouble::Words)?;
+        let kind = words.get(1).copied().ok_or(Trouble::Words)?;
+        let class = self.class_name.clone()?;
+        self.field_in(class.as_slice(), name, kind)
     }
 
     /// A field of the class.
     fn add_field(&mut self, text: &str) -> Result<(), Trouble> {
         self.end_method()?;
         let heading = self.heading(text)?;
-        let name = heading.words.first().copied().ok_or(Trouble::Words)?;
-        let kind = heading.words.get(1).copied().ok_or(Trouble::Words)?;
-        let class = self.class_name.clone()?;
+        let name = self.field_named(heading.words.as_slice())?;
         let field = Field {
-            name: self.field_in(class.as_slice(), name, kind)?,
+            name,
             flags: heading.flags,
             first: heading.first,
             marks: heading.marks,
@@ -307,16 +355,21 @@ impl Assembler {
         }
     }
 
+    /// The method of the class that a line names.
+    fn method_named(&mut self, words: &[&str]) -> Result<ProtoOf, Trouble> {
+        let mut member = String::new(self.alloc);
+        for word in words {
+            member.push_str(*word)?;
+        }
+        let class = self.class_name.clone()?;
+        self.method_in(class.as_slice(), member.as_str())
+    }
+
     /// A method of the class begins.
     fn begin_method(&mut self, text: &str) -> Result<(), Trouble> {
         self.end_method()?;
         let heading = self.heading(text)?;
-        let mut member = String::new(self.alloc);
-        for word in &heading.words {
-            member.push_str(*word)?;
-        }
-        let class = self.class_name.clone()?;
-        let method = self.method_in(class.as_slice(), member.as_str())?;
+        let method = self.method_named(heading.words.as_slice())?;
         let receiver = if heading.flags.has(Flags::STATIC) {
             0
         } else {
@@ -375,14 +428,13 @@ impl Assembler {
         }
     }
 
-    /// The operands of a form in a line.
-    fn operands(&mut self, found: &Found, text: &str) -> Result<Operands, Trouble> {
-        let mut operands = Operands {
-            registers: Vec::new(self.alloc),
-            numbers: Vec::new(self.alloc),
-            labels: Vec::new(self.alloc),
-            name: 0,
-        };
+    /// Reads the operands of a form in a line.
+    fn fill_operands(
+        &mut self,
+        found: &Found,
+        text: &str,
+        operands: &mut Operands,
+    ) -> Result<(), Trouble> {
         let kind = found.operands.bytes().last().unwrap_or(b'-');
         let mut is_named = kind == b'-';
         for word in text.split_whitespace().skip(1) {
@@ -404,29 +456,63 @@ impl Assembler {
             }
         }
         if is_named {
-            Ok(operands)
+            Ok(())
         } else {
             Err(Trouble::Words)
         }
+    }
+
+    /// The operands of a form in a line.
+    fn operands(&mut self, found: &Found, text: &str) -> Result<Operands, Trouble> {
+        let mut operands = Operands {
+            registers: Vec::new(self.alloc),
+            numbers: Vec::new(self.alloc),
+            labels: Vec::new(self.alloc),
+            name: 0,
+        };
+        self.fill_operands(found, text, &mut operands)?;
+        Ok(operands)
+    }
+
+    /// The instruction of a form with these operands.
+    fn insn(&self, found: &Found, operands: &Operands) -> Result<Insn, Trouble> {
+        if !fit(found, operands) {
+            return Err(Trouble::Words);
+        }
+        let insn = insn_of(self.alloc, found.form, found.operation, operands)?;
+        insn.ok_or(Trouble::Words)
     }
 
     /// An instruction of the method.
     fn add_insn(&mut self, text: &str) -> Result<(), Trouble> {
         let mnemonic = text.split_whitespace().next().ok_or(Trouble::Words)?;
         let found = find(mnemonic).ok_or(Trouble::Words)?;
-        let operands = self.operands(&found, text)?;
-        if !fit(&found, &operands) {
-            return Err(Trouble::Words);
-        }
-        let insn = insn_of(self.alloc, found.form, found.operation, &operands)?;
-        let insn: Insn = insn.ok_or(Trouble::Words)?;
         if let Some(line) = self.line {
             self.lines.push(line)?;
         }
+        let operands = self.operands(&found, text)?;
+        let insn = self.insn(&found, &operands)?;
         match &mut self.body {
             Some(body) => Ok(body.insns.push(insn)?),
             None => Err(Trouble::Words),
         }
+    }
+
+    /// Reads the handlers of a region and its catch-all, from the third word on.
+    fn fill_region(&mut self, text: &str, region: &mut Region) -> Result<(), Trouble> {
+        let mut kind = None;
+        for word in text.split_whitespace().skip(3) {
+            match kind {
+                _ if !word.starts_with(':') => kind = Some(self.kind(word)?),
+                Some(of) => {
+                    let position = self.label(word)?;
+                    region.handlers.push(Handler { kind: of, position })?;
+                    kind = None;
+                }
+                None => region.rest = Some(self.label(word)?),
+            }
+        }
+        Ok(())
     }
 
     /// A region of the method: its first position, its end, the types with the positions of their handlers, and the
@@ -435,28 +521,13 @@ impl Assembler {
         let mut words = text.split_whitespace().skip(1);
         let first = self.label(words.next().ok_or(Trouble::Words)?)?;
         let end = self.label(words.next().ok_or(Trouble::Words)?)?;
-        let mut handlers = Seq::new(self.alloc);
-        let mut rest = None;
-        let mut kind = None;
-        for word in words {
-            match kind {
-                _ if !word.starts_with(':') => kind = Some(self.kind(word)?),
-                Some(of) => {
-                    handlers.push(Handler {
-                        kind: of,
-                        position: self.label(word)?,
-                    })?;
-                    kind = None;
-                }
-                None => rest = Some(self.label(word)?),
-            }
-        }
-        let region = Region {
+        let mut region = Region {
             first,
             end,
-            handlers,
-            rest,
+            handlers: Seq::new(self.alloc),
+            rest: None,
         };
+        self.fill_region(text, &mut region)?;
         match &mut self.body {
             Some(body) => Ok(body.regions.push(region)?),
             None => Err(Trouble::Words),

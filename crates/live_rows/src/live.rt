@@ -1,8 +1,9 @@
 //! What is reached in a program and what is left of it.
 
 use crate::kept::kept;
-use crate::names::{defined_text, tables_of};
+use crate::names::defined_text;
 use call_graph::{Edge, LiveSet, callees, live_members};
+use hierarchy::Hierarchy;
 use pipeline::{Outcome, optimise};
 use program_model::{Changed, MethodAt, Outside, Program};
 use program_text::{field_text, method_text, print, type_text};
@@ -68,12 +69,6 @@ fn add_methods(
     Ok(())
 }
 
-/// The live members of a program. What they are is said where call_graph is; here only their names are printed.
-fn live_set(alloc: Global, program: &Program, outside: &Outside) -> Result<LiveSet, Trouble> {
-    let tables = tables_of(alloc, program)?;
-    Ok(live_members(alloc, program, &tables, outside)?)
-}
-
 /// Adds what is live: classes, fields and methods by number, with `!` behind a class of which objects are made.
 fn add_live(
     alloc: Global,
@@ -96,20 +91,10 @@ fn add_live(
 }
 
 /// What is live: classes, fields and methods by number, with `!` behind a class of which objects are made.
-pub fn live(alloc: Global, program: &Program, line: &str) -> Result<String, Trouble> {
-    let outside = kept(alloc, program, line)?;
-    let live = live_set(alloc, program, &outside)?;
+fn live(alloc: Global, program: &Program, live: &LiveSet) -> Result<String, Trouble> {
     let mut texts = Texts::new(alloc);
-    add_live(alloc, program, &live, &mut texts)?;
+    add_live(alloc, program, live, &mut texts)?;
     Ok(texts.said(alloc)?)
-}
-
-/// The calls of the first method of the first class.
-fn first_calls(alloc: Global, program: &Program, outside: &Outside) -> Result<Vec<Edge>, Trouble> {
-    let live = live_set(alloc, program, outside)?;
-    let tables = tables_of(alloc, program)?;
-    let first = MethodAt { class: 0, place: 0 };
-    Ok(callees(alloc, program, &tables, &live, first)?)
 }
 
 /// Adds calls, each target behind the position of its call.
@@ -128,18 +113,34 @@ fn add_calls(
 }
 
 /// What the first method of the first class may call, each behind the position of the call, where this is live.
-pub fn calls(alloc: Global, program: &Program, line: &str) -> Result<String, Trouble> {
-    let outside = kept(alloc, program, line)?;
-    let calls = first_calls(alloc, program, &outside)?;
+fn calls(
+    alloc: Global,
+    program: &Program,
+    tables: &Hierarchy,
+    live: &LiveSet,
+) -> Result<String, Trouble> {
+    let first = MethodAt { class: 0, place: 0 };
+    let calls = callees(alloc, program, tables, live, first)?;
     let mut texts = Texts::new(alloc);
     add_calls(alloc, program, calls.as_slice(), &mut texts)?;
     Ok(texts.said(alloc)?)
 }
 
-/// An outside with its conditions closed.
-fn closed_by(alloc: Global, program: &Program, outside: &Outside) -> Result<Outside, Trouble> {
-    let tables = tables_of(alloc, program)?;
-    Ok(close(alloc, program, &tables, outside)?)
+/// What is live, or what the first method may call. What the live members are is said where call_graph is; here only
+/// their names are printed.
+fn of_live(
+    alloc: Global,
+    program: &Program,
+    tables: &Hierarchy,
+    outside: &Outside,
+    is_calls: bool,
+) -> Result<String, Trouble> {
+    let members = live_members(alloc, program, tables, outside)?;
+    if is_calls {
+        calls(alloc, program, tables, &members)
+    } else {
+        live(alloc, program, &members)
+    }
 }
 
 /// Adds what an outside keeps.
@@ -174,19 +175,17 @@ fn add_forbidden(
 }
 
 /// What is kept without conditions.
-pub fn closed(alloc: Global, program: &Program, line: &str) -> Result<String, Trouble> {
-    let outside = kept(alloc, program, line)?;
-    let closed = closed_by(alloc, program, &outside)?;
+fn closed(
+    alloc: Global,
+    program: &Program,
+    tables: &Hierarchy,
+    outside: &Outside,
+) -> Result<String, Trouble> {
+    let closed = close(alloc, program, tables, outside)?;
     let mut texts = Texts::new(alloc);
     add_kept(alloc, program, &closed, &mut texts)?;
     add_forbidden(alloc, program, &closed, &mut texts)?;
     Ok(texts.said(alloc)?)
-}
-
-/// What removal leaves.
-fn removed(alloc: Global, program: Program, outside: &Outside) -> Result<Changed, Trouble> {
-    let tables = tables_of(alloc, &program)?;
-    Ok(apply(alloc, program, &tables, outside)?)
 }
 
 /// How much changed, and the program that is left where it isn't the one before.
@@ -201,11 +200,32 @@ fn change_said(alloc: Global, before: &Program, changed: &Changed) -> Result<Str
 }
 
 /// How many classes and members go, and the program that is left.
-pub fn left(alloc: Global, program: Program, line: &str) -> Result<String, Trouble> {
-    let outside = kept(alloc, &program, line)?;
-    let before = program.clone()?;
-    let changed = removed(alloc, program, &outside)?;
-    Ok(change_said(alloc, &before, &changed)?)
+fn left(
+    alloc: Global,
+    program: &Program,
+    tables: &Hierarchy,
+    outside: &Outside,
+) -> Result<String, Trouble> {
+    let changed = apply(alloc, program.clone()?, tables, outside)?;
+    Ok(change_said(alloc, program, &changed)?)
+}
+
+/// The answer to a line that keeps something and asks what is reached.
+pub fn reached(
+    alloc: Global,
+    program: &Program,
+    tables: &Hierarchy,
+    first: &str,
+    line: &str,
+) -> Result<String, Trouble> {
+    let outside = kept(alloc, program, line)?;
+    match first {
+        "live" => of_live(alloc, program, tables, &outside, false),
+        "calls" => of_live(alloc, program, tables, &outside, true),
+        "closed" => closed(alloc, program, tables, &outside),
+        "left" => left(alloc, program, tables, &outside),
+        _ => Err(Trouble::Words),
+    }
 }
 
 /// What the optimisation leaves, with no adviser.
@@ -215,9 +235,9 @@ fn optimised(alloc: Global, program: Program, outside: &Outside) -> Result<Outco
 }
 
 /// How many rounds the optimisation takes, what it removes, and how many methods are spared.
-pub fn rounds(alloc: Global, program: Program, line: &str) -> Result<String, Trouble> {
-    let outside = kept(alloc, &program, line)?;
-    let outcome = optimised(alloc, program, &outside)?;
+pub fn rounds(alloc: Global, program: &Program, line: &str) -> Result<String, Trouble> {
+    let outside = kept(alloc, program, line)?;
+    let outcome = optimised(alloc, program.clone()?, &outside)?;
     let (rounds, members) = (outcome.rounds, outcome.removed_members);
     let (insns, spared) = (outcome.removed_instructions, outcome.spared);
     Ok(format!(in alloc;

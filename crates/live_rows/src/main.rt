@@ -23,7 +23,7 @@ use std::io;
 /// The answer to a line that asks.
 fn answered(alloc: Global, page: &Page, line: &str) -> Result<String, Trouble> {
     match assemble(alloc, page.text()) {
-        Ok(program) => answer(alloc, program, line),
+        Ok(program) => answer(alloc, &program, line),
         Err(TextFault::NoMemory) => Err(Trouble::NoMemory),
         Err(fault) => Ok(format!(in alloc; "{fault:?}")?),
     }

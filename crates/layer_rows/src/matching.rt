@@ -29,15 +29,6 @@ pub fn program_of(alloc: Global, text: &str) -> Result<Program, Trouble> {
     }
 }
 
-/// The classes of a program.
-fn classes_of(alloc: Global, program: &Program) -> Result<Hierarchy, Trouble> {
-    match Hierarchy::build(alloc, program) {
-        Ok(hierarchy) => Ok(hierarchy),
-        Err(HierarchyFault::NoMemory) => Err(Trouble::NoMemory),
-        Err(_) => Err(Trouble::Words),
-    }
-}
-
 /// The rules of a short text.
 fn rules_of(alloc: Global, text: &[u8]) -> Result<Rules, Trouble> {
     if text.len() > 1000 {
@@ -55,11 +46,14 @@ fn outside(alloc: Global, program: &Program, rules: &[u8]) -> Result<Outside, Tr
     if !is_small(program) {
         return Err(Trouble::Words);
     }
-    let hierarchy = classes_of(alloc, program)?;
     let rules = rules_of(alloc, rules)?;
-    match outside_of(alloc, &rules, program, &hierarchy) {
-        Ok(outside) => Ok(outside),
-        Err(_) => Err(Trouble::NoMemory),
+    match Hierarchy::build(alloc, program) {
+        Ok(hierarchy) => match outside_of(alloc, &rules, program, &hierarchy) {
+            Ok(outside) => Ok(outside),
+            Err(_) => Err(Trouble::NoMemory),
+        },
+        Err(HierarchyFault::NoMemory) => Err(Trouble::NoMemory),
+        Err(_) => Err(Trouble::Words),
     }
 }
 
@@ -84,46 +78,68 @@ fn add_members(
     Ok(())
 }
 
-/// What rules keep of a program: classes, fields and methods, the same on a condition behind `if`, silent and shut methods
-/// behind these words, and what is forbidden.
-pub fn kept(alloc: Global, text: &str, rules: &str) -> Result<String, Trouble> {
-    let program = program_of(alloc, text)?;
-    let rules = lines_of(alloc, rules)?;
-    let outside = outside(alloc, &program, rules.as_slice())?;
-    let mut texts = Texts::new(alloc);
+/// Adds what is kept: classes, fields and methods.
+fn add_kept(
+    alloc: Global,
+    program: &Program,
+    outside: &Outside,
+    texts: &mut Texts,
+) -> Result<(), AllocError> {
     for class in outside.classes.as_slice() {
-        texts.add(type_text(alloc, &program, *class)?.as_str())?;
+        texts.add(type_text(alloc, program, *class)?.as_str())?;
     }
     let (fields, methods) = (outside.fields.as_slice(), outside.methods.as_slice());
-    add_members(alloc, &program, "", fields, methods, &mut texts)?;
+    add_members(alloc, program, "", fields, methods, texts)
+}
+
+/// Adds what is kept on a condition.
+fn add_kept_if(
+    alloc: Global,
+    program: &Program,
+    outside: &Outside,
+    texts: &mut Texts,
+) -> Result<(), AllocError> {
     for one in outside.classes_if.as_slice() {
-        let class = type_text(alloc, &program, one.class)?;
-        let owner = type_text(alloc, &program, one.owner)?;
+        let class = type_text(alloc, program, one.class)?;
+        let owner = type_text(alloc, program, one.owner)?;
         texts.add(format!(in alloc; "{class} if {owner}")?.as_str())?;
     }
     let (fields, methods) = (outside.fields_if.as_slice(), outside.methods_if.as_slice());
-    add_members(alloc, &program, "if", fields, methods, &mut texts)?;
-    add_members(
-        alloc,
-        &program,
-        "silent",
-        &[],
-        outside.silent.as_slice(),
-        &mut texts,
-    )?;
-    add_members(
-        alloc,
-        &program,
-        "shut",
-        &[],
-        outside.shut.as_slice(),
-        &mut texts,
-    )?;
+    add_members(alloc, program, "if", fields, methods, texts)
+}
+
+/// Adds silent and shut methods, and what is forbidden.
+fn add_rest(
+    alloc: Global,
+    program: &Program,
+    outside: &Outside,
+    texts: &mut Texts,
+) -> Result<(), AllocError> {
+    let (silent, shut) = (outside.silent.as_slice(), outside.shut.as_slice());
+    add_members(alloc, program, "silent", &[], silent, texts)?;
+    add_members(alloc, program, "shut", &[], shut, texts)?;
     if !outside.shrink {
         texts.add("noshrink")?;
     }
     if !outside.optimise {
         texts.add("nooptimise")?;
     }
-    Ok(texts.said(alloc)?)
+    Ok(())
+}
+
+/// What an outside has, in words.
+fn outside_text(alloc: Global, program: &Program, outside: &Outside) -> Result<String, AllocError> {
+    let mut texts = Texts::new(alloc);
+    add_kept(alloc, program, outside, &mut texts)?;
+    add_kept_if(alloc, program, outside, &mut texts)?;
+    add_rest(alloc, program, outside, &mut texts)?;
+    texts.said(alloc)
+}
+
+/// What rules keep of a program: classes, fields and methods, the same on a condition behind `if`, silent and shut methods
+/// behind these words, and what is forbidden.
+pub fn kept(alloc: Global, program: &Program, rules: &str) -> Result<String, Trouble> {
+    let rules = lines_of(alloc, rules)?;
+    let outside = outside(alloc, program, rules.as_slice())?;
+    Ok(outside_text(alloc, program, &outside)?)
 }

@@ -33,28 +33,25 @@ fn has_registers(insn: &Insn, count: u16) -> bool
         Insn::Move { slot, to, from } => {
             fits(slot.is_wide(), *to, count) && fits(slot.is_wide(), *from, count)
         }
-        Insn::MoveResult { slot, to: a } | Insn::Return { slot, from: a } => {
-            fits(slot.is_wide(), *a, count)
-        }
+        Insn::MoveResult { slot, to } => fits(slot.is_wide(), *to, count),
+        Insn::Return { slot, from } => fits(slot.is_wide(), *from, count),
         Insn::ConstWide { to, .. } => fits(true, *to, count),
-        Insn::MoveException { to: a }
-        | Insn::Const { to: a, .. }
-        | Insn::ConstString { to: a, .. }
-        | Insn::ConstClass { to: a, .. }
-        | Insn::NewInstance { to: a, .. }
-        | Insn::MonitorEnter { on: a }
-        | Insn::MonitorExit { on: a }
-        | Insn::CheckCast { on: a, .. }
-        | Insn::FillArray { on: a, .. }
-        | Insn::PackedSwitch { on: a, .. }
-        | Insn::SparseSwitch { on: a, .. }
-        | Insn::Throw { on: a }
-        | Insn::IfZero { a, .. } => *a < count,
-        Insn::InstanceOf { to: a, from: b, .. }
-        | Insn::ArrayLength { to: a, from: b }
-        | Insn::NewArray { to: a, size: b, .. }
-        | Insn::If { a, b, .. }
-        | Insn::Literal { to: a, a: b, .. } => *a < count && *b < count,
+        Insn::MoveException { to }
+        | Insn::Const { to, .. }
+        | Insn::ConstString { to, .. }
+        | Insn::ConstClass { to, .. }
+        | Insn::NewInstance { to, .. } => *to < count,
+        Insn::MonitorEnter { on }
+        | Insn::MonitorExit { on }
+        | Insn::CheckCast { on, .. }
+        | Insn::FillArray { on, .. }
+        | Insn::PackedSwitch { on, .. }
+        | Insn::SparseSwitch { on, .. }
+        | Insn::Throw { on } => *on < count,
+        Insn::InstanceOf { to, from, .. } | Insn::ArrayLength { to, from } => {
+            *to < count && *from < count
+        }
+        Insn::NewArray { to, size, .. } => *to < count && *size < count,
         Insn::FilledNewArray { args, .. } | Insn::Invoke { args, .. } => all_fit(
             args.as_slice(),
             count,
@@ -63,33 +60,26 @@ fn has_registers(insn: &Insn, count: u16) -> bool
             *to < count
                 && (fits(op.compares_wide(), *a, count) && fits(op.compares_wide(), *b, count))
         }
+        Insn::If { a, b, .. } => *a < count && *b < count,
+        Insn::IfZero { a, .. } => *a < count,
         Insn::ArrayGet {
             item,
-            to: a,
+            to,
             array,
             index,
-        }
-        | Insn::ArrayPut {
+        } => fits(item.is_wide(), *to, count) && (*array < count && *index < count),
+        Insn::ArrayPut {
             item,
-            from: a,
+            from,
             array,
             index,
-        } => fits(item.is_wide(), *a, count) && (*array < count && *index < count),
-        Insn::InstanceGet {
-            item,
-            to: a,
-            on,
-            ..
+        } => fits(item.is_wide(), *from, count) && (*array < count && *index < count),
+        Insn::InstanceGet { item, to, on, .. } => fits(item.is_wide(), *to, count) && *on < count,
+        Insn::InstancePut { item, from, on, .. } => {
+            fits(item.is_wide(), *from, count) && *on < count
         }
-        | Insn::InstancePut {
-            item,
-            from: a,
-            on,
-            ..
-        } => { fits(item.is_wide(), *a, count) && *on < count }
-        Insn::StaticGet { item, to: a, .. } | Insn::StaticPut { item, from: a, .. } => {
-            fits(item.is_wide(), *a, count)
-        }
+        Insn::StaticGet { item, to, .. } => fits(item.is_wide(), *to, count),
+        Insn::StaticPut { item, from, .. } => fits(item.is_wide(), *from, count),
         Insn::Unary { op, to, from } => {
             fits(op.writes_wide(), *to, count) && fits(op.reads_wide(), *from, count)
         }
@@ -97,6 +87,7 @@ fn has_registers(insn: &Insn, count: u16) -> bool
             fits(op.is_wide(), *to, count)
                 && (fits(op.is_wide(), *a, count) && fits(op.second_is_wide(), *b, count))
         }
+        Insn::Literal { to, a, .. } => *to < count && *a < count,
         _ => true,
     }
 }

@@ -115,12 +115,8 @@ pub(crate) fn fields_of(insn: &Insn, format: Format, numbers: &Renumber, far: u3
         Insn::Move { to, from, .. }
         | Insn::ArrayLength { to, from }
         | Insn::Unary { to, from, .. } => two(*to, *from, 0),
-        Insn::MoveResult { to: a, .. }
-        | Insn::MoveException { to: a }
-        | Insn::Return { from: a, .. }
-        | Insn::MonitorEnter { on: a }
-        | Insn::MonitorExit { on: a }
-        | Insn::Throw { on: a } => pair(*a, 0),
+        Insn::MoveResult { to, .. } | Insn::MoveException { to } => pair(*to, 0),
+        Insn::Return { from, .. } => pair(*from, 0),
         Insn::Const { to, value } => pair(*to, const_field(format, *value)),
         Insn::ConstWide { to, value } => Fields {
             a: u32::from(*to),
@@ -129,61 +125,48 @@ pub(crate) fn fields_of(insn: &Insn, format: Format, numbers: &Renumber, far: u3
             long: value.cast_unsigned(),
         },
         Insn::ConstString { to, string } => pair(*to, new_number(&numbers.strings, *string)),
-        Insn::ConstClass { to: a, kind }
-        | Insn::NewInstance { to: a, kind }
-        | Insn::CheckCast { on: a, kind } => pair(*a, new_number(&numbers.types, *kind)),
-        Insn::InstanceOf {
-            to: a,
-            from: b,
-            kind,
+        Insn::ConstClass { to, kind } | Insn::NewInstance { to, kind } => {
+            pair(*to, new_number(&numbers.types, *kind))
         }
-        | Insn::NewArray {
-            to: a,
-            size: b,
-            kind,
-        } => two(*a, *b, new_number(&numbers.types, *kind)),
+        Insn::CheckCast { on, kind } => pair(*on, new_number(&numbers.types, *kind)),
+        Insn::MonitorEnter { on } | Insn::MonitorExit { on } | Insn::Throw { on } => pair(*on, 0),
+        Insn::InstanceOf { to, from, kind } => {
+            two(*to, *from, new_number(&numbers.types, *kind))
+        }
+        Insn::NewArray { to, size, kind } => two(*to, *size, new_number(&numbers.types, *kind)),
         Insn::FilledNewArray { kind, args } => {
             call_fields(format, new_number(&numbers.types, *kind), args.as_slice())
         }
-        Insn::FillArray { on: a, .. }
-        | Insn::PackedSwitch { on: a, .. }
-        | Insn::SparseSwitch { on: a, .. }
-        | Insn::IfZero { a, .. } => pair(*a, far),
+        Insn::FillArray { on, .. }
+        | Insn::PackedSwitch { on, .. }
+        | Insn::SparseSwitch { on, .. } => pair(*on, far),
         Insn::Goto { .. } => three(far, far, 0),
+        Insn::Cmp { to, a, b, .. } => two(*to, *a, u32::from(*b)),
         Insn::If { a, b, .. } => two(*a, *b, far),
-        Insn::Cmp {
-            to: a,
-            a: b,
-            b: c,
+        Insn::IfZero { a, .. } => pair(*a, far),
+        Insn::ArrayGet {
+            to,
+            array,
+            index,
             ..
+        } => two(*to, *array, u32::from(*index)),
+        Insn::ArrayPut {
+            from,
+            array,
+            index,
+            ..
+        } => two(*from, *array, u32::from(*index)),
+        Insn::InstanceGet { to, on, field, .. } => {
+            two(*to, *on, new_number(&numbers.fields, *field))
         }
-        | Insn::ArrayGet {
-            to: a,
-            array: b,
-            index: c,
-            ..
-        }
-        | Insn::ArrayPut {
-            from: a,
-            array: b,
-            index: c,
-            ..
-        } => two(*a, *b, u32::from(*c)),
-        Insn::InstanceGet {
-            to: a,
-            on: b,
+        Insn::InstancePut {
+            from,
+            on,
             field,
             ..
-        }
-        | Insn::InstancePut {
-            from: a,
-            on: b,
-            field,
-            ..
-        } => two(*a, *b, new_number(&numbers.fields, *field)),
-        Insn::StaticGet { to: a, field, .. } | Insn::StaticPut { from: a, field, .. } => {
-            pair(*a, new_number(&numbers.fields, *field))
-        }
+        } => two(*from, *on, new_number(&numbers.fields, *field)),
+        Insn::StaticGet { to, field, .. } => pair(*to, new_number(&numbers.fields, *field)),
+        Insn::StaticPut { from, field, .. } => pair(*from, new_number(&numbers.fields, *field)),
         Insn::Invoke { method, args, .. } => {
             call_fields(
                 format,

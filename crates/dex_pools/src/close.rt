@@ -6,9 +6,8 @@ ghost use Rattle.dex_pools.specs.Used.{marked, no_use, program_names};
 ghost use Rattle.dex_pools.specs.Numbering.{numbers_from, numbers_of, kinds, type_entry, proto_entry, field_entry, method_entry, names_of_type, names_of_proto, names_of_field, names_of_method, close_methods, close_fields, close_protos, close_types, used_in};
 
 use crate::classes::walk_program;
-use crate::used::{Named, Used, unset_all};
+use crate::used::{Named, Used, none_used};
 use program_model::{FieldName, MethodName, Program, Proto};
-use seq::Seq;
 use std::alloc::{AllocError, Global};
 
 /// The numbers of the flags that are set. The greatest number of 32 bits stands for none.
@@ -157,13 +156,13 @@ fn close_types(alloc: Global, used: &mut Used, program: &Program) -> Result<(), 
     Ok(())
 }
 
-/// Marks the entries that the written program needs, and no other: what its classes name, and what these entries name in
-/// turn.
+/// Marks the entries that the written program needs, where none is marked yet: what its classes name, and what these
+/// entries name in turn.
 #[tactic(auto, unfolding(crate::specs::Numbering::used_in))]
-fn mark_all(alloc: Global, used: &mut Used, program: &Program) -> Result<(), AllocError>
+fn mark_needed(alloc: Global, used: &mut Used, program: &Program) -> Result<(), AllocError>
+    requires { used.old ≡ no_use program.now }
     ensures { OnOk result (used.new ≡ used_in program.now) }
 {
-    unset_all(alloc, used, program)?;
     walk_program(used, program);
     close_methods(alloc, used, program)?;
     close_fields(alloc, used, program)?;
@@ -175,13 +174,7 @@ fn mark_all(alloc: Global, used: &mut Used, program: &Program) -> Result<(), All
 pub fn used_in(alloc: Global, program: &Program) -> Result<Used, AllocError>
     ensures { IfOk result (λ used. used ≡ used_in program.now) }
 {
-    let mut used = Used {
-        strings: Seq::new(alloc),
-        types: Seq::new(alloc),
-        protos: Seq::new(alloc),
-        fields: Seq::new(alloc),
-        methods: Seq::new(alloc),
-    };
-    mark_all(alloc, &mut used, program)?;
+    let mut used = none_used(alloc, program)?;
+    mark_needed(alloc, &mut used, program)?;
     Ok(used)
 }

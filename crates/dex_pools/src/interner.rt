@@ -1,6 +1,6 @@
 //! The entries that a written program needs, in order, and their new numbers.
 
-ghost use Rattle.std.specs.Prelude.{◌≡◌, length, IfOk, OnOk};
+ghost use Rattle.std.specs.Prelude.{◌≡◌, length, IfOk};
 ghost use Rattle.dex_pools.specs.Interned.{IsInterned};
 ghost use Rattle.dex_pools.specs.Numbering.{string_key, type_key, proto_key, field_key, method_key, IsNumbered, used_in};
 
@@ -118,75 +118,38 @@ fn number_methods(
     number_table(alloc, used.methods.as_slice(), methods.len(), &keys)
 }
 
-/// Puts what a table has in place of these.
-fn put(numbered: Numbered, order: &mut Vec<u32>, numbers: &mut Vec<u32>)
-    ensures ordered { order.new ≡ numbered.order }
-    ensures placed { numbers.new ≡ numbered.numbers }
-{
-    let Numbered {
-        order: entries,
-        numbers: places,
-    } = numbered;
-    *order = entries;
-    *numbers = places;
-}
-
-/// Puts the used entries of each table in order, in place of what is there. Each list stands behind a `&mut`, so that
-/// nothing is let go where memory runs out: each way out past ten lists would cost the proof that they go.
-fn number_all(
-    alloc: Global,
-    used: &Used,
-    program: &Program,
-    interner: &mut Interner,
-) -> Result<(), AllocError>
+/// The used entries of each table in order.
+fn number_all(alloc: Global, used: &Used, program: &Program) -> Result<Interner, AllocError>
     requires { used.now ≡ used_in program.now }
-    ensures { OnOk result (IsInterned program.now interner.new) }
+    ensures { IfOk result (IsInterned program.now) }
 {
-    let order = &mut interner.order;
-    let numbers = &mut interner.numbers;
     let strings = number_strings(alloc, used, program)?;
-    put(strings, &mut order.strings, &mut numbers.strings);
-    let types = number_types(alloc, used, program, &numbers.strings)?;
-    put(types, &mut order.types, &mut numbers.types);
-    let protos = number_protos(alloc, used, program, &numbers.types)?;
-    put(protos, &mut order.protos, &mut numbers.protos);
-    let fields = number_fields(alloc, used, program, &numbers.strings, &numbers.types)?;
-    put(fields, &mut order.fields, &mut numbers.fields);
+    let types = number_types(alloc, used, program, &strings.numbers)?;
+    let protos = number_protos(alloc, used, program, &types.numbers)?;
+    let fields = number_fields(alloc, used, program, &strings.numbers, &types.numbers)?;
     let methods = number_methods(
         alloc,
         used,
         program,
-        &numbers.strings,
-        &numbers.types,
-        &numbers.protos,
+        &strings.numbers,
+        &types.numbers,
+        &protos.numbers,
     )?;
-    put(methods, &mut order.methods, &mut numbers.methods);
-    Ok(())
-}
-
-/// The used entries of each table in order.
-fn collect_used(alloc: Global, used: &Used, program: &Program) -> Result<Interner, AllocError>
-    requires { used.now ≡ used_in program.now }
-    ensures { IfOk result (IsInterned program.now) }
-{
-    let mut interner = Interner {
-        numbers: Renumber {
-            strings: Vec::new(alloc),
-            types: Vec::new(alloc),
-            protos: Vec::new(alloc),
-            fields: Vec::new(alloc),
-            methods: Vec::new(alloc),
-        },
-        order: Order {
-            strings: Vec::new(alloc),
-            types: Vec::new(alloc),
-            protos: Vec::new(alloc),
-            fields: Vec::new(alloc),
-            methods: Vec::new(alloc),
-        },
+    let numbers = Renumber {
+        strings: strings.numbers,
+        types: types.numbers,
+        protos: protos.numbers,
+        fields: fields.numbers,
+        methods: methods.numbers,
     };
-    number_all(alloc, used, program, &mut interner)?;
-    Ok(interner)
+    let order = Order {
+        strings: strings.order,
+        types: types.order,
+        protos: protos.order,
+        fields: fields.order,
+        methods: methods.order,
+    };
+    Ok(Interner { numbers, order })
 }
 
 impl Interner {
@@ -198,7 +161,7 @@ impl Interner {
         ensures { IfOk result (IsInterned program.now) }
     {
         let used = used_in(alloc, program)?;
-        collect_used(alloc, &used, program)
+        number_all(alloc, &used, program)
     }
 
     /// The new number of each used entry, and 4,294,967,295 for each other one.

@@ -1,6 +1,6 @@
 //! Which entries of the tables are used.
 
-ghost use Rattle.std.specs.Prelude.{◌≡◌, slice_set, true, OnOk, replicate, length, false};
+ghost use Rattle.std.specs.Prelude.{◌≡◌, slice_set, true, IfOk, replicate, length, false};
 ghost use Rattle.dex_pools.specs.Used.{mark_name, no_use};
 
 use program_model::Program;
@@ -51,22 +51,23 @@ impl Used {
     }
 }
 
-/// Puts so many flags in place of these, none of them set.
-fn unset(alloc: Global, flags: &mut Seq<bool>, count: usize) -> Result<(), AllocError>
-    ensures { OnOk result (flags.new ≡ replicate count false) }
+/// As many flags, none of them set.
+fn unset(alloc: Global, count: usize) -> Result<Seq<bool>, AllocError>
+    ensures { IfOk result (λ flags. flags ≡ replicate count false) }
 {
-    *flags = Seq::of_vec(vec![in alloc; false; count]?);
-    Ok(())
+    Ok(Seq::of_vec(vec![in alloc; false; count]?))
 }
 
-/// Puts a flag for each entry of the program's tables in place of these, none of them set.
+/// No entry of the program's tables.
 #[tactic(auto, unfolding(crate::specs::Used::no_use))]
-pub fn unset_all(alloc: Global, used: &mut Used, program: &Program) -> Result<(), AllocError>
-    ensures { OnOk result (used.new ≡ no_use program.now) }
+pub fn none_used(alloc: Global, program: &Program) -> Result<Used, AllocError>
+    ensures { IfOk result (λ used. used ≡ no_use program.now) }
 {
-    unset(alloc, &mut used.strings, program.strings.len())?;
-    unset(alloc, &mut used.types, program.types.len())?;
-    unset(alloc, &mut used.protos, program.protos.len())?;
-    unset(alloc, &mut used.fields, program.fields.len())?;
-    unset(alloc, &mut used.methods, program.methods.len())
+    Ok(Used {
+        strings: unset(alloc, program.strings.len())?,
+        types: unset(alloc, program.types.len())?,
+        protos: unset(alloc, program.protos.len())?,
+        fields: unset(alloc, program.fields.len())?,
+        methods: unset(alloc, program.methods.len())?,
+    })
 }

@@ -700,8 +700,10 @@ impl Assembler {
 /// and want of memory.
 pub fn assemble(alloc: Global, text: &str) -> Result<Program, TextFault> {
     let mut reading = Assembler::new(alloc);
-    match reading.read_twice(text) {
-        Ok(()) => Ok(reading.program),
+    let read = reading.read_twice(text);
+    let program = reading.program;
+    match read {
+        Ok(()) => Ok(program),
         Err(fault) => Err(fault),
     }
 }

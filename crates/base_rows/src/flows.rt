@@ -21,7 +21,7 @@ pub fn order(alloc: Global, nodes: &str, list: &str) -> Result<String, Trouble> 
     let mut texts = Texts::new(alloc);
     for part in &weak_order(alloc, nodes, edges.as_slice(), 0)? {
         let (node, end) = (part.node, part.end);
-        texts.add(format!(in alloc; "{node}..{end}")?.as_str())?;
+        texts.add_made(format!(in alloc; "{node}..{end}"));
     }
     Ok(texts.said(alloc)?)
 }

@@ -4,7 +4,7 @@ use crate::{graph, live};
 use hierarchy::Hierarchy;
 use program_model::Program;
 use program_text::print;
-use row_text::Trouble;
+use row_text::{Trouble, told};
 use std::alloc::Global;
 
 /// The answer to a line that asks something of a program's class graph.
@@ -33,7 +33,7 @@ fn of_classes(
 /// the proof of that.
 pub fn answer(alloc: Global, program: &Program, line: &str) -> Result<String, Trouble> {
     match line.split_whitespace().next().unwrap_or("") {
-        "print" => Ok(print(alloc, program)?),
+        "print" => told(print(alloc, program)),
         "rounds" => live::rounds(alloc, program, line),
         first => match Hierarchy::build(alloc, program) {
             Ok(tables) => of_classes(alloc, program, &tables, line),

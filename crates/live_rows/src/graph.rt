@@ -4,8 +4,8 @@ use crate::names::{class_text, defined_text, method, place};
 use hierarchy::{Hierarchy, HierarchyFault};
 use program_model::Program;
 use program_text::method_text;
-use row_text::{Texts, Trouble};
-use std::alloc::{AllocError, Global};
+use row_text::{Texts, Trouble, told};
+use std::alloc::Global;
 
 /// Why the classes make no hierarchy, which only a line that begins with `graph` asks.
 pub fn fault_text(
@@ -19,30 +19,24 @@ pub fn fault_text(
         _ if first != "graph" => Err(Trouble::Words),
         HierarchyFault::Cycle { class } => {
             let text = class_text(alloc, program, class)?;
-            Ok(format!(in alloc; "cycle at {class} {text}")?)
+            told(format!(in alloc; "cycle at {class} {text}"))
         }
         HierarchyFault::Twice { class } => {
             let text = class_text(alloc, program, class)?;
-            Ok(format!(in alloc; "twice at {class} {text}")?)
+            told(format!(in alloc; "twice at {class} {text}"))
         }
         HierarchyFault::SplitOverride { class, method } => {
             let text = method_text(alloc, program, method)?;
-            Ok(format!(in alloc; "split at {class} {text}")?)
+            told(format!(in alloc; "split at {class} {text}"))
         }
     }
 }
 
 /// Adds the classes at these places.
-fn add_classes(
-    alloc: Global,
-    program: &Program,
-    places: &[u32],
-    texts: &mut Texts,
-) -> Result<(), AllocError> {
+fn add_classes(alloc: Global, program: &Program, places: &[u32], texts: &mut Texts) {
     for place in places {
-        texts.add(class_text(alloc, program, *place)?.as_str())?;
+        texts.add_made(class_text(alloc, program, *place));
     }
-    Ok(())
 }
 
 /// The other classes under a class, in file order.
@@ -55,8 +49,8 @@ pub fn subclasses(
     let place = place(alloc, program, word)?;
     let under = tables.own_subclasses(alloc, place)?;
     let mut texts = Texts::new(alloc);
-    add_classes(alloc, program, under.as_slice(), &mut texts)?;
-    Ok(texts.said(alloc)?)
+    add_classes(alloc, program, under.as_slice(), &mut texts);
+    told(texts.said(alloc))
 }
 
 /// Whether the one class is under the other.
@@ -70,7 +64,7 @@ pub fn under(
     let lower = place(alloc, program, lower)?;
     let upper = place(alloc, program, upper)?;
     let is_under = tables.is_under(lower, upper);
-    Ok(format!(in alloc; "{is_under}")?)
+    told(format!(in alloc; "{is_under}"))
 }
 
 /// The method to which a name resolves.
@@ -81,9 +75,9 @@ pub fn resolved(
     word: &str,
 ) -> Result<String, Trouble> {
     let number = method(alloc, program, word)?;
-    Ok(match tables.resolve_method(program, number) {
-        Some(at) => defined_text(alloc, program, at)?,
-        None => String::from_str(alloc, "nothing")?,
+    told(match tables.resolve_method(program, number) {
+        Some(at) => defined_text(alloc, program, at),
+        None => String::from_str(alloc, "nothing"),
     })
 }
 
@@ -101,9 +95,9 @@ pub fn overriders(
     let over = tables.overriders(alloc, program, at)?;
     let mut texts = Texts::new(alloc);
     for one in &over {
-        texts.add(defined_text(alloc, program, *one)?.as_str())?;
+        texts.add_made(defined_text(alloc, program, *one));
     }
-    Ok(texts.said(alloc)?)
+    told(texts.said(alloc))
 }
 
 /// Whether nothing runs where a class is initialised.
@@ -115,5 +109,5 @@ pub fn trivial(
 ) -> Result<String, Trouble> {
     let class = place(alloc, program, word)?;
     let is_trivial = tables.trivially_initialised(program, class);
-    Ok(format!(in alloc; "{is_trivial}")?)
+    told(format!(in alloc; "{is_trivial}"))
 }

@@ -9,7 +9,7 @@ use program_model::{Changed, MethodAt, Outside, Program};
 use program_text::{field_text, method_text, print, type_text};
 use reach::{apply, close};
 use redex_outside::Panel;
-use row_text::{Texts, Trouble};
+use row_text::{Texts, Trouble, told};
 use std::alloc::{AllocError, Global};
 
 /// The numbers of the entries that are marked.
@@ -38,35 +38,23 @@ fn add_types(
         if made.get(*kind as usize).copied().unwrap_or(false) {
             text.push_str("!")?;
         }
-        texts.add(text.as_str())?;
+        texts.add(text.as_str());
     }
     Ok(())
 }
 
 /// Adds the fields with these numbers.
-fn add_fields(
-    alloc: Global,
-    program: &Program,
-    fields: &[u32],
-    texts: &mut Texts,
-) -> Result<(), AllocError> {
+fn add_fields(alloc: Global, program: &Program, fields: &[u32], texts: &mut Texts) {
     for field in fields {
-        texts.add(field_text(alloc, program, *field)?.as_str())?;
+        texts.add_made(field_text(alloc, program, *field));
     }
-    Ok(())
 }
 
 /// Adds the methods with these numbers.
-fn add_methods(
-    alloc: Global,
-    program: &Program,
-    methods: &[u32],
-    texts: &mut Texts,
-) -> Result<(), AllocError> {
+fn add_methods(alloc: Global, program: &Program, methods: &[u32], texts: &mut Texts) {
     for method in methods {
-        texts.add(method_text(alloc, program, *method)?.as_str())?;
+        texts.add_made(method_text(alloc, program, *method));
     }
-    Ok(())
 }
 
 /// Adds what is live: classes, fields and methods by number, with `!` behind a class of which objects are made.
@@ -77,39 +65,27 @@ fn add_live(
     texts: &mut Texts,
 ) -> Result<(), AllocError> {
     let types = marked(alloc, live.classes.as_slice())?;
-    add_types(
-        alloc,
-        program,
-        types.as_slice(),
-        live.made.as_slice(),
-        texts,
-    )?;
+    let made = live.made.as_slice();
+    add_types(alloc, program, types.as_slice(), made, texts)?;
     let fields = marked(alloc, live.fields.as_slice())?;
-    add_fields(alloc, program, fields.as_slice(), texts)?;
+    add_fields(alloc, program, fields.as_slice(), texts);
     let methods = marked(alloc, live.methods.as_slice())?;
-    add_methods(alloc, program, methods.as_slice(), texts)
+    add_methods(alloc, program, methods.as_slice(), texts);
+    Ok(())
 }
 
 /// What is live: classes, fields and methods by number, with `!` behind a class of which objects are made.
-fn live(alloc: Global, program: &Program, live: &LiveSet) -> Result<String, Trouble> {
+fn live(alloc: Global, program: &Program, live: &LiveSet) -> Result<String, AllocError> {
     let mut texts = Texts::new(alloc);
     add_live(alloc, program, live, &mut texts)?;
-    Ok(texts.said(alloc)?)
+    texts.said(alloc)
 }
 
-/// Adds calls, each target behind the position of its call.
-fn add_calls(
-    alloc: Global,
-    program: &Program,
-    calls: &[Edge],
-    texts: &mut Texts,
-) -> Result<(), AllocError> {
-    for edge in calls {
-        let position = edge.position;
-        let target = defined_text(alloc, program, edge.target)?;
-        texts.add(format!(in alloc; "{position}:{target}")?.as_str())?;
-    }
-    Ok(())
+/// A call: the target behind the position.
+fn call_text(alloc: Global, program: &Program, edge: &Edge) -> Result<String, AllocError> {
+    let position = edge.position;
+    let target = defined_text(alloc, program, edge.target)?;
+    format!(in alloc; "{position}:{target}")
 }
 
 /// What the first method of the first class may call, each behind the position of the call, where this is live.
@@ -118,12 +94,14 @@ fn calls(
     program: &Program,
     tables: &Hierarchy,
     live: &LiveSet,
-) -> Result<String, Trouble> {
+) -> Result<String, AllocError> {
     let first = MethodAt { class: 0, place: 0 };
     let calls = callees(alloc, program, tables, live, first)?;
     let mut texts = Texts::new(alloc);
-    add_calls(alloc, program, calls.as_slice(), &mut texts)?;
-    Ok(texts.said(alloc)?)
+    for edge in &calls {
+        texts.add_made(call_text(alloc, program, edge));
+    }
+    texts.said(alloc)
 }
 
 /// What is live, or what the first method may call. What the live members are is said where call_graph is; here only
@@ -134,7 +112,7 @@ fn of_live(
     tables: &Hierarchy,
     outside: &Outside,
     is_calls: bool,
-) -> Result<String, Trouble> {
+) -> Result<String, AllocError> {
     let members = live_members(alloc, program, tables, outside)?;
     if is_calls {
         calls(alloc, program, tables, &members)
@@ -143,35 +121,23 @@ fn of_live(
     }
 }
 
-/// Adds what an outside keeps.
-fn add_kept(
-    alloc: Global,
-    program: &Program,
-    kept: &Outside,
-    texts: &mut Texts,
-) -> Result<(), AllocError> {
-    add_types(alloc, program, kept.classes.as_slice(), &[], texts)?;
-    add_fields(alloc, program, kept.fields.as_slice(), texts)?;
-    add_methods(alloc, program, kept.methods.as_slice(), texts)
-}
-
-/// Adds what an outside forbids, and what it says is silent.
-fn add_forbidden(
-    alloc: Global,
-    program: &Program,
-    outside: &Outside,
-    texts: &mut Texts,
-) -> Result<(), AllocError> {
-    if !outside.shrink {
-        texts.add("noshrink")?;
+/// What an outside keeps, what it forbids, and what it says is silent.
+fn outside_text(alloc: Global, program: &Program, kept: &Outside) -> Result<String, AllocError> {
+    let mut texts = Texts::new(alloc);
+    add_types(alloc, program, kept.classes.as_slice(), &[], &mut texts)?;
+    add_fields(alloc, program, kept.fields.as_slice(), &mut texts);
+    add_methods(alloc, program, kept.methods.as_slice(), &mut texts);
+    if !kept.shrink {
+        texts.add("noshrink");
     }
-    if !outside.optimise {
-        texts.add("nooptimise")?;
+    if !kept.optimise {
+        texts.add("nooptimise");
     }
-    if !outside.silent.is_empty() {
-        texts.add("silent")?;
+    if !kept.silent.is_empty() {
+        texts.add("silent");
     }
-    add_methods(alloc, program, outside.silent.as_slice(), texts)
+    add_methods(alloc, program, kept.silent.as_slice(), &mut texts);
+    texts.said(alloc)
 }
 
 /// What is kept without conditions.
@@ -180,12 +146,9 @@ fn closed(
     program: &Program,
     tables: &Hierarchy,
     outside: &Outside,
-) -> Result<String, Trouble> {
+) -> Result<String, AllocError> {
     let closed = close(alloc, program, tables, outside)?;
-    let mut texts = Texts::new(alloc);
-    add_kept(alloc, program, &closed, &mut texts)?;
-    add_forbidden(alloc, program, &closed, &mut texts)?;
-    Ok(texts.said(alloc)?)
+    outside_text(alloc, program, &closed)
 }
 
 /// How much changed, and the program that is left where it isn't the one before.
@@ -205,9 +168,26 @@ fn left(
     program: &Program,
     tables: &Hierarchy,
     outside: &Outside,
-) -> Result<String, Trouble> {
+) -> Result<String, AllocError> {
     let changed = apply(alloc, program.clone()?, tables, outside)?;
-    Ok(change_said(alloc, program, &changed)?)
+    change_said(alloc, program, &changed)
+}
+
+/// What is reached, where these things are kept.
+fn of_kept(
+    alloc: Global,
+    program: &Program,
+    tables: &Hierarchy,
+    outside: &Outside,
+    first: &str,
+) -> Result<String, Trouble> {
+    told(match first {
+        "live" => of_live(alloc, program, tables, outside, false),
+        "calls" => of_live(alloc, program, tables, outside, true),
+        "closed" => closed(alloc, program, tables, outside),
+        "left" => left(alloc, program, tables, outside),
+        _ => return Err(Trouble::Words),
+    })
 }
 
 /// The answer to a line that keeps something and asks what is reached.
@@ -219,13 +199,7 @@ pub fn reached(
     line: &str,
 ) -> Result<String, Trouble> {
     let outside = kept(alloc, program, line)?;
-    match first {
-        "live" => of_live(alloc, program, tables, &outside, false),
-        "calls" => of_live(alloc, program, tables, &outside, true),
-        "closed" => closed(alloc, program, tables, &outside),
-        "left" => left(alloc, program, tables, &outside),
-        _ => Err(Trouble::Words),
-    }
+    of_kept(alloc, program, tables, &outside, first)
 }
 
 /// What the optimisation leaves, with no adviser.
@@ -234,13 +208,23 @@ fn optimised(alloc: Global, program: Program, outside: &Outside) -> Result<Outco
     optimise(alloc, program, outside, &mut panel)
 }
 
+/// How many rounds the optimisation took, what it removed, and how many methods are spared.
+fn outcome_text(alloc: Global, outcome: &Outcome) -> Result<String, AllocError> {
+    let (rounds, members) = (outcome.rounds, outcome.removed_members);
+    let (insns, spared) = (outcome.removed_instructions, outcome.spared);
+    format!(in alloc;
+        "rounds {rounds}, members {members}, instructions {insns}, spared {spared}"
+    )
+}
+
+/// How many rounds the optimisation takes where these things are kept, what it removes, and how many methods are spared.
+fn rounds_of(alloc: Global, program: &Program, outside: &Outside) -> Result<String, AllocError> {
+    let outcome = optimised(alloc, program.clone()?, outside)?;
+    outcome_text(alloc, &outcome)
+}
+
 /// How many rounds the optimisation takes, what it removes, and how many methods are spared.
 pub fn rounds(alloc: Global, program: &Program, line: &str) -> Result<String, Trouble> {
     let outside = kept(alloc, program, line)?;
-    let outcome = optimised(alloc, program.clone()?, &outside)?;
-    let (rounds, members) = (outcome.rounds, outcome.removed_members);
-    let (insns, spared) = (outcome.removed_instructions, outcome.spared);
-    Ok(format!(in alloc;
-        "rounds {rounds}, members {members}, instructions {insns}, spared {spared}"
-    )?)
+    told(rounds_of(alloc, program, &outside))
 }

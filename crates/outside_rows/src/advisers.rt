@@ -28,7 +28,7 @@ pub fn budget(alloc: Global, line: &str) -> Result<String, Trouble> {
     adviser.tell(alloc, Key::AtMost, number(words.next().unwrap_or(""))?, "")?;
     let mut texts = Texts::new(alloc);
     for class in words {
-        texts.add(word(adviser.weigh(&ask_about(alloc, class)?)))?;
+        texts.add(word(adviser.weigh(&ask_about(alloc, class)?)));
     }
     Ok(texts.said(alloc)?)
 }
@@ -55,11 +55,11 @@ pub fn panel(alloc: Global, line: &str) -> Result<String, Trouble> {
     panel.tell(alloc, Key::AtMost, number(words.next().unwrap_or(""))?, "")?;
     let mut texts = Texts::new(alloc);
     for class in words {
-        texts.add(word(panel.ask(alloc, &ask_about(alloc, class)?)?))?;
+        texts.add(word(panel.ask(alloc, &ask_about(alloc, class)?)?));
     }
-    texts.add("answers")?;
+    texts.add("answers");
     for answer in &panel.answers {
-        texts.add(word(*answer))?;
+        texts.add(word(*answer));
     }
     Ok(texts.said(alloc)?)
 }

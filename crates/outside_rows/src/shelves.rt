@@ -81,11 +81,10 @@ pub fn memory(alloc: Global, line: &str) -> Result<String, Trouble> {
     shelf.add(alloc, "out", b"old")?;
     let mut texts = Texts::new(alloc);
     for word in words {
-        let text = match word.strip_prefix("held:") {
-            Some(name) => held(alloc, shelf.bytes(name))?,
-            None => call(alloc, &mut shelf, word)?,
-        };
-        texts.add(text.as_str())?;
+        match word.strip_prefix("held:") {
+            Some(name) => texts.add_made(held(alloc, shelf.bytes(name))),
+            None => texts.add(call(alloc, &mut shelf, word)?.as_str()),
+        }
     }
     Ok(texts.said(alloc)?)
 }
@@ -99,9 +98,9 @@ pub fn sure(alloc: Global, line: &str) -> Result<String, Trouble> {
             let (name, text) = added.split_once(':').ok_or(Trouble::Words)?;
             shelf.add(alloc, name, text.as_bytes())?;
         } else if let Some(name) = word.strip_prefix("held:") {
-            texts.add(held(alloc, shelf.bytes(name))?.as_str())?;
+            texts.add_made(held(alloc, shelf.bytes(name)));
         } else {
-            texts.add(call(alloc, &mut shelf, word)?.as_str())?;
+            texts.add(call(alloc, &mut shelf, word)?.as_str());
         }
     }
     Ok(texts.said(alloc)?)
@@ -131,7 +130,7 @@ pub fn files(rt: &(impl Files + Env + AllocGlobal), line: &str) -> Result<String
             }
             None => call(alloc, &mut shelf, word)?,
         };
-        texts.add(answer.as_str())?;
+        texts.add(answer.as_str());
     }
     let _ = fs::remove_file(rt, name.as_str());
     Ok(texts.said(alloc)?)
@@ -154,9 +153,9 @@ pub fn notes(alloc: Global, line: &str) -> Result<String, Trouble> {
     let mut notes = MemoryNotes::new(alloc, fails);
     let mut texts = Texts::new(alloc);
     for word in words {
-        texts.add(noted(alloc, notes.say(alloc, word.as_bytes()))?.as_str())?;
+        texts.add_made(noted(alloc, notes.say(alloc, word.as_bytes())));
     }
-    texts.add(quoted(alloc, notes.bytes())?.as_str())?;
+    texts.add_made(quoted(alloc, notes.bytes()));
     Ok(texts.said(alloc)?)
 }
 

@@ -3,7 +3,7 @@
 use dex_base::Text;
 use program_model::{Insn, Program, count_cells, well_formed};
 use program_text::units_of;
-use row_text::{Trouble, number, place};
+use row_text::{Trouble, number, place, told};
 use std::alloc::{AllocError, Global};
 
 /// A text with a line in place of another one.
@@ -23,7 +23,7 @@ pub fn verdict(alloc: Global, program: &Program) -> Result<String, Trouble> {
     } else {
         "ill formed"
     };
-    Ok(String::from_str(alloc, verdict)?)
+    told(String::from_str(alloc, verdict))
 }
 
 /// Puts a number into an entry of the tables of types and protos.
@@ -114,11 +114,11 @@ pub fn formed_where(alloc: Global, program: &mut Program, line: &str) -> Result<
 /// How many cells a program has.
 pub fn cells(alloc: Global, program: &Program) -> Result<String, Trouble> {
     let cells = count_cells(program);
-    Ok(format!(in alloc; "{cells}")?)
+    told(format!(in alloc; "{cells}"))
 }
 
 /// Whether a copy of a program is the same.
 pub fn copy(alloc: Global, program: &Program) -> Result<String, Trouble> {
     let is_same = program.clone()? == *program;
-    Ok(format!(in alloc; "{is_same}")?)
+    told(format!(in alloc; "{is_same}"))
 }

@@ -7,7 +7,7 @@ use dex_base::Text;
 use program_model::{BinaryOp, Insn, LiteralOp, Program, count_cells};
 use program_text::{print, units_of};
 use redex_gen::generate;
-use row_text::{Trouble, lines_of, number};
+use row_text::{Trouble, lines_of, number, told};
 use script_text::{ScriptFault, read_script, write_events};
 use seq::Seq;
 use std::alloc::{AllocError, Global};
@@ -113,7 +113,7 @@ pub fn operator(alloc: Global, line: &str) -> Result<String, Trouble> {
     let a = number(words.next().unwrap_or(""))?;
     let b = number(words.next().unwrap_or(""))?;
     let answer = binary(&two_rows(alloc)?, op, u64::from(a), u64::from(b));
-    Ok(format!(in alloc; "{answer:?}")?)
+    told(format!(in alloc; "{answer:?}"))
 }
 
 /// What a literal answers from which a number is taken.
@@ -121,7 +121,7 @@ pub fn reversed(alloc: Global, line: &str) -> Result<String, Trouble> {
     let (a, value) = line.split_once(' ').ok_or(Trouble::Words)?;
     let value = i16::try_from(number(value)?).map_err(|_| Trouble::Words)?;
     let answer = literal(LiteralOp::RsubInt, number(a)?, value);
-    Ok(format!(in alloc; "{answer:?}")?)
+    told(format!(in alloc; "{answer:?}"))
 }
 
 /// The cells and the text of a program.
@@ -138,5 +138,5 @@ pub fn workload(alloc: Global, word: &str) -> Result<String, Trouble> {
     if classes > 2000 {
         return Err(Trouble::Words);
     }
-    Ok(workload_text(alloc, &generate(alloc, classes)?)?)
+    told(workload_text(alloc, &generate(alloc, classes)?))
 }

@@ -9,7 +9,7 @@ use program_model::{
     Class, EncValue, FieldName, Flags, Mark, MethodName, Program, Renumber, Version,
 };
 use program_text::units_of;
-use row_text::{Trouble, bytes, digits_of, list_of, number, numbers};
+use row_text::{Trouble, bytes, digits_of, list_of, number, numbers, told};
 use seq::Seq;
 use std::alloc::{AllocError, Global};
 
@@ -17,7 +17,7 @@ use std::alloc::{AllocError, Global};
 fn fault_text(alloc: Global, fault: PoolFault) -> Result<String, Trouble> {
     match fault {
         PoolFault::NoMemory => Err(Trouble::NoMemory),
-        fault => Ok(format!(in alloc; "{fault:?}")?),
+        fault => told(format!(in alloc; "{fault:?}")),
     }
 }
 
@@ -58,7 +58,7 @@ pub fn tables(alloc: Global, line: &str) -> Result<String, Trouble> {
     let words = pieces.next().unwrap_or("");
     let file = file(alloc, sizes, words, pieces.next().unwrap_or(""))?;
     match read_pools(alloc, file.as_slice()) {
-        Ok(pools) => Ok(tables_text(alloc, &pools)?),
+        Ok(pools) => told(tables_text(alloc, &pools)),
         Err(fault) => fault_text(alloc, fault),
     }
 }
@@ -145,7 +145,7 @@ fn value_text(alloc: Global, value: &EncValue, next: usize) -> Result<String, Al
 fn value(alloc: Global, bytes: &[u8]) -> Result<String, Trouble> {
     let pools = four_of_each(alloc)?;
     match read_value(alloc, bytes, 0, &pools, 1000) {
-        Ok((value, next)) => Ok(value_text(alloc, &value, next)?),
+        Ok((value, next)) => told(value_text(alloc, &value, next)),
         Err(fault) => fault_text(alloc, fault),
     }
 }
@@ -190,7 +190,7 @@ pub fn marks(alloc: Global, line: &str) -> Result<String, Trouble> {
     let bytes = bytes(alloc, digits)?;
     let pools = four_of_each(alloc)?;
     match read_annotations(alloc, bytes.as_slice(), 0, &pools, most) {
-        Ok(marks) => Ok(marks_text(alloc, marks.as_slice())?),
+        Ok(marks) => told(marks_text(alloc, marks.as_slice())),
         Err(fault) => fault_text(alloc, fault),
     }
 }
@@ -259,5 +259,5 @@ fn interner_text(alloc: Global, interner: &Interner) -> Result<String, AllocErro
 pub fn used(alloc: Global, words: &str) -> Result<String, Trouble> {
     let program = class_of(alloc, words)?;
     let interner = Interner::collect(alloc, &program)?;
-    Ok(interner_text(alloc, &interner)?)
+    told(interner_text(alloc, &interner))
 }

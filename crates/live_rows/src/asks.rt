@@ -19,7 +19,7 @@ fn of_classes(
     let second = words.next().unwrap_or("");
     let third = words.next().unwrap_or("");
     match first {
-        "graph" => Ok(String::from_str(alloc, "fine")?),
+        "graph" => told(String::from_str(alloc, "fine")),
         "subclasses" => graph::subclasses(alloc, program, tables, second),
         "under" => graph::under(alloc, program, tables, second, third),
         "resolves" => graph::resolved(alloc, program, tables, second),

@@ -4,7 +4,7 @@ use redex_outside::{
     Fail, FetchFault, FileShelf, MemoryNotes, MemoryShelf, NoteFault, Notes, PutFault, Shelf,
     StdNotes, SureShelf,
 };
-use row_text::{Texts, Trouble, place};
+use row_text::{Texts, Trouble, place, told};
 use std::alloc::{AllocError, Global};
 use std::rt::{Env, Files};
 use std::{env, fs};
@@ -86,7 +86,7 @@ pub fn memory(alloc: Global, line: &str) -> Result<String, Trouble> {
             None => texts.add(call(alloc, &mut shelf, word)?.as_str()),
         }
     }
-    Ok(texts.said(alloc)?)
+    told(texts.said(alloc))
 }
 
 /// What a sure shelf answers; `add:NAME:TEXT` puts something on it.
@@ -103,7 +103,7 @@ pub fn sure(alloc: Global, line: &str) -> Result<String, Trouble> {
             texts.add(call(alloc, &mut shelf, word)?.as_str());
         }
     }
-    Ok(texts.said(alloc)?)
+    told(texts.said(alloc))
 }
 
 /// The name of a file that isn't there yet, in the folder for such files.
@@ -113,7 +113,7 @@ fn new_file(rt: &(impl Files + Env + AllocGlobal)) -> Result<String, Trouble> {
     path.push("redex_outside_rows").map_err(|_| Trouble::Words)?;
     let name = path.to_str().ok_or(Trouble::Words)?;
     let _ = fs::remove_file(rt, name);
-    Ok(String::from_str(alloc, name)?)
+    told(String::from_str(alloc, name))
 }
 
 /// What a shelf of files answers, where `FILE` stands for a file that isn't there yet.
@@ -133,7 +133,7 @@ pub fn files(rt: &(impl Files + Env + AllocGlobal), line: &str) -> Result<String
         texts.add(answer.as_str());
     }
     let _ = fs::remove_file(rt, name.as_str());
-    Ok(texts.said(alloc)?)
+    told(texts.said(alloc))
 }
 
 /// What is said of a note.
@@ -156,7 +156,7 @@ pub fn notes(alloc: Global, line: &str) -> Result<String, Trouble> {
         texts.add_made(noted(alloc, notes.say(alloc, word.as_bytes())));
     }
     texts.add_made(quoted(alloc, notes.bytes()));
-    Ok(texts.said(alloc)?)
+    told(texts.said(alloc))
 }
 
 /// Says a line on standard output.
@@ -164,5 +164,5 @@ pub fn standard(rt: &(impl Print + AllocGlobal), line: &str) -> Result<String, T
     let alloc = rt.alloc();
     let line = format!(in alloc; "{line}\n")?;
     let mut notes = StdNotes::new(rt);
-    Ok(noted(alloc, notes.say(alloc, line.as_bytes()))?)
+    told(noted(alloc, notes.say(alloc, line.as_bytes())))
 }

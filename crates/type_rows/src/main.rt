@@ -46,7 +46,7 @@ fn answered(alloc: Global, page: &Page) -> Result<String, Trouble> {
     match assemble(alloc, page.text()) {
         Ok(program) => told(verdict(alloc, &program)),
         Err(TextFault::NoMemory) => Err(Trouble::NoMemory),
-        Err(fault) => Ok(format!(in alloc; "{fault:?}")?),
+        Err(fault) => told(format!(in alloc; "{fault:?}")),
     }
 }
 

@@ -1,11 +1,11 @@
 //! The live members of a program.
 
-ghost use Rattle.std.specs.Prelude.{◌≡◌, true, length, IfOk, OnOk, vec_len};
+ghost use Rattle.std.specs.Prelude.{◌≡◌, true, length, IfOk, vec_len};
 ghost use Rattle.call_graph.specs.Facts.{Fits, Sized};
 ghost use Rattle.program_model.specs.ProgramRules.{is_well_formed};
-ghost use Rattle.call_graph.specs.Objects.{AreNotes, HasCommon, NothingNoted};
+ghost use Rattle.call_graph.specs.Objects.{HasCommon};
 ghost use Rattle.call_graph.specs.Tables.{AreTables};
-ghost use Rattle.call_graph.specs.Closed.{IsBlank, IsClosed, IsClosedSet};
+ghost use Rattle.call_graph.specs.Closed.{IsClosed, IsClosedSet};
 ghost use Rattle.hierarchy.specs.Shapes.{IsResolved};
 
 use crate::at::At;
@@ -18,7 +18,7 @@ use program_model::{Outside, Program};
 use std::alloc::{AllocError, Global};
 
 /// The live classes and the made ones by type number, and the live fields and methods by their numbers.
-#[derive(Drop)]
+#[derive(PartialEq, Eq, Debug, Drop)]
 pub struct LiveSet {
     pub classes: Vec<bool>,
     pub made: Vec<bool>,
@@ -46,30 +46,6 @@ fn marks_of(facts: Facts) -> LiveSet
     }
 }
 
-/// Adds what the outside keeps, and all facts that follow, to no facts and no notes.
-fn follow_all(
-    alloc: Global,
-    at: &At<'_>,
-    outside: &Outside,
-    tables: &Tables,
-    notes: &mut Notes,
-    facts: &mut Facts,
-) -> Result<(), AllocError>
-    ensures sized { Sized at.now.program.now facts.old → OnOk result (Sized at.now.program.now facts.new) }
-    ensures closed { IsResolved at.now.program.now at.now.hierarchy.now → is_well_formed at.now.program.now ≡ true → HasCommon at.now.program.now at.now.hierarchy.now tables.now.of_object.items
-        → AreNotes at.now.program.now notes.old → NothingNoted notes.old → IsBlank facts.old → OnOk result (IsClosed at.now.program.now outside.now tables.now facts.new) }
-{
-    let mut more = Vec::new(alloc);
-    begin(at, outside, &mut more)?;
-    facts.add_all(more.as_slice())?;
-    while let Some(fact) = facts.next() {
-        more.clear();
-        follow(alloc, at, tables, notes, fact, &mut more)?;
-        facts.add_all(more.as_slice())?;
-    }
-    Ok(())
-}
-
 /// All facts that follow from what the outside keeps.
 fn search(
     alloc: Global,
@@ -79,13 +55,19 @@ fn search(
     tables: &Tables,
 ) -> Result<Facts, AllocError>
     ensures sized { IfOk result (Sized program.now) }
-    ensures closed { IsResolved program.now hierarchy.now → is_well_formed program.now ≡ true → HasCommon program.now hierarchy.now tables.now.of_object.items
-        → IfOk result (λ f. IsClosed program.now outside.now tables.now f) }
+    ensures closed { IsResolved program.now hierarchy.now → is_well_formed program.now ≡ true → HasCommon program.now hierarchy.now tables.now.of_object.items → IfOk result (λ f. IsClosed program.now outside.now tables.now f) }
 {
-    let at = At { program, hierarchy };
     let mut facts = no_facts(alloc, program)?;
     let mut notes = Notes::new(alloc, program, hierarchy)?;
-    follow_all(alloc, &at, outside, tables, &mut notes, &mut facts)?;
+    let mut more = Vec::new(alloc);
+    let at = At { program, hierarchy };
+    begin(&at, outside, &mut more)?;
+    facts.add_all(more.as_slice())?;
+    while let Some(fact) = facts.next() {
+        more.clear();
+        follow(alloc, &at, tables, &mut notes, fact, &mut more)?;
+        facts.add_all(more.as_slice())?;
+    }
     Ok(facts)
 }
 

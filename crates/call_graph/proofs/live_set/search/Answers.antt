@@ -1,7 +1,38 @@
+use Rattle.std.proofs.Common.{◌∙◌, ◌++◌, ap, subst}
+use Rattle.call_graph.specs.Closed.{kept_facts, Reaches}
+use Rattle.call_graph.proofs.Growth.{follows_first, follows_on, closed_then}
 use Rattle.call_graph.proofs.live_set.search.Goals as goal
 
-pub returns-clause-closed : goal.returns-clause-closed
-returns-clause-closed c = λ is fits common. c.in_ok-follow_all.ensures.closed is fits common (c.in_ok-notes.ensures.notes is) c.in_ok-notes.ensures.nothing c.in_ok-facts.ensures.blank
+pub loop-fact-init : goal.loop-fact-init
+loop-fact-init c = record {
+  sized = (
+    c.in_ok-add_all.ensures.grows.1 ∙ c.in_ok-facts.ensures.sized.0,
+    c.in_ok-add_all.ensures.grows.2 ∙ c.in_ok-facts.ensures.sized.1,
+    c.in_ok-add_all.ensures.grows.3 ∙ c.in_ok-facts.ensures.sized.2,
+    c.in_ok-add_all.ensures.grows.4 ∙ c.in_ok-facts.ensures.sized.3,
+    c.in_ok-add_all.ensures.grows.5 ∙ c.in_ok-facts.ensures.sized.4,
+  );
+  notes = λ is fits common. c.in_ok-notes.ensures.notes is;
+  follows = λ is fits common. follows_first c.args.program.now c.args.outside.now c.args.tables.now c.in_ok-notes.notes c.in_ok-facts.facts c.add_all.new.self c.begin.new.out.items c.in_ok-facts.ensures.blank c.in_ok-notes.ensures.nothing c.in_ok-add_all.ensures.goes
+      (c.in_ok-begin.ensures is ∙ ap (λ l. l ++ kept_facts c.args.program.now c.args.outside.now) c.new-more.ensures.items)
+      (subst (λ l. Reaches c.add_all.new.self l) c.as_slice.ensures.value c.in_ok-add_all.ensures.known);
+}
 
-pub returns-clause-sized : goal.returns-clause-sized
-returns-clause-sized c = c.in_ok-follow_all.ensures.sized c.in_ok-facts.ensures.sized
+pub loop-fact-preserved : goal.loop-fact-preserved
+loop-fact-preserved c = record {
+  sized = (
+    c.in_ok-add_all-2.ensures.grows.1 ∙ c.in-Some.ensures.grows.1 ∙ c.loop-fact.invariant.sized.0,
+    c.in_ok-add_all-2.ensures.grows.2 ∙ c.in-Some.ensures.grows.2 ∙ c.loop-fact.invariant.sized.1,
+    c.in_ok-add_all-2.ensures.grows.3 ∙ c.in-Some.ensures.grows.3 ∙ c.loop-fact.invariant.sized.2,
+    c.in_ok-add_all-2.ensures.grows.4 ∙ c.in-Some.ensures.grows.4 ∙ c.loop-fact.invariant.sized.3,
+    c.in_ok-add_all-2.ensures.grows.5 ∙ c.in-Some.ensures.grows.5 ∙ c.loop-fact.invariant.sized.4,
+  );
+  notes = λ is fits common. (c.in_ok-follow.ensures is fits (c.loop-fact.invariant.notes is fits common) common).are;
+  follows = λ is fits common.
+      follows_on c.args.program.now c.args.outside.now c.args.tables.now c.loop-fact.notes c.follow.new.notes c.loop-fact.facts c.next.new.self c.add_all-in-Some.new.self c.in-Some.fact c.follow.new.out.items
+      (c.loop-fact.invariant.follows is fits common) c.in-Some.ensures.takes c.in_ok-add_all-2.ensures.goes (c.in_ok-follow.ensures is fits (c.loop-fact.invariant.notes is fits common) common)
+      (subst (λ l. Reaches c.add_all-in-Some.new.self l) c.as_slice-in-Some.ensures.value c.in_ok-add_all-2.ensures.known);
+}
+
+pub returns-clause-closed : goal.returns-clause-closed
+returns-clause-closed c = λ is fits common. closed_then c.args.program.now c.args.outside.now c.args.tables.now c.loop-fact.notes c.loop-fact.facts c.next.new.self (c.loop-fact.invariant.follows is fits common) c.in_default.ensures.takes

@@ -5,12 +5,12 @@ def nice_of(cwd,name):
     over=json.load(open('/work/tools/prio.json')) if os.path.exists('/work/tools/prio.json') else {}
     if 'rt-copy' in cwd:
         if name in over: return over[name]
-        if name in CHAIN: return -19
-        if name in LOW: return -8
-        return -17
+        if name in CHAIN: return -20
+        if name in LOW: return -4
+        return -8
     for k,v in over.items():
         if k.startswith('/') and cwd.startswith(k): return v
-    return -3
+    return -1
 while True:
     want={}
     for p in os.listdir('/proc'):
@@ -21,15 +21,25 @@ while True:
                 group=open(f'/proc/{p}/autogroup').read().split()[0]
                 if group not in want or -11<want[group][0]: want[group]=(-8,p)
                 continue
+            if len(cmd)>3 and cmd[1].endswith('/rt') and cmd[2]=='ci':
+                group=open(f'/proc/{p}/autogroup').read().split()[0]
+                n=min(nice_of('rt-copy',x) for x in cmd[3:] if x)
+                if group not in want or n<want[group][0]: want[group]=(n,p)
+                continue
             if cmd[0].endswith('rattle-try'):
                 group=open(f'/proc/{p}/autogroup').read().split()[0]
-                want[group]=(-3,p)
+                want[group]=(-14 if 'work/tc' in ' '.join(cmd) else -3,p)
                 continue
             if len(cmd)<4 or not cmd[0].endswith('bin/rattle'): continue
             cwd=os.readlink(f'/proc/{p}/cwd')
             name=cmd[cmd.index('--crate-name')+1]
             group=open(f'/proc/{p}/autogroup').read().split()[0]
             n=nice_of(cwd,name)
+            if 'rt-copy' not in cwd:
+                full=' '.join(cmd[:6])
+                over=json.load(open('/work/tools/prio.json'))
+                for k,v in over.items():
+                    if k.startswith('/') and k in full: n=min(n,v)
             if 'rt-copy' not in cwd: open(f'/proc/{p}/oom_score_adj','w').write('700')
             if group not in want or n<want[group][0]: want[group]=(n,p)
         except Exception: pass

@@ -139,3 +139,7 @@ below_or zero zero lt = inr refl
 below_or zero (suc b) lt = inl (omega arith)
 below_or (suc a) zero lt = absurd (omega (arith, lt))
 below_or (suc a) (suc b) lt = elim (below_or a b (omega (arith, lt))) [ inl l ↦ inl (omega (arith, l)) | inr e ↦ inr (ap suc e) ]
+
+-- the element that a loop is at is one of the list
+pub taken_in : {X : Type 0} (xs : List X) (i : ℕ) (d : X) → i < length xs → Contains xs (get_or xs i d)
+taken_in xs i d lt = get_in xs i (get_or xs i d) (got_item xs i d lt)

@@ -97,7 +97,7 @@ stays_reached f g k (fact.Field n) h = k.fields.reached n h
 stays_reached f g k (fact.Method n) h = k.methods.reached n h
 stays_reached f g k (fact.Called n) h = k.called.reached n h
 
-new_waits : (f g : Facts) → Goes f g → (x : Fact) → has g x ≡ true → (has f x ≡ true) ⊎ Waits g x
+pub new_waits : (f g : Facts) → Goes f g → (x : Fact) → has g x ≡ true → (has f x ≡ true) ⊎ Waits g x
 new_waits f g k (fact.Class n) h = k.classes.new n h
 new_waits f g k (fact.Made n) h = k.made.new n h
 new_waits f g k (fact.Field n) h = k.fields.new n h
@@ -174,7 +174,7 @@ closed_then p o t n f g s e = record {
 }
 
 -- at the start
-blank : (f : Facts) → IsBlank f → (x : Fact) → has f x ≡ true → ⊥
+pub blank : (f : Facts) → IsBlank f → (x : Fact) → has f x ≡ true → ⊥
 blank f b (fact.Class n) h = b.classes n h
 blank f b (fact.Made n) h = b.made n h
 blank f b (fact.Field n) h = b.fields n h
@@ -302,7 +302,7 @@ set_met f s a b c d (fact.Field n) h = ap (λ v. slice_index_or v.items n true) 
 set_met f s a b c d (fact.Method n) h = ap (λ v. slice_index_or v.items n true) d ∙ h
 set_met f s a b c d (fact.Called n) h = refl
 
-set_has : (f : Facts) (s : LiveSet) → s.classes ≡ f.classes.marks → s.made ≡ f.made.marks → s.fields ≡ f.fields.marks → s.methods ≡ f.methods.marks → (x : Fact) → is_live s x ≡ true → has f x ≡ true
+pub set_has : (f : Facts) (s : LiveSet) → s.classes ≡ f.classes.marks → s.made ≡ f.made.marks → s.fields ≡ f.fields.marks → s.methods ≡ f.methods.marks → (x : Fact) → is_live s x ≡ true → has f x ≡ true
 set_has f s a b c d (fact.Class n) h = sym (ap (λ v. slice_index_or v.items n false) a) ∙ h
 set_has f s a b c d (fact.Made n) h = sym (ap (λ v. slice_index_or v.items n false) b) ∙ h
 set_has f s a b c d (fact.Field n) h = sym (ap (λ v. slice_index_or v.items n false) c) ∙ h

@@ -10,3 +10,4 @@ mod Contained
 mod Noting
 mod Owners
 mod Calling
+mod Reaching

@@ -1,4 +1,5 @@
 pub mod Marks
+pub mod Least
 pub mod Lists
 pub mod Tables
 pub mod Facts

@@ -1,9 +1,10 @@
 //! What is known to be live, and what is known to be called.
 
 ghost use Rattle.std.specs.Prelude.{◌≡◌, ◌+◌, ◌≤◌, IfOk, OnOk, IfNone, OnSome, length, vec_len};
-ghost use Rattle.std.specs.Prelude.{true, MatchOption};
+ghost use Rattle.std.specs.Prelude.{true, ◌∷◌, [], IfSome, MatchOption};
 ghost use Rattle.call_graph.specs.Facts.{Grows, Sized, weight};
-ghost use Rattle.call_graph.specs.Closed.{reached, Goes, Reaches, IsBlank, Takes, Ends};
+ghost use Rattle.call_graph.specs.Closed.{reached, Waits, Goes, Reaches, IsBlank, Takes, Ends};
+ghost use Rattle.call_graph.specs.Least.{IsTaken, WaitsAmong};
 
 use crate::marks::Marks;
 use program_model::Program;
@@ -34,6 +35,7 @@ pub enum Fact {
 pub fn no_facts(alloc: Global, program: &Program) -> Result<Facts, AllocError>
     ensures sized { IfOk result (Sized program.now) }
     ensures blank { IfOk result (λ f. IsBlank f) }
+    ensures idle { IfOk result (λ f. (y : Fact) → Waits f y → ⊥) }
 {
     Ok(Facts {
         classes: Marks::new(alloc, program.types.len())?,
@@ -51,6 +53,7 @@ impl Facts {
         ensures grows { OnOk result (Grows self.old self.new) }
         ensures goes { OnOk result (Goes self.old self.new) }
         ensures known { OnOk result (reached self.new fact ≡ true) }
+        ensures from { OnOk result (WaitsAmong self.old self.new (fact ∷ [])) }
     {
         match fact {
             Fact::Class(number) => self.classes.mark(number),
@@ -66,6 +69,7 @@ impl Facts {
         ensures grows { OnOk result (Grows self.old self.new) }
         ensures goes { OnOk result (Goes self.old self.new) }
         ensures known { OnOk result (Reaches self.new facts.now) }
+        ensures from { OnOk result (WaitsAmong self.old self.new facts.now) }
     {
         for fact in facts {
             self.add(*fact)?;
@@ -78,6 +82,8 @@ impl Facts {
         ensures grows { Grows self.old self.new }
         ensures some { OnSome result (weight self.new + 1 ≤ weight self.old) }
         ensures takes { MatchOption result (Ends self.old self.new) (λ x. Takes self.old self.new x) }
+        ensures taken { IfSome result (IsTaken self.old self.new) }
+        ensures rest { (y : Fact) → Waits self.new y → Waits self.old y }
     {
         if let Some(number) = self.classes.pop() {
             return Some(Fact::Class(number));

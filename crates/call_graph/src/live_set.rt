@@ -6,6 +6,7 @@ ghost use Rattle.program_model.specs.ProgramRules.{is_well_formed};
 ghost use Rattle.call_graph.specs.Objects.{HasCommon};
 ghost use Rattle.call_graph.specs.Tables.{AreTables};
 ghost use Rattle.call_graph.specs.Closed.{IsClosed, IsClosedSet};
+ghost use Rattle.call_graph.specs.Least.{AreCommon, AreKnownReached, IsLeastSet};
 ghost use Rattle.hierarchy.specs.Shapes.{IsResolved};
 
 use crate::at::At;
@@ -30,6 +31,7 @@ pub struct LiveSet {
 fn marks_of(facts: Facts) -> LiveSet
     ensures fits { (p : Program) → Sized p facts → Fits p result }
     ensures closed { (p : Program) (o : Outside) (t : Tables) → AreTables p o t → Sized p facts → IsClosed p o t facts → IsClosedSet p o result }
+    ensures least { (p : Program) (o : Outside) (t : Tables) → AreTables p o t → AreKnownReached p o t facts → IsLeastSet p o result }
 {
     let Facts {
         classes,
@@ -56,6 +58,7 @@ fn search(
 ) -> Result<Facts, AllocError>
     ensures sized { IfOk result (Sized program.now) }
     ensures closed { IsResolved program.now hierarchy.now → is_well_formed program.now ≡ true → HasCommon program.now hierarchy.now tables.now.of_object.items → IfOk result (λ f. IsClosed program.now outside.now tables.now f) }
+    ensures least { IsResolved program.now hierarchy.now → is_well_formed program.now ≡ true → HasCommon program.now hierarchy.now tables.now.of_object.items → AreCommon program.now hierarchy.now tables.now.of_object.items → IfOk result (AreKnownReached program.now outside.now tables.now) }
 {
     let mut facts = no_facts(alloc, program)?;
     let mut notes = Notes::new(alloc, program, hierarchy)?;
@@ -85,6 +88,13 @@ fn search(
 /// - The framework may call on a made class the methods that each object has, and where the class has a framework
 ///   ancestor other than `Ljava/lang/Object;`, all its virtual methods, unless they are shut.
 ///
+/// The rules give more than the definition Live in four places. A kept number that is named `<init>` has its class made also
+/// where the class doesn't define that constructor. The classes in the descriptor of a member that an annotation or a first value
+/// names are live. Where the program itself defines `Ljava/lang/Object;`, what stands above it stands above every class. And in
+/// version 037 the framework may call, by a name and proto that a made class under a type of its own doesn't find, the method of
+/// every program class above it, also of one that no walk along interfaces alone leads to: a class that an interface list names
+/// though it is none, or the superclass of an interface.
+///
 /// Each set has one entry for each number of its table. The only error is want of memory.
 pub fn live_members(
     alloc: Global,
@@ -94,6 +104,7 @@ pub fn live_members(
 ) -> Result<LiveSet, AllocError>
     ensures fits { IfOk result (Fits program.now) }
     ensures closed { is_well_formed program.now ≡ true → IsResolved program.now hierarchy.now → IfOk result (λ s. IsClosedSet program.now outside.now s) }
+    ensures least { is_well_formed program.now ≡ true → IsResolved program.now hierarchy.now → IfOk result (IsLeastSet program.now outside.now) }
 {
     let tables = Tables::new(alloc, program, hierarchy, outside)?;
     let facts = search(alloc, program, hierarchy, outside, &tables)?;

@@ -96,6 +96,7 @@ impl Marks {
         ensures none { left self.new ≤ left self.old }
         ensures some { OnSome result (left self.new + 1 ≤ left self.old) }
         ensures pops { Pops self.old self.new result }
+        ensures rest { (n : ℕ) → Contains self.new.waiting.items n → Contains self.old.waiting.items n }
     {
         self.waiting.pop()
     }

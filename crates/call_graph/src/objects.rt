@@ -7,7 +7,10 @@ ghost use Rattle.class_defs.specs.Finding.{finds_virtual};
 ghost use Rattle.hierarchy.specs.Naming.{IsKey};
 ghost use Rattle.hierarchy.specs.Shapes.{IsResolved};
 ghost use Rattle.call_graph.specs.declared.facts.Fact.{Fact};
+ghost use Rattle.call_graph.specs.declared.facts.Fact.TheVariants as fact;
+ghost use Rattle.program_model.specs.declared.pass.Outside.{Outside};
 ghost use Rattle.call_graph.specs.Above.{HasAbove};
+ghost use Rattle.call_graph.specs.Least.{AddsOnly, AllReached, AreCommon, AreReached, BothReached, CallsOn, FoundCommon, Inherited, InheritedAmong, InheritedBy, InheritedFrom, IsCommonKey, IsMadeUnder, IsNamed, Reached};
 ghost use Rattle.call_graph.specs.Objects.{all_found, class_candidates, answers_to, answer_facts, inherited, open_of, open_facts, AllIn, Inherits, InheritsOf, FindsOpen, HasCommon, CallsBack, IsReady, AreNotes, NotesCall, NotesUnder, NotesMade};
 ghost use Rattle.call_graph.specs.Stays.{Stays};
 
@@ -135,7 +138,9 @@ pub fn follow_called(
     number: u32,
     out: &mut Vec<Fact>,
 ) -> Result<(), AllocError>
-    ensures { IsResolved at.now.program.now at.now.hierarchy.now → AreNotes at.now.program.now notes.old → OnOk result (NotesCall at.now.program.now notes.old notes.new number out.old.items out.new.items) }
+    ensures notes { IsResolved at.now.program.now at.now.hierarchy.now → AreNotes at.now.program.now notes.old → OnOk result (NotesCall at.now.program.now notes.old notes.new number out.old.items out.new.items) }
+    ensures reached { (o : Outside) (t : Tables) → IsResolved at.now.program.now at.now.hierarchy.now → AreNotes at.now.program.now notes.old → Reached at.now.program.now o t (fact.Called number)
+        → AreReached at.now.program.now o t notes.old → AllReached at.now.program.now o t out.old.items → OnOk result (BothReached at.now.program.now o t notes.new out.new.items) }
 {
     match at.method_name(number) {
         Some(name) => {
@@ -163,7 +168,9 @@ fn add_under(
     kind: u32,
     out: &mut Vec<Fact>,
 ) -> Result<(), AllocError>
-    ensures { IsResolved at.now.program.now at.now.hierarchy.now → AreNotes at.now.program.now notes.old → OnOk result (NotesUnder at.now.program.now notes.old notes.new class (kind ∷ []) out.old.items out.new.items) }
+    ensures notes { IsResolved at.now.program.now at.now.hierarchy.now → AreNotes at.now.program.now notes.old → OnOk result (NotesUnder at.now.program.now notes.old notes.new class (kind ∷ []) out.old.items out.new.items) }
+    ensures reached { (o : Outside) (t : Tables) → IsResolved at.now.program.now at.now.hierarchy.now → AreNotes at.now.program.now notes.old → IsMadeUnder at.now.program.now o t class kind
+        → AreReached at.now.program.now o t notes.old → AllReached at.now.program.now o t out.old.items → OnOk result (BothReached at.now.program.now o t notes.new out.new.items) }
 {
     notes.made_under.add(kind, class)?;
     add_all_called(
@@ -186,7 +193,9 @@ fn add_under_all(
     kinds: &[u32],
     out: &mut Vec<Fact>,
 ) -> Result<(), AllocError>
-    ensures { IsResolved at.now.program.now at.now.hierarchy.now → AreNotes at.now.program.now notes.old → OnOk result (NotesUnder at.now.program.now notes.old notes.new class kinds.now out.old.items out.new.items) }
+    ensures notes { IsResolved at.now.program.now at.now.hierarchy.now → AreNotes at.now.program.now notes.old → OnOk result (NotesUnder at.now.program.now notes.old notes.new class kinds.now out.old.items out.new.items) }
+    ensures reached { (o : Outside) (t : Tables) → IsResolved at.now.program.now at.now.hierarchy.now → AreNotes at.now.program.now notes.old → ((u : ℕ) → Contains kinds.now u → IsMadeUnder at.now.program.now o t class u)
+        → AreReached at.now.program.now o t notes.old → AllReached at.now.program.now o t out.old.items → OnOk result (BothReached at.now.program.now o t notes.new out.new.items) }
 {
     for kind in kinds {
         add_under(alloc, at, notes, class, *kind, out)?;
@@ -256,6 +265,7 @@ fn add_inherited(
 ) -> Result<(), AllocError>
     ensures stays { OnOk result (Stays out.old.items out.new.items) }
     ensures inherits { IsResolved at.now.program.now at.now.hierarchy.now → OnOk result (Inherits at.now.program.now shut.now class above (method.now ∷ []) out.new.items) }
+    ensures only { IsResolved at.now.program.now at.now.hierarchy.now → IsNamed at.now.program.now method.now → OnOk result (AddsOnly (InheritedBy at.now.program.now shut.now class above method.now) out.old.items out.new.items) }
 {
     if at.hierarchy.is_virtual(method) {
         let key = at.hierarchy.key_of_method(method.name);
@@ -275,6 +285,7 @@ fn add_inherited_all(
 ) -> Result<(), AllocError>
     ensures stays { OnOk result (Stays out.old.items out.new.items) }
     ensures inherits { IsResolved at.now.program.now at.now.hierarchy.now → OnOk result (Inherits at.now.program.now shut.now class above methods.now out.new.items) }
+    ensures only { IsResolved at.now.program.now at.now.hierarchy.now → ((m : Method) → Contains methods.now m → IsNamed at.now.program.now m) → OnOk result (AddsOnly (InheritedFrom at.now.program.now shut.now class above methods.now) out.old.items out.new.items) }
 {
     for method in methods {
         add_inherited(at, shut, class, above, method, out)?;
@@ -292,6 +303,7 @@ fn add_inherited_of(
 ) -> Result<(), AllocError>
     ensures stays { OnOk result (Stays out.old.items out.new.items) }
     ensures inherits { IsResolved at.now.program.now at.now.hierarchy.now → OnOk result (InheritsOf at.now.program.now shut.now class kind out.new.items) }
+    ensures only { IsResolved at.now.program.now at.now.hierarchy.now → is_well_formed at.now.program.now ≡ true → OnOk result (AddsOnly (Inherited at.now.program.now shut.now class kind) out.old.items out.new.items) }
 {
     match at.hierarchy.place_of(kind) {
         Some(above) => match at.class_at(above) {
@@ -315,6 +327,7 @@ fn add_all_inherited(
 ) -> Result<(), AllocError>
     ensures stays { OnOk result (Stays out.old.items out.new.items) }
     ensures inherits { IsResolved at.now.program.now at.now.hierarchy.now → OnOk result ((kind : ℕ) → Contains kinds.now kind → InheritsOf at.now.program.now shut.now class kind out.new.items) }
+    ensures only { IsResolved at.now.program.now at.now.hierarchy.now → is_well_formed at.now.program.now ≡ true → OnOk result (AddsOnly (InheritedAmong at.now.program.now shut.now class kinds.now) out.old.items out.new.items) }
 {
     for kind in kinds {
         add_inherited_of(at, shut, class, *kind, out)?;
@@ -332,6 +345,7 @@ fn add_found_open(
 ) -> Result<(), AllocError>
     ensures stays { OnOk result (Stays out.old.items out.new.items) }
     ensures common { IsResolved at.now.program.now at.now.hierarchy.now → OnOk result (FindsOpen at.now.program.now at.now.hierarchy.now shut.now class key out.new.items) }
+    ensures only { IsResolved at.now.program.now at.now.hierarchy.now → IsCommonKey at.now.program.now at.now.hierarchy.now key → OnOk result (AddsOnly (FoundCommon at.now.program.now shut.now class) out.old.items out.new.items) }
 {
     add_open(
         at,
@@ -351,6 +365,7 @@ fn add_common(
 ) -> Result<(), AllocError>
     ensures stays { OnOk result (Stays out.old.items out.new.items) }
     ensures common { IsResolved at.now.program.now at.now.hierarchy.now → OnOk result ((key : ℕ) → Contains keys.now key → FindsOpen at.now.program.now at.now.hierarchy.now shut.now class key out.new.items) }
+    ensures only { IsResolved at.now.program.now at.now.hierarchy.now → AreCommon at.now.program.now at.now.hierarchy.now keys.now → OnOk result (AddsOnly (FoundCommon at.now.program.now shut.now class) out.old.items out.new.items) }
 {
     for key in keys {
         add_found_open(at, shut, class, *key, out)?;
@@ -369,6 +384,8 @@ fn add_callbacks(
 ) -> Result<(), AllocError>
     ensures stays { OnOk result (Stays out.old.items out.new.items) }
     ensures called_back { IsResolved at.now.program.now at.now.hierarchy.now → is_well_formed at.now.program.now ≡ true → HasCommon at.now.program.now at.now.hierarchy.now tables.now.of_object.items → OnOk result ((kind : ℕ) (y : Fact) → class_place at.now.program.now kind ≡ Some class → HasAbove at.now.program.now kind above.now → CallsBack at.now.program.now tables.now.object tables.now.shut.items kind y → Contains out.new.items y) }
+    ensures only { IsResolved at.now.program.now at.now.hierarchy.now → is_well_formed at.now.program.now ≡ true → AreCommon at.now.program.now at.now.hierarchy.now tables.now.of_object.items
+        → OnOk result (AddsOnly (CallsOn at.now.program.now tables.now.object tables.now.shut.items class above.now) out.old.items out.new.items) }
 {
     add_common(
         at,
@@ -395,7 +412,10 @@ fn add_made(
     made: (u32, u32),
     out: &mut Vec<Fact>,
 ) -> Result<(), AllocError>
-    ensures { IsResolved at.now.program.now at.now.hierarchy.now → is_well_formed at.now.program.now ≡ true → AreNotes at.now.program.now notes.old → HasCommon at.now.program.now at.now.hierarchy.now tables.now.of_object.items → class_place at.now.program.now made.0 ≡ Some made.1 → OnOk result (NotesMade at.now.program.now tables.now notes.old notes.new made.0 out.new.items) }
+    ensures notes { IsResolved at.now.program.now at.now.hierarchy.now → is_well_formed at.now.program.now ≡ true → AreNotes at.now.program.now notes.old → HasCommon at.now.program.now at.now.hierarchy.now tables.now.of_object.items → class_place at.now.program.now made.0 ≡ Some made.1 → OnOk result (NotesMade at.now.program.now tables.now notes.old notes.new made.0 out.new.items) }
+    ensures reached { (o : Outside) → IsResolved at.now.program.now at.now.hierarchy.now → is_well_formed at.now.program.now ≡ true → AreNotes at.now.program.now notes.old → AreCommon at.now.program.now at.now.hierarchy.now tables.now.of_object.items
+        → class_place at.now.program.now made.0 ≡ Some made.1 → Reached at.now.program.now o tables.now (fact.Made made.0) → AreReached at.now.program.now o tables.now notes.old → AllReached at.now.program.now o tables.now out.old.items
+        → OnOk result (BothReached at.now.program.now o tables.now notes.new out.new.items) }
 {
     let (kind, class) = made;
     let above = climb(alloc, at, &mut notes.kinds, tables.object, kind)?;
@@ -413,7 +433,10 @@ pub fn follow_made(
     kind: u32,
     out: &mut Vec<Fact>,
 ) -> Result<(), AllocError>
-    ensures { IsResolved at.now.program.now at.now.hierarchy.now → is_well_formed at.now.program.now ≡ true → AreNotes at.now.program.now notes.old → HasCommon at.now.program.now at.now.hierarchy.now tables.now.of_object.items → OnOk result (NotesMade at.now.program.now tables.now notes.old notes.new kind out.new.items) }
+    ensures notes { IsResolved at.now.program.now at.now.hierarchy.now → is_well_formed at.now.program.now ≡ true → AreNotes at.now.program.now notes.old → HasCommon at.now.program.now at.now.hierarchy.now tables.now.of_object.items → OnOk result (NotesMade at.now.program.now tables.now notes.old notes.new kind out.new.items) }
+    ensures reached { (o : Outside) → IsResolved at.now.program.now at.now.hierarchy.now → is_well_formed at.now.program.now ≡ true → AreNotes at.now.program.now notes.old → AreCommon at.now.program.now at.now.hierarchy.now tables.now.of_object.items
+        → Reached at.now.program.now o tables.now (fact.Made kind) → AreReached at.now.program.now o tables.now notes.old → AllReached at.now.program.now o tables.now out.old.items
+        → OnOk result (BothReached at.now.program.now o tables.now notes.new out.new.items) }
 {
     match at.hierarchy.place_of(kind) {
         Some(class) => add_made(alloc, at, tables, notes, (kind, class), out),

@@ -7,6 +7,7 @@ ghost use Rattle.call_graph.specs.declared.facts.Fact.{Fact};
 ghost use Rattle.call_graph.specs.Closed.{kept_facts, conditional, FindsSuper, Followed};
 ghost use Rattle.call_graph.specs.Follows.{class_facts, field_facts, body_facts};
 ghost use Rattle.call_graph.specs.Follows as follow;
+ghost use Rattle.call_graph.specs.Least.{AddsOnly, AllReached, AreCommon, AreReached, BothReached, Reached};
 ghost use Rattle.call_graph.specs.Objects.{AreNotes, SameNotes, HasCommon};
 ghost use Rattle.call_graph.specs.Stays.{Stays};
 
@@ -77,6 +78,8 @@ fn add_supers_of(
     ensures are { IsResolved at.now.program.now at.now.hierarchy.now → AreNotes at.now.program.now notes.old → OnOk result (AreNotes at.now.program.now notes.new) }
     ensures finds { IsResolved at.now.program.now at.now.hierarchy.now → is_well_formed at.now.program.now ≡ true → AreNotes at.now.program.now notes.old → names.now ≡ follow.names_of_method (follow.own_method at.now.program.now number)
         → OnOk result ((y : Fact) → FindsSuper at.now.program.now number y → Contains out.new.items y) }
+    ensures only { IsResolved at.now.program.now at.now.hierarchy.now → is_well_formed at.now.program.now ≡ true → AreNotes at.now.program.now notes.old → names.now ≡ follow.names_of_method (follow.own_method at.now.program.now number)
+        → OnOk result (AddsOnly (FindsSuper at.now.program.now number) out.old.items out.new.items) }
 {
     match at.method_name(number) {
         Some(name) => match at.hierarchy.place_of(name.class) {
@@ -103,6 +106,8 @@ fn follow_method(
     ensures same { OnOk result (SameNotes notes.old notes.new) }
     ensures are { IsResolved at.now.program.now at.now.hierarchy.now → AreNotes at.now.program.now notes.old → OnOk result (AreNotes at.now.program.now notes.new) }
     ensures supers { IsResolved at.now.program.now at.now.hierarchy.now → is_well_formed at.now.program.now ≡ true → AreNotes at.now.program.now notes.old → OnOk result ((y : Fact) → FindsSuper at.now.program.now number y → Contains out.new.items y) }
+    ensures only { IsResolved at.now.program.now at.now.hierarchy.now → is_well_formed at.now.program.now ≡ true → AreNotes at.now.program.now notes.old
+        → OnOk result (AddsOnly (FindsSuper at.now.program.now number) (out.old.items ++ body_facts at.now.program.now tables.now.bases.items number) out.new.items) }
 {
     let names = names_of_method(alloc, at, number)?;
     add_of_method(at, tables.bases.as_slice(), number, names.as_slice(), out)?;
@@ -119,8 +124,11 @@ pub fn follow(
     fact: Fact,
     out: &mut Vec<Fact>,
 ) -> Result<(), AllocError>
-    ensures { IsResolved at.now.program.now at.now.hierarchy.now → is_well_formed at.now.program.now ≡ true → AreNotes at.now.program.now notes.old → HasCommon at.now.program.now at.now.hierarchy.now tables.now.of_object.items
+    ensures followed { IsResolved at.now.program.now at.now.hierarchy.now → is_well_formed at.now.program.now ≡ true → AreNotes at.now.program.now notes.old → HasCommon at.now.program.now at.now.hierarchy.now tables.now.of_object.items
         → OnOk result (Followed at.now.program.now tables.now notes.old notes.new fact out.new.items) }
+    ensures reached { (o : Outside) → IsResolved at.now.program.now at.now.hierarchy.now → is_well_formed at.now.program.now ≡ true → AreNotes at.now.program.now notes.old → AreCommon at.now.program.now at.now.hierarchy.now tables.now.of_object.items
+        → Reached at.now.program.now o tables.now fact → AreReached at.now.program.now o tables.now notes.old → AllReached at.now.program.now o tables.now out.old.items
+        → OnOk result (BothReached at.now.program.now o tables.now notes.new out.new.items) }
 {
     match fact {
         Fact::Class(kind) => {

@@ -1,6 +1,6 @@
 //! What super calls find.
 
-ghost use Rattle.std.specs.Prelude.{◌≡◌, ◌<◌, ◌++◌, ◌∷◌, [], ℕ, true, false, nat_eq, slice_get, Some, vec_len, length, IfOk, OnOk, Decides};
+ghost use Rattle.std.specs.Prelude.{◌≡◌, ◌<◌, ◌++◌, ◌∷◌, [], ℕ, true, false, nat_eq, slice_get, Some, None, vec_len, length, IfOk, OnOk, Decides};
 ghost use Rattle.std.specs.List.{list_any};
 ghost use Rattle.program_model.specs.declared.pools.MethodName.{MethodName};
 ghost use Rattle.program_model.specs.ProgramRules.{is_well_formed};
@@ -11,6 +11,7 @@ ghost use Rattle.hierarchy.specs.Naming.{IsKey};
 ghost use Rattle.hierarchy.specs.Shapes.{IsResolved};
 ghost use Rattle.call_graph.specs.Above.{IsClean};
 ghost use Rattle.call_graph.specs.Follows.{found_facts};
+ghost use Rattle.call_graph.specs.Least.{AddsOnly, SuperFrom};
 ghost use Rattle.call_graph.specs.Objects.{all_found, AreNotes, IsReady, SameNotes};
 ghost use Rattle.call_graph.specs.Supers.{lists_at, above_call, interface_call, ListsAbove, AddsSuper, AddsSupers};
 ghost use Rattle.call_graph.specs.Stays.{Stays};
@@ -187,6 +188,7 @@ fn add_super(
     ensures same { OnOk result (SameNotes notes.old notes.new) }
     ensures are { IsResolved at.now.program.now at.now.hierarchy.now → AreNotes at.now.program.now notes.old → OnOk result (AreNotes at.now.program.now notes.new) }
     ensures finds { IsResolved at.now.program.now at.now.hierarchy.now → is_well_formed at.now.program.now ≡ true → AreNotes at.now.program.now notes.old → caller.0 < length at.now.program.now.types → (q : MethodName) → slice_get at.now.program.now.methods method ≡ Some q → OnOk result (AddsSuper at.now.program.now caller.0 caller.1 q out.old.items out.new.items) }
+    ensures none { slice_get at.now.program.now.methods method ≡ None → OnOk result (out.new.items ≡ out.old.items) }
 {
     let name = match at.method_name(method) {
         Some(name) => name,
@@ -215,6 +217,8 @@ fn add_super_named(
     ensures same { OnOk result (SameNotes notes.old notes.new) }
     ensures are { IsResolved at.now.program.now at.now.hierarchy.now → AreNotes at.now.program.now notes.old → OnOk result (AreNotes at.now.program.now notes.new) }
     ensures finds { IsResolved at.now.program.now at.now.hierarchy.now → is_well_formed at.now.program.now ≡ true → AreNotes at.now.program.now notes.old → caller.0 < length at.now.program.now.types → OnOk result (AddsSupers at.now.program.now caller.0 caller.1 (named ∷ []) out.new.items) }
+    ensures only { IsResolved at.now.program.now at.now.hierarchy.now → is_well_formed at.now.program.now ≡ true → AreNotes at.now.program.now notes.old → caller.0 < length at.now.program.now.types
+        → OnOk result (AddsOnly (SuperFrom at.now.program.now caller.0 caller.1 (named ∷ [])) out.old.items out.new.items) }
 {
     match named {
         Named::Call {
@@ -241,6 +245,8 @@ pub fn add_supers(
     ensures same { OnOk result (SameNotes notes.old notes.new) }
     ensures are { IsResolved at.now.program.now at.now.hierarchy.now → AreNotes at.now.program.now notes.old → OnOk result (AreNotes at.now.program.now notes.new) }
     ensures finds { IsResolved at.now.program.now at.now.hierarchy.now → is_well_formed at.now.program.now ≡ true → AreNotes at.now.program.now notes.old → caller.0 < length at.now.program.now.types → OnOk result (AddsSupers at.now.program.now caller.0 caller.1 names.now out.new.items) }
+    ensures only { IsResolved at.now.program.now at.now.hierarchy.now → is_well_formed at.now.program.now ≡ true → AreNotes at.now.program.now notes.old → caller.0 < length at.now.program.now.types
+        → OnOk result (AddsOnly (SuperFrom at.now.program.now caller.0 caller.1 names.now) out.old.items out.new.items) }
 {
     for named in names {
         add_super_named(alloc, at, notes, caller, *named, out)?;

@@ -1,12 +1,13 @@
 //! What the search for live members looks up.
 
-ghost use Rattle.std.specs.Prelude.{◌≡◌, ◌<◌, ◌++◌, ℕ, length, IfOk, OnOk, vec_len, Contains, true};
+ghost use Rattle.std.specs.Prelude.{◌≡◌, ◌<◌, ◌++◌, ◌⊎◌, ℕ, Some, slice_get, length, IfOk, OnOk, vec_len, Contains, true};
 ghost use Rattle.call_graph.specs.Follows.{can_be_made};
 ghost use Rattle.call_graph.specs.Lists.{row_of, size_of};
 ghost use Rattle.program_model.specs.ProgramRules.{is_well_formed};
 ghost use Rattle.hierarchy.specs.Shapes.{IsResolved};
 ghost use Rattle.class_defs.specs.Members.{is_common};
 ghost use Rattle.hierarchy.specs.Membership.{key_at};
+ghost use Rattle.call_graph.specs.Least.{AreCommon};
 ghost use Rattle.call_graph.specs.Objects.{HasCommon};
 ghost use Rattle.call_graph.specs.Tables.{field_if, method_if, fields_if, methods_if, classes_if, AreRows, AreMarked, AreTables};
 
@@ -42,6 +43,7 @@ impl Tables {
     ) -> Result<Tables, AllocError>
         ensures are { IfOk result (λ tables. AreTables program.now outside.now tables) }
         ensures common { is_well_formed program.now ≡ true → IsResolved program.now hierarchy.now → IfOk result (λ tables. HasCommon program.now hierarchy.now tables.of_object.items) }
+        ensures keys { is_well_formed program.now ≡ true → IsResolved program.now hierarchy.now → IfOk result (λ tables. AreCommon program.now hierarchy.now tables.of_object.items) }
     {
         Ok(Tables {
             bases: bases(alloc, program)?,
@@ -61,7 +63,8 @@ fn keys_of_object(
     program: &Program,
     hierarchy: &Hierarchy,
 ) -> Result<Vec<u32>, AllocError>
-    ensures { is_well_formed program.now ≡ true → IsResolved program.now hierarchy.now → IfOk result (λ keys. HasCommon program.now hierarchy.now keys.items) }
+    ensures has { is_well_formed program.now ≡ true → IsResolved program.now hierarchy.now → IfOk result (λ keys. HasCommon program.now hierarchy.now keys.items) }
+    ensures only { is_well_formed program.now ≡ true → IsResolved program.now hierarchy.now → IfOk result (λ keys. AreCommon program.now hierarchy.now keys.items) }
 {
     let mut keys = Vec::new(alloc);
     for (number, name) in program.methods.as_slice().iter().enumerate() {
@@ -80,6 +83,7 @@ fn add_key(
 ) -> Result<(), AllocError>
     ensures keeps { OnOk result ((n : ℕ) → Contains keys.old.items n → Contains keys.new.items n) }
     ensures has { is_common program.now name.now.name name.now.proto ≡ true → OnOk result (Contains keys.new.items (key_at hierarchy.now.named.method_keys.keys.items number)) }
+    ensures only { slice_get program.now.methods number ≡ Some name.now → AreCommon program.now hierarchy.now keys.old.items → OnOk result (AreCommon program.now hierarchy.now keys.new.items) }
 {
     if is_common(program, name) {
         add_once(keys, hierarchy.key_of_method(number))?;
@@ -93,6 +97,7 @@ fn add_key(
 fn add_once(numbers: &mut Vec<u32>, number: u32) -> Result<(), AllocError>
     ensures keeps { OnOk result ((n : ℕ) → Contains numbers.old.items n → Contains numbers.new.items n) }
     ensures has { OnOk result (Contains numbers.new.items number) }
+    ensures only { OnOk result ((n : ℕ) → Contains numbers.new.items n → Contains numbers.old.items n ⊎ (n ≡ number)) }
 {
     if !numbers.as_slice().contains(&number) {
         numbers.push(number)?;

@@ -22,9 +22,9 @@ use Rattle.copy_bridge.specs.Bridged.{AllFresh}
 use Rattle.squeeze.specs.Needed.{NothingLeft}
 use Rattle.pipeline.specs.Inlined.{IsOptimisedInlined}
 use Rattle.pipeline.specs.Passes.{KeepsForms}
-use Rattle.rounds_bridge.specs.Ended.{NoneKnown, NoneBindable, NoneQuiet}
+use Rattle.rounds_bridge.specs.Ended.{NoneKnown, NoneBindable, NoneQuiet, NoneUnreached}
 use Rattle.rounds_bridge.specs.Owed.{IsSound, Owes}
-use Rattle.rounds_bridge.proofs.Ends.{all_folded, all_bound, all_quiet, none_skipped, none_dead, all_fresh, all_packed}
+use Rattle.rounds_bridge.proofs.Ends.{none_unreached, all_folded, all_bound, all_quiet, none_skipped, none_dead, all_fresh, all_packed}
 use Rattle.rounds_bridge.proofs.Inlining.{inlining_owes, inlining_stays}
 use Rattle.rounds_bridge.proofs.Owing.{owes_on}
 use Rattle.rounds_bridge.proofs.Repeated.{all_rounds_owe}
@@ -57,6 +57,9 @@ module _ (p : Program) (h : Hierarchy) (formed : is_well_formed p ≡ true) (res
 
   pub inlined_sound : IsSound r
   inlined_sound = rounds.sound
+
+  pub inlined_reached : o.shrink ≡ true → NoneUnreached o r
+  inlined_reached allowed = none_unreached o done.admitted r rounds.sound done.ran.ends allowed
 
   pub inlined_folded : NoneKnown o done.admitted r ⊎ KeepsForms o done.admitted r
   inlined_folded = all_folded o done.admitted r rounds.sound done.ran.ends

@@ -1,7 +1,6 @@
 -- Where the rounds end nothing is left for the passes on bodies.
 use Rattle.std.proofs.Common.{◌≡◌, ◌⊎◌, inl, inr, ℕ, zero, suc, ◌<◌, Bool, true, false, true≢false, List, [], ◌∷◌, refl, sym, ap, subst, ◌∙◌, arith}
-use Rattle.std.specs.Prelude.{Contains, cond, filter, map}
-use Rattle.std.proofs.lemmas.List.Elements.{Contains-append_cases, Contains-append_left, Contains-append_right, Contains-push, Contains-push_cases}
+use Rattle.std.specs.Prelude.{Contains, map}
 use Rattle.program_model.specs.declared.body.Body.{Body}
 use Rattle.program_model.specs.declared.pass.Origin.{Origin}
 use Rattle.program_model.specs.declared.pass.Outside.{Outside}
@@ -11,6 +10,7 @@ use Rattle.call_graph.specs.declared.facts.Fact.TheVariants as fact
 use Rattle.call_graph.specs.declared.live_set.LiveSet.{LiveSet}
 use Rattle.call_graph.specs.Least.{IsLeastSet}
 use Rattle.reach.specs.Kept.{is_marked, kept_in, kept_of, live_classes}
+use Rattle.body_graph.proofs.Members.{none, first, there, split, in_filter}
 use Rattle.body_edit.specs.declared.fate.Fate.{Fate}
 use Rattle.thin_pass.specs.Weights.{weight_of}
 use Rattle.thin_pass.proofs.Lighter.{thinned_less}
@@ -55,24 +55,6 @@ unfaulted p sound x = by x.fault x.is x.cause
 
 -- ---- what a removal leaves that takes nothing away
 
-none_in : {X : Type 0} (x : X) → Contains [] x → ⊥
-none_in x c = let l = c.1 in omega (arith, l)
-
-first_or : {X : Type 0} (x : X) (xs : List X) (y : X) → Contains (x ∷ xs) y → (x ≡ y) ⊎ Contains xs y
-first_or x xs y c = elim (Contains-append_cases (x ∷ []) xs y c) [
-  | inl e ↦ elim (Contains-push_cases [] x y e) [ inl n ↦ absurd (none_in y n) | inr same ↦ inl same ]
-  | inr rest ↦ inr rest
-]
-
--- what is left by a test meets it
-left_meets : {A : Type 0} (t : A → Bool) (xs : List A) (y : A) → Contains (filter t xs) y → t y ≡ true
-left_meets t [] y c = absurd (none_in y c)
-left_meets t (x ∷ xs) y c = by (t x) refl (left_meets t xs y) c
-  where
-    by : (b : Bool) → t x ≡ b → (Contains (filter t xs) y → t y ≡ true) → Contains (cond b (x ∷ filter t xs) (filter t xs)) y → t y ≡ true
-    by true e more c = elim (first_or x (filter t xs) y c) [ inl same ↦ subst (λ z. t z ≡ true) same e | inr rest ↦ more rest ]
-    by false e more c = more c
-
 -- what is of the images comes from one entry
 record FromEntry {A B : Type 0} (f : A → B) (xs : List A) (y : B) : Type 0 where
   entry : A
@@ -80,10 +62,10 @@ record FromEntry {A B : Type 0} (f : A → B) (xs : List A) (y : B) : Type 0 whe
   same : f entry ≡ y
 
 image_from : {A B : Type 0} (f : A → B) (xs : List A) (y : B) → Contains (map f xs) y → FromEntry f xs y
-image_from f [] y c = absurd (none_in y c)
-image_from f (x ∷ xs) y c = elim (first_or (f x) (map f xs) y c) [
-  | inl same ↦ record { entry = x; is_in = Contains-append_left (x ∷ []) xs x (Contains-push [] x); same = same }
-  | inr rest ↦ let one = image_from f xs y rest in record { entry = one.entry; is_in = Contains-append_right (x ∷ []) xs one.entry one.is_in; same = one.same }
+image_from f [] y c = absurd (none y c)
+image_from f (x ∷ xs) y c = elim (split (f x) (map f xs) y c) [
+  | inl same ↦ record { entry = x; is_in = first x xs; same = same }
+  | inr rest ↦ let one = image_from f xs y rest in record { entry = one.entry; is_in = there x xs one.entry one.is_in; same = one.same }
 ]
 
 module _ (o : Outside) (p : Program) (s : LiveSet) (least : IsLeastSet p o s) (left : p ≡ kept_of s p) where
@@ -97,13 +79,13 @@ module _ (o : Outside) (p : Program) (s : LiveSet) (least : IsLeastSet p o s) (l
     are = least.are;
     classes = λ c i.
         let d = from_kept c i in
-        least.follows (fact.Class c.name) (subst (λ (k : Class). is_marked s.classes.items k.name ≡ true) d.same (left_meets (λ k. is_marked s.classes.items k.name) p.classes d.entry d.is_in));
+        least.follows (fact.Class c.name) (subst (λ (k : Class). is_marked s.classes.items k.name ≡ true) d.same (in_filter (λ k. is_marked s.classes.items k.name) p.classes d.entry d.is_in).1);
     fields = λ c f i j.
         let d = from_kept c i in
-        least.follows (fact.Field f.name) (left_meets (λ g. is_marked s.fields.items g.name) d.entry.fields f (subst (λ (k : Class). Contains k.fields f) (sym d.same) j));
+        least.follows (fact.Field f.name) (in_filter (λ g. is_marked s.fields.items g.name) d.entry.fields f (subst (λ (k : Class). Contains k.fields f) (sym d.same) j)).1;
     methods = λ c m i j.
         let d = from_kept c i in
-        least.follows (fact.Method m.name) (left_meets (λ n. is_marked s.methods.items n.name) d.entry.methods m (subst (λ (k : Class). Contains k.methods m) (sym d.same) j));
+        least.follows (fact.Method m.name) (in_filter (λ n. is_marked s.methods.items n.name) d.entry.methods m (subst (λ (k : Class). Contains k.methods m) (sym d.same) j)).1;
   }
 
 module _ (o : Outside) (admitted : List Bool) (p : Program) (sound : IsSound p) (still : AreStill o admitted passes p) where

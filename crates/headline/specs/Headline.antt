@@ -77,10 +77,9 @@ pub record KeepsMeaning (inline : Bool) (voices : List Voice) (given : List Bool
   pub packed : has_narrow_classes left ≡ true → AllPacked admitted left
   pub stays : StaysFor inline admitted program left
 
--- The file spells a program, the rules that their text spells make a table of it, which is closed, just the conditions met whose
--- class is live, with the methods shut that the library shuts where there is one, and the output is the file that is written for a
--- program that keeps its meaning, when advisers who reply so at first were told this and then asked. Not said yet: that the written
--- file spells that program and is valid.
+-- The file spells a program, the rules that their text spells make a table of it, which is closed, with the methods shut that the
+-- library shuts where there is one, and the output is the file that is written for a program that keeps its meaning, when advisers who
+-- reply so at first were told this and then asked. Not said yet: that the written file spells that program and is valid.
 pub record Shrinks (inline : Bool) (voices : List Voice) (tells : List Tell) (inputs : Inputs) (output : List ℕ) : Type 0 where
   pub program : Program
   pub reads : program_at inputs.file ≡ Ok program

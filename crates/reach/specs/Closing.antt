@@ -32,8 +32,7 @@ pub record KeepsBy (p : Program) (s : LiveSet) (o : Outside) (k : Kept) : Type 0
   pub fields : k.fields.items ≡ o.fields ++ filter (is_field_met p s) o.fields_if
   pub methods : k.methods.items ≡ o.methods ++ filter (is_method_met p s) o.methods_if
 
--- Just the conditions are met whose class is live in the least set that is closed under what the outside keeps, its conditions among
--- them.
+-- Just the conditions are met whose class is live: in the least set that is closed under what the outside keeps, its conditions among them.
 pub record KeepsAsLive (p : Program) (o : Outside) (k : Kept) : Type 0 where
   pub live : LiveSet
   pub sized : Fits p live

@@ -177,7 +177,8 @@ graph_fault program bytes fault reads well cause = record { program = program; r
 
 pub lists_file : (inputs : Inputs) (program : Program) (outside : Outside) (live : LiveSet) (text : List ℕ) → program_at inputs.file ≡ Ok program
     → IsAccepted program → IsTableWith inputs.rules inputs.library program outside → IsClosedSet program outside live → IsLeastSet program outside live
-    → text ≡ live_text program live → ListsFile inputs text
+    → text ≡ live_text program live
+    → ListsFile inputs text
 lists_file inputs program outside live text reads accepted table closed least says = record {
   program = program;
   reads = reads;

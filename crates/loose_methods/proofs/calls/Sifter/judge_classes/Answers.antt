@@ -1,4 +1,4 @@
-use Rattle.std.proofs.Common.{◌≡◌, ◌+◌, refl, sym, ap, ◌∙◌, subst, take, take_all, arith}
+use Rattle.std.proofs.Common.{◌≡◌, ◌+◌, refl, sym, ap, subst, take, take_all, arith}
 use Rattle.loose_methods.specs.Loose.{methods_allow, classes_allow}
 use Rattle.loose_methods.specs.Sifting.{Sifts, AreShortCodes}
 use Rattle.loose_methods.proofs.Allowed.{classes_more}

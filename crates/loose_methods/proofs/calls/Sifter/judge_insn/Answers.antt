@@ -1,6 +1,5 @@
-use Rattle.std.proofs.Common.{◌≡◌, ◌∙◌, ap, false, refl, subst, sym}
+use Rattle.std.proofs.Common.{◌∙◌, ap, false, subst, sym}
 use Rattle.std.specs.Prelude.{◌&&◌, slice_get, slice_index_or}
-use Rattle.insn_set.specs.declared.ops.InvokeKind.TheVariants as call
 use Rattle.lemmas.proofs.Bools.{and_false}
 use Rattle.loose_methods.specs.Loose.{allows, has_receiver}
 use Rattle.loose_methods.specs.Sifting.{Sifts}

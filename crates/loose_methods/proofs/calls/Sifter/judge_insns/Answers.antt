@@ -1,4 +1,4 @@
-use Rattle.std.proofs.Common.{◌≡◌, ◌+◌, refl, sym, ap, ◌∙◌, subst, take, take_all, arith}
+use Rattle.std.proofs.Common.{◌≡◌, ◌+◌, refl, ap, subst, take, take_all, arith}
 use Rattle.loose_methods.specs.Loose.{allows, all_allow}
 use Rattle.loose_methods.specs.Sifting.{Sifts}
 use Rattle.loose_methods.proofs.Allowed.{insns_more}

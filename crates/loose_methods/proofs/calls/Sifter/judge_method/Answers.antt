@@ -1,4 +1,4 @@
-use Rattle.std.proofs.Common.{◌≡◌, ◌<◌, ◌^◌, ◌∙◌, Some, ap, length, refl, subst, sym}
+use Rattle.std.proofs.Common.{◌<◌, ◌^◌, length, refl, subst, sym}
 use Rattle.loose_methods.specs.Loose.{all_allow, code_allows}
 use Rattle.loose_methods.specs.Sifting.{IsShortCode, Sifts}
 use Rattle.loose_methods.proofs.Sifts.{sifts_none}

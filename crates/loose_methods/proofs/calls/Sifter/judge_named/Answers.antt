@@ -1,4 +1,4 @@
-use Rattle.std.proofs.Common.{◌∙◌, false, subst, sym}
+use Rattle.std.proofs.Common.{subst, sym}
 use Rattle.insn_set.specs.declared.ops.InvokeKind.TheVariants as call
 use Rattle.loose_methods.specs.Sifting.{Sifts, allows_so}
 use Rattle.loose_methods.proofs.calls.Sifter.judge_named.Goals as goal

@@ -1,4 +1,4 @@
-use Rattle.std.proofs.Common.{◌≡◌, ◌∙◌, ap, false, length, refl, replicate, subst, sym}
+use Rattle.std.proofs.Common.{◌≡◌, ◌∙◌, ap, false, length, replicate, subst, sym}
 use Rattle.std.proofs.lemmas.List.{with_items_is}
 use Rattle.loose_methods.specs.Asked.{AreCandidates, CandidatesTo}
 use Rattle.loose_methods.specs.Candidates.{is_kept}

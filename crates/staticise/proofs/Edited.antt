@@ -7,12 +7,10 @@ use Rattle.std.proofs.lemmas.Bool.{cases_eq}
 use Rattle.std.proofs.lemmas.List.{length-set, set-get_or}
 use Rattle.std.proofs.lemmas.Option.{slice_get_within, slice_get-get_or}
 use Rattle.program_model.specs.declared.pools.MethodName.{MethodName}
-use Rattle.dex_base.specs.declared.text.Text.{Text}
-use Rattle.program_model.specs.declared.pools.Proto.{Proto}
 use Rattle.program_model.specs.declared.program.Class.{Class}
 use Rattle.program_model.specs.declared.program.Program.{Program}
-use Rattle.staticise.specs.declared.loosening.Loosening.{Loosening}
-use Rattle.staticise.specs.Loosened.{AreEach, AreEdited, name_with, names_with, IsLoosenedClass, IsLoosened}
+use Rattle.static_protos.specs.Tables.{Tables}
+use Rattle.staticise.specs.Loosened.{AreEach, AreEdited, name_with, names_with, extended, IsLoosenedClass, IsLoosenedBy}
 
 -- ---- each item by a function
 
@@ -103,17 +101,11 @@ names_all os old new i le is = is ∙ front os old i le
 -- ---- programs
 
 -- classes first, then tables
-pub loosened_by : (t : Loosening) (p q r : Program) (strings : List Text) (protos : List Proto) (given : List (Option ℕ)) → q ≡ record p { classes = q.classes } → AreEach (IsLoosenedClass t) p.classes q.classes
-    → r ≡ record q { strings = q.strings ++ strings; protos = q.protos ++ protos; methods = names_with given q.methods } → IsLoosened p r
-loosened_by t p q r strings protos given h each e =
-    let F : Program → Program = λ x. record x { strings = x.strings ++ strings; protos = x.protos ++ protos; methods = names_with given x.methods } in
-    let G : List Class → Program = λ cs. record p { strings = p.strings ++ strings; protos = p.protos ++ protos; methods = names_with given p.methods; classes = cs } in
+pub loosened_by : (t : Tables) (p q r : Program) → q ≡ record p { classes = q.classes } → AreEach (IsLoosenedClass p t.given) p.classes q.classes → r ≡ extended t q → IsLoosenedBy p t r
+loosened_by t p q r h each e =
+    let G : List Class → Program = λ cs. record (extended t p) { classes = cs } in
     let s : r.classes ≡ q.classes = ap (λ (x : Program). x.classes) e in
     record {
-      loosening = t;
-      strings = strings;
-      protos = protos;
-      given = given;
-      classes = subst (AreEach (IsLoosenedClass t) p.classes) (sym s) each;
-      rest = e ∙ ap F h ∙ ap G (sym s);
+      classes = subst (AreEach (IsLoosenedClass p t.given) p.classes) (sym s) each;
+      rest = e ∙ ap (extended t) h ∙ ap G (sym s);
     }

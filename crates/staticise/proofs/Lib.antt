@@ -1,1 +1,11 @@
-mod Edited
+pub mod Edited
+pub mod Few
+pub mod Judged
+pub mod Ordered
+pub mod Made
+pub mod Called
+pub mod Falls
+pub mod Fresh
+pub mod Limits
+pub mod Whole
+pub mod Targeted

@@ -1,27 +1,21 @@
 //! Methods made static: a method that can do without its receiver takes it as its first parameter.
 //!
-//! A method is loose where it has code and a receiver, is no constructor and isn't kept, its class is no interface and is
-//! initialised without code, nothing in the program or the framework overrides it, is overridden by it or reaches it in another
-//! way than by calls, and each call that names it or may find it stands in a method that may be rewritten, names it through its
-//! class or one under that, finds it alone, and has a receiver that the facts know as not null. It becomes static under the
-//! same number, with its class in front of its parameters, and stands among the direct methods; its calls become static calls
-//! of that number with the same registers (Dalvik executable format, "proto_id_item"; Dalvik bytecode, "invoke-kind").
+//! A method is loose where it may be static (`loose_methods`), and the tables have room for its new proto, which has its class in front
+//! of its parameters (`static_protos`). It becomes static under the same number, with that proto, and stands among the direct methods;
+//! its calls become static calls of that number with the same registers (Dalvik executable format, "proto_id_item"; Dalvik bytecode,
+//! "invoke-kind").
 //!
 //! The meaning stays, since each such call found this method with an object that isn't null, and a static call of it passes the
 //! same registers to the same code and initialises nothing that runs code. Methods are judged in class and method order, and
 //! the protos and strings that are appended for earlier ones count.
 //!
-//! What is proved is less: [`apply`] ensures what making methods static does to them, to all calls and to the tables, and that
-//! all else stays (`specs/Loosened.antt`, by number). Which methods are loose, what their new protos are, and that nothing
-//! loose is left is not part of it.
+//! [`apply`] ensures just that, by number: `specs/Judging.antt` says which methods are made static and what the tables get for each,
+//! `specs/Loosened.antt` the program that comes, and `specs/Left.antt` that nothing loose is left where `count` is 0, and that else
+//! fewer methods have a receiver.
 #![tactic(auto)]
 
-mod calls;
-mod candidates;
+pub mod laws;
 mod loosening;
-mod mentions;
 mod pass;
-mod protos;
-mod table;
 
 pub use pass::apply;

@@ -1,31 +1,68 @@
 //! Methods that become static, and their calls.
 
-ghost use Rattle.std.specs.Prelude.{◌≡◌, None, map, slice_index_or, OnOk};
+ghost use Rattle.std.specs.Prelude.{◌≡◌, ◌<◌, ◌^◌, ℕ, Some, None, true, cond, map, slice_get, IfOk, OnOk};
 ghost use Rattle.std.specs.List.Sorted.{IsPermutation};
-ghost use Rattle.staticise.specs.Loosened.{target_in, insn_loosened, body_loosened, self_loosened, method_loosened, IsLoosenedClass, AreEach};
+ghost use Rattle.std.specs.Option.{option_copied};
+ghost use Rattle.program_model.specs.Lookups.{method_at};
+ghost use Rattle.program_model.specs.ProgramRules.{is_well_formed};
+ghost use Rattle.program_model.specs.declared.program.Class.{Class};
+ghost use Rattle.hierarchy.specs.Shapes.{IsOf, IsResolved};
+ghost use Rattle.program_model.specs.declared.program.Program.{Program};
+ghost use Rattle.staticise.specs.Loosened.{is_given, given_at, target_at, target_of, insn_loosened, body_loosened, self_loosened, method_loosened, IsLoosenedClass, AreEach};
+ghost use Rattle.staticise.specs.Ordering.{order_of, AreTargets, IsOrdered, AreOwn};
 
-use crate::candidates::Judged;
-use crate::table::is_on;
+use hierarchy::Hierarchy;
 use insn_set::{Insn, InvokeKind};
-use program_model::{Body, Class, Flags, Method, MethodName, Program};
+use program_model::{Body, Class, Flags, Method, MethodAt, Program};
 use seq::Seq;
 use std::alloc::{AllocError, Global};
 
-/// What becomes of a program: which methods are made static, by number, and for each method number the one of these that it
-/// resolves to. `special` marks the numbers whose names begin with `<`.
-#[derive(Drop)]
-pub(crate) struct Loosening {
-    pub(crate) loose: Vec<bool>,
-    pub(crate) targets: Vec<Option<u32>>,
-    pub(crate) special: Vec<bool>,
+/// What becomes of a program: the new proto of each method number that is made static, and for each method number the one of
+/// these that it resolves to.
+#[derive(Clone, Copy)]
+pub(crate) struct Loosening<'a> {
+    pub(crate) hierarchy: &'a Hierarchy,
+    pub(crate) given: &'a [Option<u32>],
+    pub(crate) targets: &'a [Option<u32>],
 }
 
-impl Loosening {
+/// A place as a number of 32 bits.
+fn word(place: usize) -> u32
+    ensures { place < 2 ^ 32 → result ≡ place }
+{
+    if place < 0xffff_ffff {
+        place as u32
+    } else {
+        0xffff_ffff
+    }
+}
+
+/// The new proto of a method number, none where it isn't made static.
+fn given_at(given: &[Option<u32>], method: u32) -> Option<u32>
+    ensures { result ≡ given_at given.now method }
+{
+    match given.get(method as usize) {
+        Some(proto) => *proto,
+        None => None,
+    }
+}
+
+/// A number, where it is that of a method that is made static.
+fn if_given(given: &[Option<u32>], number: u32) -> Option<u32>
+    ensures { result ≡ cond (is_given given.now number) (Some number) None }
+{
+    match given_at(given, number) {
+        Some(_) => Some(number),
+        None => None,
+    }
+}
+
+impl Loosening<'_> {
     /// The method made static that a number resolves to.
     fn target(&self, method: u32) -> Option<u32>
-        ensures { result ≡ target_in self.now method }
+        ensures { (p : Program) → AreTargets p self.now.given.now self.now.targets.now → result ≡ target_of p self.now.given.now method }
     {
-        match self.targets.as_slice().get(method as usize) {
+        match self.targets.get(method as usize) {
             Some(target) => *target,
             None => None,
         }
@@ -33,7 +70,7 @@ impl Loosening {
 
     /// Makes a call of a method that is made static a static one of its number.
     fn loosen_insn(&self, insn: &mut Insn)
-        ensures { insn.new ≡ insn_loosened self.now insn.old }
+        ensures { (p : Program) → AreTargets p self.now.given.now self.now.targets.now → insn.new ≡ insn_loosened p self.now.given.now insn.old }
     {
         if let Insn::Invoke { kind, method, .. } = insn {
             if let Some(target) = self.target(*method) {
@@ -45,7 +82,7 @@ impl Loosening {
 
     /// Makes the calls among instructions static.
     fn loosen_insns(&self, insns: &mut [Insn])
-        ensures { insns.new ≡ map (insn_loosened self.now) insns.old }
+        ensures { (p : Program) → AreTargets p self.now.given.now self.now.targets.now → insns.new ≡ map (insn_loosened p self.now.given.now) insns.old }
     {
         for insn in insns.iter_mut() {
             self.loosen_insn(insn);
@@ -54,9 +91,9 @@ impl Loosening {
 
     /// Makes a method static, if it is one of these.
     fn loosen_self(&self, alloc: Global, method: &mut Method) -> Result<(), AllocError>
-        ensures { OnOk result (method.new ≡ self_loosened self.now method.old) }
+        ensures { OnOk result (method.new ≡ self_loosened self.now.given.now method.old) }
     {
-        if !is_on(&self.loose, method.name) {
+        if given_at(self.given, method.name).is_none() {
             return Ok(());
         }
         if !method.parameter_marks.is_empty() {
@@ -68,14 +105,14 @@ impl Loosening {
 
     /// Makes the calls in a body static.
     fn loosen_body(&self, body: &mut Body)
-        ensures { body.new ≡ body_loosened self.now body.old }
+        ensures { (p : Program) → AreTargets p self.now.given.now self.now.targets.now → body.new ≡ body_loosened p self.now.given.now body.old }
     {
         self.loosen_insns(body.insns.items.as_mut_slice());
     }
 
     /// Makes a method static, if it is one of these, and its calls.
     fn loosen_method(&self, alloc: Global, method: &mut Method) -> Result<(), AllocError>
-        ensures { OnOk result (method.new ≡ method_loosened self.now method.old) }
+        ensures { (p : Program) → AreTargets p self.now.given.now self.now.targets.now → OnOk result (method.new ≡ method_loosened p self.now.given.now method.old) }
     {
         self.loosen_self(alloc, method)?;
         if let Some(body) = &mut method.body {
@@ -84,16 +121,9 @@ impl Loosening {
         Ok(())
     }
 
-    /// Whether a method stands behind the direct ones.
-    fn is_virtual(&self, method: &Method) -> bool {
-        !method.flags.has(Flags::STATIC)
-            && !method.flags.has(Flags::PRIVATE)
-            && !is_on(&self.special, method.name)
-    }
-
     /// Makes the methods of a class static that are to be, and their calls.
     fn loosen_methods(&self, alloc: Global, methods: &mut [Method]) -> Result<(), AllocError>
-        ensures { OnOk result (methods.new ≡ map (method_loosened self.now) methods.old) }
+        ensures { (p : Program) → AreTargets p self.now.given.now self.now.targets.now → OnOk result (methods.new ≡ map (method_loosened p self.now.given.now) methods.old) }
     {
         for method in methods.iter_mut() {
             self.loosen_method(alloc, method)?;
@@ -101,23 +131,30 @@ impl Loosening {
         Ok(())
     }
 
-    /// Whether one of some methods is made static.
-    fn is_any_loose(&self, methods: &[Method]) -> bool {
-        methods.iter().any(|method| is_on(&self.loose, method.name))
+    /// Where a method stands: direct methods before virtual ones, and each group by number.
+    fn order_of(&self, method: &Method) -> u64
+        ensures { (p : Program) → IsOf p self.now.hierarchy.now → result ≡ order_of p method.now }
+    {
+        let group: u64 = if self.hierarchy.is_virtual(method) {
+            0x1_0000_0000
+        } else {
+            0
+        };
+        group + u64::from(method.name)
     }
 
-    /// Lets direct methods stand before virtual ones, each group by number, where one of them is made static.
+    /// Lets direct methods stand before virtual ones, each group by number.
     fn order(&self, methods: &mut [Method])
-        ensures { IsPermutation methods.old methods.new }
+        ensures permutation { IsPermutation methods.old methods.new }
+        ensures ordered { (p : Program) → IsOf p self.now.hierarchy.now → AreOwn methods.old → IsOrdered p methods.new }
     {
-        if self.is_any_loose(methods) {
-            methods.sort_unstable_by_key(|method| (self.is_virtual(method), method.name));
-        }
+        methods.sort_unstable_by_key(|method| self.order_of(method));
     }
 
     /// Makes the methods of a class static that are to be, and all calls in it.
     fn loosen_all(&self, alloc: Global, methods: &mut [Method]) -> Result<(), AllocError>
-        ensures { OnOk result (IsPermutation (map (method_loosened self.now) methods.old) methods.new) }
+        ensures permutation { (p : Program) → AreTargets p self.now.given.now self.now.targets.now → OnOk result (IsPermutation (map (method_loosened p self.now.given.now) methods.old) methods.new) }
+        ensures ordered { (p : Program) → AreTargets p self.now.given.now self.now.targets.now → IsOf p self.now.hierarchy.now → AreOwn methods.old → OnOk result (IsOrdered p methods.new) }
     {
         self.loosen_methods(alloc, methods)?;
         self.order(methods);
@@ -126,14 +163,17 @@ impl Loosening {
 
     /// The same for a class.
     fn loosen_class(&self, alloc: Global, class: &mut Class) -> Result<(), AllocError>
-        ensures { OnOk result (IsLoosenedClass self.now class.old class.new) }
+        ensures { (p : Program) → AreTargets p self.now.given.now self.now.targets.now → IsOf p self.now.hierarchy.now → AreOwn class.old.methods
+            → OnOk result (IsLoosenedClass p self.now.given.now class.old class.new) }
     {
-        self.loosen_all(alloc, class.methods.items.as_mut_slice())
+        self.loosen_all(alloc, class.methods.items.as_mut_slice())?;
+        Ok(())
     }
 
     /// Makes methods of classes static, and all their calls.
     fn loosen_classes(&self, alloc: Global, classes: &mut [Class]) -> Result<(), AllocError>
-        ensures { OnOk result (AreEach (IsLoosenedClass self.now) classes.old classes.new) }
+        ensures { (p : Program) → AreTargets p self.now.given.now self.now.targets.now → IsOf p self.now.hierarchy.now
+            → ((k : ℕ) (c : Class) → slice_get classes.old k ≡ Some c → AreOwn c.methods) → OnOk result (AreEach (IsLoosenedClass p self.now.given.now) classes.old classes.new) }
     {
         for place in 0..classes.len() {
             self.loosen_class(alloc, &mut classes[place])?;
@@ -144,64 +184,61 @@ impl Loosening {
     /// Makes methods of a program static, and all their calls.
     pub(crate) fn loosen(&self, alloc: Global, program: &mut Program) -> Result<(), AllocError>
         ensures rest { OnOk result (program.new ≡ record program.old { classes = program.new.classes }) }
-        ensures classes { OnOk result (AreEach (IsLoosenedClass self.now) program.old.classes program.new.classes) }
+        ensures classes { is_well_formed program.old ≡ true → AreTargets program.old self.now.given.now self.now.targets.now → IsOf program.old self.now.hierarchy.now
+            → OnOk result (AreEach (IsLoosenedClass program.old self.now.given.now) program.old.classes program.new.classes) }
     {
-        self.loosen_classes(alloc, program.classes.items.as_mut_slice())
+        self.loosen_classes(alloc, program.classes.items.as_mut_slice())?;
+        Ok(())
     }
 }
 
-/// Whether a name begins with `<`.
-fn is_special(program: &Program, name: &MethodName) -> bool {
-    match program.strings.as_slice().get(name.name as usize) {
-        Some(text) => text.units().first() == Some(&0x3c),
-        None => false,
+/// The method at a place.
+fn method_at(program: &Program, at: MethodAt) -> Option<&Method>
+    ensures { option_copied result ≡ method_at program.now at }
+{
+    match program.classes.as_slice().get(at.class as usize) {
+        Some(class) => class.methods.as_slice().get(at.place as usize),
+        None => None,
     }
 }
 
-/// The method numbers whose names begin with `<`.
-fn specials(alloc: Global, program: &Program) -> Result<Vec<bool>, AllocError> {
-    let mut special = Vec::with_capacity(alloc, program.methods.len())?;
-    for name in program.methods.as_slice() {
-        special.push(is_special(program, name))?;
-    }
-    Ok(special)
-}
-
-/// The marked method that a number resolves to.
-fn target_of(judged: &Judged<'_>, loose: &[bool], method: u32) -> Option<u32> {
-    let found = judged.resolved(method)?;
-    if is_on(loose, found) {
-        Some(found)
-    } else {
-        None
+/// The number of the method made static that stands at a place.
+fn target_at(program: &Program, given: &[Option<u32>], at: MethodAt) -> Option<u32>
+    ensures { result ≡ target_at program.now given.now (Some at) }
+{
+    match method_at(program, at) {
+        Some(method) => if_given(given, method.name),
+        None => None,
     }
 }
 
-/// For each method number the marked method that it resolves to.
-fn targets_of(
+/// The method made static that a number resolves to.
+fn target_of(
+    program: &Program,
+    hierarchy: &Hierarchy,
+    given: &[Option<u32>],
+    method: u32,
+) -> Option<u32>
+    ensures { IsResolved program.now hierarchy.now → result ≡ target_of program.now given.now method }
+{
+    match hierarchy.resolve_method(program, method) {
+        Some(at) => target_at(program, given, at),
+        None => None,
+    }
+}
+
+/// For each method number the method made static that it resolves to.
+pub(crate) fn targets(
     alloc: Global,
-    judged: &Judged<'_>,
-    loose: &[bool],
-) -> Result<Vec<Option<u32>>, AllocError> {
-    let mut targets = Vec::with_capacity(alloc, judged.program.methods.len())?;
-    let mut method: u32 = 0;
-    for _ in 0..judged.program.methods.len() {
-        targets.push(target_of(judged, loose, method))?;
-        method = method.saturating_add(1);
+    program: &Program,
+    hierarchy: &Hierarchy,
+    given: &[Option<u32>],
+) -> Result<Vec<Option<u32>>, AllocError>
+    ensures { is_well_formed program.now ≡ true → IsResolved program.now hierarchy.now → IfOk result (λ targets. AreTargets program.now given.now targets.items) }
+{
+    let mut targets = Vec::new(alloc);
+    for method in 0..program.methods.len() {
+        targets.push(target_of(program, hierarchy, given, word(method)))?;
     }
     Ok(targets)
-}
-
-/// What becomes of a program whose marked methods are made static.
-pub(crate) fn made_static(
-    alloc: Global,
-    judged: &Judged<'_>,
-    loose: Vec<bool>,
-) -> Result<Loosening, AllocError> {
-    let targets = targets_of(alloc, judged, loose.as_slice())?;
-    Ok(Loosening {
-        loose,
-        targets,
-        special: specials(alloc, judged.program)?,
-    })
 }

@@ -1,66 +1,60 @@
 //! The pass.
 
-ghost use Rattle.std.specs.Prelude.{◌≡◌, ◌<◌, None, slice_index_or, IfOk, IfSome, OnOk};
-ghost use Rattle.staticise.specs.Loosened.{name_with, names_with, extended, IsLoosened, IsStaticised};
+ghost use Rattle.std.specs.Prelude.{◌≡◌, ◌<◌, ◌≤◌, ◌+◌, true, None, is_some, min, nat_eq, slice_index_or, IfOk, IfSome, OnOk};
+ghost use Rattle.std.specs.List.{count_by};
+ghost use Rattle.program_model.specs.ProgramRules.{is_well_formed};
+ghost use Rattle.hierarchy.specs.Shapes.{IsResolved};
+ghost use Rattle.static_protos.specs.Growing.{IsGrowth};
+ghost use Rattle.static_protos.specs.Tables.{Tables};
+ghost use Rattle.staticise.specs.Left.{NoneLeft, receivers_in};
+ghost use Rattle.staticise.specs.Loosened.{name_with, names_with, extended_so, IsLoosenedBy, IsStaticisedBy};
+ghost use Rattle.staticise.specs.Planned.{IsPlanned};
 
-use crate::calls::sift;
-use crate::candidates::Judged;
-use crate::loosening::{Loosening, made_static};
-use crate::protos::Additions;
+use crate::loosening::{Loosening, targets};
 use facts::Facts;
 use hierarchy::Hierarchy;
+use loose_methods::find;
 use program_model::{Admitted, Changed, MethodName, Outside, Program};
 use seq::Seq;
+use static_protos::{Growth, grow};
 use std::alloc::{AllocError, Global};
 
-/// What is made static, and what the tables get for it.
-#[derive(Drop)]
-struct Plan {
-    additions: Additions,
-    loosening: Loosening,
-    count: u64,
+/// How many methods are made static.
+fn count_given(given: &[Option<u32>]) -> u64
+    ensures { result ≡ count_by is_some given.now }
+{
+    given.iter().filter(|proto| proto.is_some()).count() as u64
 }
 
-/// How many numbers are marked.
-fn count_marks(marks: &[bool]) -> u64 {
-    marks.iter().filter(|mark| **mark).count() as u64
+/// Whether no method is made static.
+fn is_none_given(given: &[Option<u32>]) -> bool
+    ensures { result ≡ nat_eq (count_by is_some given.now) 0 }
+{
+    count_given(given) == 0
 }
 
-/// What is made static in a program, none where nothing is loose.
-fn find_loose<'a>(
+/// What the tables get for the methods of a program that are made static, none where there are none.
+fn plan<'a>(
     alloc: Global,
     program: &'a Program,
     hierarchy: &'a Hierarchy,
     facts: &'a Facts,
     outside: &Outside,
     admitted: &'a Admitted,
-) -> Result<Option<Plan>, AllocError>
-    ensures { IfOk result (λ found. IfSome found (λ plan. 0 < plan.count)) }
+) -> Result<Option<Growth>, AllocError>
+    ensures planned { is_well_formed program.now ≡ true → IsResolved program.now hierarchy.now → IfOk result (IsPlanned program.now facts.now outside.now admitted.now.methods.items) }
+    ensures some { IfOk result (λ found. IfSome found (λ g. 0 < count_by is_some g.given.items)) }
 {
-    if !outside.optimise {
+    let optimise = outside.optimise;
+    if !optimise {
         return Ok(None);
     }
-    let judged = Judged { program, hierarchy };
-    let mut loose = judged.candidates(alloc, outside)?;
-    if count_marks(&loose) == 0 {
+    let loose = find(alloc, program, hierarchy, facts, outside, admitted)?;
+    let growth = grow(alloc, program, loose.as_slice())?;
+    if is_none_given(growth.given.as_slice()) {
         return Ok(None);
     }
-    let items = judged.bar_mentioned(alloc, loose.as_mut_slice())?;
-    loose = sift(alloc, judged, facts, admitted, loose)?;
-    if count_marks(&loose) == 0 {
-        return Ok(None);
-    }
-    let additions = judged.add_protos(alloc, items, loose.as_mut_slice())?;
-    let count = count_marks(&loose);
-    if count == 0 {
-        return Ok(None);
-    }
-    let loosening = made_static(alloc, &judged, loose)?;
-    Ok(Some(Plan {
-        additions,
-        loosening,
-        count,
-    }))
+    Ok(Some(growth))
 }
 
 /// Gives a method number its new proto.
@@ -91,41 +85,48 @@ fn give_protos(names: &mut [MethodName], protos: &[Option<u32>])
     }
 }
 
-/// Appends what the tables get.
-fn append(program: &mut Program, additions: Additions) -> Result<(), AllocError>
-    ensures { OnOk result (program.new ≡ extended additions.new_strings.items additions.new_protos.items additions.proto_of.items program.old) }
+/// Appends what the tables get, and gives method numbers their new protos.
+fn append(program: &mut Program, growth: Growth) -> Result<(), AllocError>
+    ensures { OnOk result (program.new ≡ extended_so growth.strings.items growth.protos.items growth.given.items program.old) }
 {
     give_protos(
         program.methods.items.as_mut_slice(),
-        additions.proto_of.as_slice(),
+        growth.given.as_slice(),
     );
-    let Additions {
-        mut new_strings,
-        mut new_protos,
+    let Growth {
+        mut strings,
+        mut protos,
         ..
-    } = additions;
-    program.strings.items.append(&mut new_strings)?;
-    program.protos.items.append(&mut new_protos)?;
+    } = growth;
+    program.strings.items.append(&mut strings)?;
+    program.protos.items.append(&mut protos)?;
     Ok(())
 }
 
-/// Makes methods of a program static by a plan.
-fn write(alloc: Global, program: &mut Program, plan: Plan) -> Result<(), AllocError>
-    ensures { OnOk result (IsLoosened program.old program.new) }
+/// Makes the methods of a program static that get new protos.
+fn write(
+    alloc: Global,
+    program: &mut Program,
+    hierarchy: &Hierarchy,
+    growth: Growth,
+) -> Result<(), AllocError>
+    ensures { (t : Tables) → is_well_formed program.old ≡ true → IsResolved program.old hierarchy.now → IsGrowth program.old t growth → OnOk result (IsLoosenedBy program.old t program.new) }
 {
-    let Plan {
-        additions,
-        loosening,
-        count: _,
-    } = plan;
+    let targets = targets(alloc, program, hierarchy, growth.given.as_slice())?;
+    let loosening = Loosening {
+        hierarchy,
+        given: growth.given.as_slice(),
+        targets: targets.as_slice(),
+    };
     loosening.loosen(alloc, program)?;
-    append(program, additions)?;
+    append(program, growth)?;
     Ok(())
 }
 
 /// Makes the loose methods of a program static, and their calls, in place. The hierarchy is that of the program's classes, the
-/// facts are those of the program, and the outside table is closed. `count` is how many methods are made static. New protos and
-/// strings are appended, and lines stay. After want of memory, the only error, the program is lost.
+/// facts are those of the program, and the outside table is closed. `count` is how many methods are made static, 0 exactly where
+/// the program is the same: then no method is loose. Else fewer methods have a receiver. New protos and strings are appended, and
+/// lines stay. After want of memory, the only error, the program is lost.
 pub fn apply(
     alloc: Global,
     program: Program,
@@ -134,14 +135,20 @@ pub fn apply(
     outside: &Outside,
     admitted: &Admitted,
 ) -> Result<Changed, AllocError>
-    ensures { IfOk result (IsStaticised program) }
+    ensures staticised { is_well_formed program ≡ true → IsResolved program hierarchy.now → IfOk result (IsStaticisedBy program facts.now outside.now admitted.now.methods.items) }
+    ensures none_left { is_well_formed program ≡ true → IsResolved program hierarchy.now
+        → IfOk result (λ c. c.count ≡ 0 → NoneLeft program facts.now outside.now admitted.now.methods.items) }
+    ensures same { IfOk result (λ changed. changed.count ≡ 0 → changed.program ≡ program) }
+    ensures changes { is_well_formed program ≡ true → IsResolved program hierarchy.now → IfOk result (λ c. c.program ≡ program → c.count ≡ 0) }
+    ensures falls { is_well_formed program ≡ true → IsResolved program hierarchy.now → IfOk result (λ c. receivers_in c.program + min c.count 1 ≤ receivers_in program) }
 {
     let mut program = program;
     let origins = Seq::new(alloc);
-    match find_loose(alloc, &program, hierarchy, facts, outside, admitted)? {
-        Some(plan) => {
-            let count = plan.count;
-            write(alloc, &mut program, plan)?;
+    let planned = plan(alloc, &program, hierarchy, facts, outside, admitted)?;
+    match planned {
+        Some(growth) => {
+            let count = count_given(growth.given.as_slice());
+            write(alloc, &mut program, hierarchy, growth)?;
             Ok(Changed {
                 program,
                 count,

@@ -1,0 +1,15 @@
+pub mod Allowed
+pub mod Barred
+pub mod Bars
+pub mod Differ
+pub mod Found
+pub mod Given
+pub mod Marking
+pub mod Marks
+pub mod Named
+pub mod Once
+pub mod Placed
+pub mod Plain
+pub mod Sieved
+pub mod Sifts
+pub mod Under

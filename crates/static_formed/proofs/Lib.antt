@@ -1,0 +1,10 @@
+pub mod Lists
+pub mod Extended
+pub mod Bodies
+pub mod Plans
+pub mod Methods
+pub mod Tables
+pub mod Protos
+pub mod Counts
+pub mod Turns
+pub mod Whole

@@ -1,0 +1,16 @@
+//! The law of programs in which methods were made static.
+
+ghost use Rattle.std.specs.Prelude.{◌≡◌, ℕ, Bool, true, List};
+ghost use Rattle.program_model.specs.ProgramRules.{is_well_formed};
+ghost use Rattle.program_model.specs.declared.pass.Changed.{Changed};
+ghost use Rattle.program_model.specs.declared.pass.Outside.{Outside};
+ghost use Rattle.program_model.specs.declared.program.Program.{Program};
+ghost use Rattle.class_defs.specs.ClassGraph.{IsTwice};
+ghost use Rattle.facts.specs.declared.facts.Facts.{Facts};
+ghost use Rattle.staticise.specs.Loosened.{IsStaticisedBy};
+
+/// What staticise answers of a well-formed program whose classes have types of their own is well-formed.
+pub fn static_formed_law()
+    ensures { (p : Program) (facts : Facts) (o : Outside) (admitted : List Bool) (c : Changed) → is_well_formed p ≡ true → ((class : ℕ) → IsTwice p class → ⊥)
+        → IsStaticisedBy p facts o admitted c → is_well_formed c.program ≡ true }
+{}

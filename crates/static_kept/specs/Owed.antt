@@ -1,0 +1,38 @@
+-- What a pass owes, also one after which numbers name other methods (this project's profile).
+use Rattle.std.specs.Prelude.{◌≡◌, ℕ, true}
+use Rattle.program_model.specs.ProgramRules.{is_well_formed}
+use Rattle.program_model.specs.declared.pass.Outside.{Outside}
+use Rattle.program_model.specs.declared.program.Program.{Program}
+use Rattle.class_defs.specs.ClassGraph.{IsAncestor, IsTwice}
+use Rattle.dalvik_defs.specs.Names.{Text}
+use Rattle.dalvik_defs.specs.Naming.{named}
+use Rattle.dalvik_defs.specs.Outer.{outer_of}
+use Rattle.dalvik_defs.specs.Shown.{SameShown}
+use Rattle.dalvik_defs.specs.Under.{defines}
+use Rattle.hierarchy.specs.Splitting.{NoSplit}
+use Rattle.alike_law.specs.Virtual.{VirtualsStay}
+use Rattle.outer_law.specs.Shutting.{ShutsAlike, with_shut}
+use Rattle.pass_defs.specs.Typed.{IsTyped}
+use Rattle.removal_law.specs.Reach.{ShutsHold}
+
+-- A well-formed and typed program, whose class graph has no fault: no class of it is defined twice, is its own ancestor, or
+-- repeats a package-private method of another package.
+pub record IsSound (p : Program) : Type 0 where
+  pub formed : is_well_formed p ≡ true
+  pub once : (class : ℕ) → IsTwice p class → ⊥
+  pub grounded : (class : ℕ) → IsAncestor p class class → ⊥
+  pub whole : NoSplit p
+  pub typed : IsTyped (named p)
+
+-- What is left is sound, it defines no more classes, and its virtual methods are some of those that there were. By the tables of both
+-- programs the outside names the same but for silent and shut methods, and shuts the same of the virtual methods that are left. Where
+-- the table of shut methods holds what it says, the same is shown, by the names that the numbers had before, and the table holds that
+-- of what is left, by the names that they have then.
+pub record OwesAlong (o : Outside) (p q : Program) : Type 0 where
+  pub sound : IsSound q
+  pub fewer : (t : Text) → defines (named q) t ≡ true → defines (named p) t ≡ true
+  pub virtuals : VirtualsStay (named p) (named q)
+  pub outer : outer_of q o ≡ with_shut (outer_of p o) (outer_of q o).silent (outer_of q o).shut
+  pub shuts : ShutsAlike (named q) (outer_of p o).shut (outer_of q o).shut
+  pub shown : ShutsHold (named p) (outer_of p o) → SameShown (named p) (named q) (outer_of p o)
+  pub holds : ShutsHold (named p) (outer_of p o) → ShutsHold (named q) (outer_of q o)

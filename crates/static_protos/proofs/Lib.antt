@@ -1,0 +1,5 @@
+pub mod Formed
+pub mod Grown
+mod Sets
+pub mod Behind
+pub mod Soundly

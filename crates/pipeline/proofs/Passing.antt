@@ -13,6 +13,7 @@ use Rattle.hierarchy.specs.declared.build.Hierarchy.{Hierarchy}
 use Rattle.call_graph.specs.declared.live_set.LiveSet.{LiveSet}
 use Rattle.call_graph.specs.Facts.{Fits}
 use Rattle.call_graph.specs.Closed.{IsClosedSet}
+use Rattle.call_graph.specs.Least.{IsLeastSet}
 use Rattle.reach.specs.Kept.{kept_of, size_of}
 use Rattle.walk_marks.specs.Walks.{is_on}
 use Rattle.body_edit.specs.declared.fate.Fate.{Fate}
@@ -274,18 +275,19 @@ module _ (o : Outside) (admitted : List Bool) (t : Traced) (r : Passed) where
   fault_passed same none fault = none_passed o admitted Reach t r (λ formed. record { removal = inr (refl, inr (fault formed)); still = refl }) same none
 
   removed : (q : Program) (h : Hierarchy) → o.shrink ≡ true → is_well_formed t.program ≡ true → HasGraph t.program h
-      → (is_well_formed t.program ≡ true → IsResolved t.program h → (s : LiveSet) × Fits t.program s × IsClosedSet t.program o s × (q ≡ kept_of s t.program)) → Removes o t.program q
+      → (is_well_formed t.program ≡ true → IsResolved t.program h → (s : LiveSet) × Fits t.program s × IsClosedSet t.program o s × IsLeastSet t.program o s × (q ≡ kept_of s t.program)) → Removes o t.program q
   removed q h allowed formed graph left =
       let kept = left formed graph.resolved in
       record {
         allowed = allowed;
         marks = kept.0;
         marked = record { formed = formed; once = graph.resolved.of.once; grounded = graph.grounded; sized = kept.1; closed = kept.2 };
-        left = kept.3;
+        least = kept.3;
+        left = kept.4;
       }
 
   pub removal_passed : (c : Changed) (h : Hierarchy) → IsPassed t.origins c (removes c.count) r → o.shrink ≡ true → (is_well_formed t.program ≡ true → HasGraph t.program h) → c.origins ≡ []
-      → (is_well_formed t.program ≡ true → IsResolved t.program h → (s : LiveSet) × Fits t.program s × IsClosedSet t.program o s × (c.program ≡ kept_of s t.program))
+      → (is_well_formed t.program ≡ true → IsResolved t.program h → (s : LiveSet) × Fits t.program s × IsClosedSet t.program o s × IsLeastSet t.program o s × (c.program ≡ kept_of s t.program))
       → (s : LiveSet) × Fits t.program s × (c.program ≡ kept_of s t.program) → (c.count ≡ 0 → c.program ≡ t.program) → (0 < c.count → size_of c.program < size_of t.program)
       → HavePassed o admitted (Reach ∷ []) t r
   removal_passed c h passed allowed graph unmoved closed kept same less = taken_passed Reach c passed

@@ -14,11 +14,11 @@ use Rattle.redex_outside.proofs.Runs.{run_start}
 use Rattle.call_graph.specs.declared.live_set.LiveSet.{LiveSet}
 use Rattle.call_graph.specs.Facts.{Fits}
 use Rattle.call_graph.specs.Closed.{IsClosedSet}
-use Rattle.reach.specs.Marked.{IsMarked}
+use Rattle.call_graph.specs.Least.{IsLeastSet}
 use Rattle.inline_calls.specs.Asked.{turn_of, Asks}
 use Rattle.pipeline.specs.declared.traces.Traced.{Traced}
 use Rattle.pipeline.specs.declared.asks.Advice.{Advice}
-use Rattle.pipeline.specs.Advised.{verdict, AreMarks, IsAsked, IsAdvised}
+use Rattle.pipeline.specs.Advised.{verdict, AreMarks, IsAsked, IsAdvised, IsLeastMarked}
 use Rattle.pipeline.specs.Asks.{Verdict, asked, no_verdict, AreAnswered}
 use Rattle.pipeline.specs.Graph.{HasGraph, HasGraphFault}
 use Rattle.pipeline.specs.Inlined.{IsOptimisedInlined, InlinedBegins, OfMethods, OfCalls}
@@ -42,24 +42,28 @@ module _ (o : Outside) (p : Program) where
       (inr (record { unasked = record { barred = barred; none = refl; nothing = nothing }; none = refl }))
 
   -- what is live by a hierarchy
-  pub marked : (h : Hierarchy) (s : LiveSet) → is_well_formed p ≡ true → HasGraph p h → Fits p s → (is_well_formed p ≡ true → IsResolved p h → IsClosedSet p o s) → IsMarked p o s
-  marked h s formed graph sized closed = record { formed = formed; once = graph.resolved.of.once; grounded = graph.grounded; sized = sized; closed = closed formed graph.resolved }
+  pub marked : (h : Hierarchy) (s : LiveSet) → is_well_formed p ≡ true → HasGraph p h → Fits p s → (is_well_formed p ≡ true → IsResolved p h → IsClosedSet p o s)
+      → (is_well_formed p ≡ true → IsResolved p h → IsLeastSet p o s) → IsLeastMarked o p s
+  marked h s formed graph sized closed least = record {
+    marked = record { formed = formed; once = graph.resolved.of.once; grounded = graph.grounded; sized = sized; closed = closed formed graph.resolved };
+    least = least formed graph.resolved;
+  }
 
-  pub found_marks : (found : Option LiveSet) (s : LiveSet) → AreMarks o p found → found ≡ Some s → IsMarked p o s
+  pub found_marks : (found : Option LiveSet) (s : LiveSet) → AreMarks o p found → found ≡ Some s → IsLeastMarked o p s
   found_marks found s marks e = subst (AreMarks o p) e marks
 
   pub no_marks : (found : Option LiveSet) → AreMarks o p found → found ≡ None → HasGraphFault p
   no_marks found marks e = subst (AreMarks o p) e marks
 
   -- the methods that they say were asked about
-  pub answered : (s : LiveSet) (advisers : ℕ) (olds news : List Voice) (before after : List Bool) (v : Verdict) → o.optimise ≡ true → IsMarked p o s
+  pub answered : (s : LiveSet) (advisers : ℕ) (olds news : List Voice) (before after : List Bool) (v : Verdict) → o.optimise ≡ true → IsLeastMarked o p s
       → AreAnswered advisers (asked s p) before after (no_verdict p) v → HasRun (turns_about s p) olds news before after → HaveTaken (IsAdvisedBy o p advisers before after v) olds news before after
   answered s advisers olds news before after v allowed marked answers run =
       taken_by (IsAdvisedBy o p advisers before after v) (turns_about s p) olds news before after run
-      (inl (record { asked = record { allowed = allowed; marks = s; marked = marked; answered = answers }; turns_are = refl }))
+      (inl (record { asked = record { allowed = allowed; marks = s; marked = marked.marked; least = marked.least; answered = answers }; turns_are = refl }))
 
   module _ {E : Type 0} (r : Result Advice E) (advisers : ℕ) where
-    pub all_answered : (s : LiveSet) (olds news : List Voice) (before after : List Bool) → o.optimise ≡ true → IsMarked p o s
+    pub all_answered : (s : LiveSet) (olds news : List Voice) (before after : List Bool) → o.optimise ≡ true → IsLeastMarked o p s
         → IfOk r (λ a. AreAnswered advisers (asked s p) before after (no_verdict p) (verdict a)) → OnOk r (HasRun (turns_about s p) olds news before after)
         → IfOk r (λ a. HaveTaken (IsAdvisedBy o p advisers before after (verdict a)) olds news before after)
     all_answered s olds news before after allowed marked answers run = by r answers run
@@ -87,16 +91,16 @@ module _ (o : Outside) (p : Program) where
   pub none_begun : (voices : List Voice) (answers : List Bool) → HaveTaken (MayBegin o p) voices voices answers answers
   none_begun voices answers = taken_by (MayBegin o p) [] voices voices answers answers (run_start voices answers) NoneTaken
 
-  pub some_begun : {E : Type 0} (r : Result Advice E) (s : LiveSet) (olds news : List Voice) (before after : List Bool) → o.optimise ≡ true → IsMarked p o s
+  pub some_begun : {E : Type 0} (r : Result Advice E) (s : LiveSet) (olds news : List Voice) (before after : List Bool) → o.optimise ≡ true → IsLeastMarked o p s
       → OnErr r (HaveTaken (AreFirstOf (turns_about s p)) olds news before after) → OnErr r (HaveTaken (MayBegin o p) olds news before after)
   some_begun r s olds news before after allowed marked begun =
       on_err_so r (HaveTaken (AreFirstOf (turns_about s p)) olds news before after) (HaveTaken (MayBegin o p) olds news before after)
-      (λ h. taken_so (AreFirstOf (turns_about s p)) (MayBegin o p) olds news before after (λ turns first. SomeTaken s turns allowed marked first) h) begun
+      (λ h. taken_so (AreFirstOf (turns_about s p)) (MayBegin o p) olds news before after (λ turns first. SomeTaken s turns allowed marked.marked marked.least first) h) begun
 
   -- all methods were asked about
   all_begun : (advisers : ℕ) (before after : List Bool) (v : Verdict) (turns : List Turn) → IsAdvisedBy o p advisers before after v turns → MayBegin o p turns
   all_begun advisers before after v turns (inl by) =
-      SomeTaken by.asked.marks turns by.asked.allowed by.asked.marked (subst (λ (ts : List Turn). AreFirstOf ts turns) by.turns_are (first_all turns))
+      SomeTaken by.asked.marks turns by.asked.allowed by.asked.marked by.asked.least (subst (λ (ts : List Turn). AreFirstOf ts turns) by.turns_are (first_all turns))
   all_begun advisers before after v turns (inr none) = subst (MayBegin o p) (sym none.none) NoneTaken
 
   pub advised_begun : (advisers : ℕ) (olds news : List Voice) (before after : List Bool) (v : Verdict) → HaveTaken (IsAdvisedBy o p advisers before after v) olds news before after → HaveTaken (MayBegin o p) olds news before after

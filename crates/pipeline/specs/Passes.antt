@@ -10,6 +10,7 @@ use Rattle.program_model.specs.ProgramRules.{is_well_formed}
 use Rattle.hierarchy.specs.Shapes.{IsResolved}
 use Rattle.hierarchy.specs.declared.build.Hierarchy.{Hierarchy}
 use Rattle.call_graph.specs.declared.live_set.LiveSet.{LiveSet}
+use Rattle.call_graph.specs.Least.{IsLeastSet}
 use Rattle.reach.specs.Kept.{kept_of}
 use Rattle.reach.specs.Marked.{IsMarked}
 use Rattle.body_edit.specs.declared.fate.Fate.{Fate}
@@ -56,11 +57,13 @@ passes = Reach ∷ ConstProp ∷ Devirt ∷ QuietCalls ∷ CopyProp ∷ DeadCode
 
 -- ---- what each pass does to a well-formed program
 
--- The rules let a removal be made, and marks that are closed under what the outside keeps leave this of a well-formed program.
+-- The rules let a removal be made, and marks that are closed under what the outside keeps, and are the least ones, leave this of a
+-- well-formed program.
 pub record Removes (o : Outside) (p q : Program) : Type 0 where
   pub allowed : o.shrink ≡ true
   pub marks : LiveSet
   pub marked : IsMarked p o marks
+  pub least : IsLeastSet p o marks
   pub left : q ≡ kept_of marks p
 
 -- The rules forbid all removal, or the class graph has a fault.

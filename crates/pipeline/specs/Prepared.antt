@@ -5,6 +5,7 @@ use Rattle.program_model.specs.declared.program.Program.{Program}
 use Rattle.program_model.specs.ProgramRules.{is_well_formed}
 use Rattle.redex_outside.specs.Turns.{Turn}
 use Rattle.call_graph.specs.declared.live_set.LiveSet.{LiveSet}
+use Rattle.call_graph.specs.Least.{IsLeastSet}
 use Rattle.reach.specs.Marked.{IsMarked}
 use Rattle.pipeline.specs.Advised.{IsAsked, IsUnasked}
 use Rattle.pipeline.specs.Asks.{Verdict}
@@ -36,7 +37,7 @@ pub record IsPrepared (o : Outside) (p : Program) (advisers : ℕ) (before after
 
 -- ---- where memory does not suffice
 
--- The first turns about methods, some or none. The marks are closed under what the outside keeps.
+-- The first turns about methods, some or none. The marks are the least ones that are closed under what the outside keeps.
 pub data MayBegin (o : Outside) (p : Program) : List Turn → Type 0 where
   NoneTaken : MayBegin o p []
-  SomeTaken : (s : LiveSet) (turns : List Turn) → o.optimise ≡ true → IsMarked p o s → AreFirstOf (turns_about s p) turns → MayBegin o p turns
+  SomeTaken : (s : LiveSet) (turns : List Turn) → o.optimise ≡ true → IsMarked p o s → IsLeastSet p o s → AreFirstOf (turns_about s p) turns → MayBegin o p turns

@@ -3,6 +3,7 @@
 ghost use Rattle.std.specs.Prelude.{◌≡◌, ◌+◌, ◌-◌, ◌≤◌, ◌<◌, [], ℕ, filter, map, length, sum_by, slice_index_or, true, false, IfOk};
 ghost use Rattle.program_model.specs.Cells.{capped};
 ghost use Rattle.call_graph.specs.Closed.{IsClosedSet};
+ghost use Rattle.call_graph.specs.Least.{IsLeastSet};
 ghost use Rattle.call_graph.specs.Facts.{Fits};
 ghost use Rattle.hierarchy.specs.Shapes.{IsResolved};
 ghost use Rattle.program_model.specs.ProgramRules.{is_well_formed};
@@ -117,7 +118,8 @@ pub fn apply(
 ) -> Result<Changed, AllocError>
     ensures origins { IfOk result (λ changed. changed.origins ≡ []) }
     ensures kept { IfOk result (λ changed. (s : LiveSet) × Fits program s × (changed.program ≡ kept_of s program)) }
-    ensures closed { is_well_formed program ≡ true → IsResolved program hierarchy.now → IfOk result (λ changed. (s : LiveSet) × Fits program s × IsClosedSet program outside.now s × (changed.program ≡ kept_of s program)) }
+    ensures closed { is_well_formed program ≡ true → IsResolved program hierarchy.now
+        → IfOk result (λ changed. (s : LiveSet) × Fits program s × IsClosedSet program outside.now s × IsLeastSet program outside.now s × (changed.program ≡ kept_of s program)) }
     ensures formed { is_well_formed program ≡ true → IfOk result (λ changed. is_well_formed changed.program ≡ true) }
     ensures falls { IfOk result (λ changed. size_of changed.program ≤ size_of program) }
     ensures same { IfOk result (λ changed. changed.count ≡ 0 → changed.program ≡ program) }

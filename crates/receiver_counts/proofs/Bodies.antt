@@ -60,8 +60,11 @@ thinned_classes (ps ∷ plan) (c ∷ cs) =
     let rest = thinned_classes plan cs in
     omega (arith, one, rest, sum_by-cons class_receivers (thin.class_by ps c) (thin.classes_by plan cs), sum_by-cons class_receivers c cs)
 
+pub thinned_plan : (plan : List (List (List Fate))) (p : Program) → receivers_in (thin.program_by plan p) ≡ receivers_in p
+thinned_plan plan p = thinned_classes plan p.classes
+
 pub thinned_receivers : (wishes : Body → List Fate → Type 0) (admitted : List Bool) (p : Program) (c : Changed) → IsThinnedBy wishes admitted p c → receivers_in c.program ≡ receivers_in p
-thinned_receivers wishes admitted p c h = ap receivers_in h.program ∙ thinned_classes h.plan p.classes
+thinned_receivers wishes admitted p c h = ap receivers_in h.program ∙ thinned_plan h.plan p
 
 -- ---- instructions that are written over
 
@@ -89,8 +92,11 @@ written_classes (ps ∷ plan) (c ∷ cs) =
     let rest = written_classes plan cs in
     omega (arith, one, rest, sum_by-cons class_receivers (over.class_by ps c) (over.classes_by plan cs), sum_by-cons class_receivers c cs)
 
+pub written_plan : (plan : List (List (List Edit))) (p : Program) → receivers_in (over.program_by plan p) ≡ receivers_in p
+written_plan plan p = written_classes plan p.classes
+
 pub written_receivers : (writes : MethodAt → Method → Body → List Edit → Type 0) (admitted : List Bool) (p : Program) (c : Changed) → IsRewrittenBy writes admitted p c → receivers_in c.program ≡ receivers_in p
-written_receivers writes admitted p c h = ap receivers_in h.written.program ∙ written_classes h.plan p.classes
+written_receivers writes admitted p c h = ap receivers_in h.written.program ∙ written_plan h.plan p
 
 -- ---- other registers
 

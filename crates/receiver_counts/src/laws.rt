@@ -1,19 +1,16 @@
 //! The laws.
 
 ghost use Rattle.std.specs.Prelude.{◌≡◌, ◌≤◌, Bool, List};
-ghost use Rattle.program_model.specs.declared.body.Body.{Body};
 ghost use Rattle.program_model.specs.declared.pass.Changed.{Changed};
 ghost use Rattle.program_model.specs.declared.pass.Outside.{Outside};
-ghost use Rattle.program_model.specs.declared.program.Method.{Method};
-ghost use Rattle.program_model.specs.declared.program.MethodAt.{MethodAt};
 ghost use Rattle.program_model.specs.declared.program.Program.{Program};
 ghost use Rattle.call_graph.specs.declared.live_set.LiveSet.{LiveSet};
 ghost use Rattle.reach.specs.Kept.{kept_of, size_of};
 ghost use Rattle.body_edit.specs.declared.fate.Fate.{Fate};
-ghost use Rattle.thin_pass.specs.Plans.{IsThinnedBy};
+ghost use Rattle.thin_pass.specs.Plans.{program_by as program_thinned};
 ghost use Rattle.thin_pass.specs.Weights.{weight_of};
 ghost use Rattle.rewrite_pass.specs.declared.edit.Edit.{Edit};
-ghost use Rattle.rewrite_pass.specs.Plans.{IsRewrittenBy};
+ghost use Rattle.rewrite_pass.specs.Plans.{program_by as program_written};
 ghost use Rattle.compact.specs.Renamed.{IsCompactedProgram};
 ghost use Rattle.copy_prop.specs.Propagated.{IsPropagatedProgram};
 ghost use Rattle.facts.specs.declared.facts.Facts.{Facts};
@@ -24,9 +21,8 @@ ghost use Rattle.staticise.specs.Loosened.{IsStaticisedBy};
 /// that writes over instructions, one that lets reads read originals, and one that gives registers other numbers.
 pub fn receivers_left_law()
     ensures removed { (s : LiveSet) (p : Program) → receivers_in (kept_of s p) ≤ receivers_in p }
-    ensures thinned { (wishes : Body → List Fate → Type 0) (admitted : List Bool) (p : Program) (c : Changed) → IsThinnedBy wishes admitted p c → receivers_in c.program ≡ receivers_in p }
-    ensures written { (writes : MethodAt → Method → Body → List Edit → Type 0) (admitted : List Bool) (p : Program) (c : Changed) → IsRewrittenBy writes admitted p c
-        → receivers_in c.program ≡ receivers_in p }
+    ensures thinned { (plan : List (List (List Fate))) (p : Program) → receivers_in (program_thinned plan p) ≡ receivers_in p }
+    ensures written { (plan : List (List (List Edit))) (p : Program) → receivers_in (program_written plan p) ≡ receivers_in p }
     ensures propagated { (admitted : List Bool) (p q : Program) → IsPropagatedProgram admitted p q → receivers_in q ≡ receivers_in p }
     ensures compacted { (admitted : List Bool) (p q : Program) → IsCompactedProgram admitted p q → receivers_in q ≡ receivers_in p }
 {}

@@ -22,7 +22,7 @@ ghost use Rattle.removal_law.specs.Reach.{ShutsHold};
 ghost use Rattle.bodies_law.specs.Numbered.{OtherNumberedBodies};
 ghost use Rattle.thin_bridge.specs.Kept.{AnyCode};
 ghost use Rattle.alike_law.specs.Virtual.{VirtualsStay};
-ghost use Rattle.stay_law.specs.Stays.{Stays};
+ghost use Rattle.stay_law.specs.Stays.{Stays, StaysInlined};
 ghost use Rattle.staticise.specs.Judging.{judged};
 ghost use Rattle.staticise.specs.Left.{receivers_in};
 ghost use Rattle.staticise.specs.Loosened.{IsLoosenedBy, IsStaticisedBy};
@@ -30,7 +30,7 @@ ghost use Rattle.static_choice.specs.Choice.{IsPlan};
 ghost use Rattle.static_kept.specs.Kept.{IsKeptStatic};
 ghost use Rattle.static_kept.specs.Owed.{IsSound, OwesAlong};
 ghost use Rattle.static_kept.specs.Passing.{Loosens};
-ghost use Rattle.static_kept.specs.Staying.{StaysAlong};
+ghost use Rattle.static_kept.specs.Staying.{StaysAlong, StaysAlongInlined};
 
 /// What passes owe they owe one after another. A pass after which numbers name what they named owes it where it has no new virtual
 /// method, and one that makes methods static owes it where what it leaves is well-formed.
@@ -53,10 +53,14 @@ pub fn plan_law()
     ensures { (p : Program) (facts : Facts) (o : Outside) (admitted : List Bool) → is_well_formed p ≡ true → IsPlan p facts o admitted }
 {}
 
-/// A program that stays stays along, also where methods of it are made static, and where it stays along twice, it stays along.
+/// A program that stays stays along, also where methods of it are made static, and where it stays along twice, it stays along. So it
+/// does where calls are inlined on the way.
 pub fn stays_along_law()
     ensures kept { (admitted : List Bool) (p q : Program) → Stays admitted p q → StaysAlong admitted p q }
     ensures twice { (admitted : List Bool) (p q r : Program) → StaysAlong admitted p q → StaysAlong admitted q r → StaysAlong admitted p r }
+    ensures inlined { (admitted : List Bool) (p q : Program) → StaysInlined admitted p q → StaysAlongInlined admitted p q }
+    ensures behind { (admitted : List Bool) (p q r : Program) → StaysAlong admitted p q → StaysAlongInlined admitted q r → StaysAlongInlined admitted p r }
+    ensures before { (admitted : List Bool) (p q r : Program) → StaysAlongInlined admitted p q → StaysAlong admitted q r → StaysAlongInlined admitted p r }
     ensures made { (p q : Program) (facts : Facts) (o : Outside) (admitted : List Bool) → is_well_formed p ≡ true → ((class : ℕ) → IsTwice p class → ⊥) → IsLoosenedBy p (judged p facts o admitted) q
         → StaysAlong admitted p q }
 {}

@@ -18,10 +18,9 @@ use Rattle.compact_bridge.specs.Bridged.{AllPacked}
 use Rattle.copy_bridge.specs.Bridged.{AllFresh}
 use Rattle.pipeline.specs.Passes.{KeepsForms}
 use Rattle.pipeline.specs.Prepared.{IsAdvisedBy}
-use Rattle.rounds_bridge.specs.Ended.{NoneKnown, NoneBindable, NoneLoosable, NoneQuiet}
-use Rattle.static_kept.specs.Staying.{StaysAlong}
+use Rattle.rounds_bridge.specs.Ended.{NoneKnown, NoneBindable, NoneLoosable, NoneQuiet, NoneUnreached}
+use Rattle.static_kept.specs.Staying.{StaysAlong, StaysAlongInlined}
 use Rattle.silence_bridge.specs.Admitted.{admitted_in}
-use Rattle.silence_bridge.specs.Stayed.{StaysAlongInlined}
 use Rattle.command_line.specs.Spelling.{Spells}
 use Rattle.command_line.specs.declared.command.CommandWords.TheVariants.{Optimise}
 use Rattle.command_line.specs.declared.command.OptimiseWords.{OptimiseWords}
@@ -58,16 +57,18 @@ pub record AreAdmitted (voices : List Voice) (given : List Bool) (program : Prog
 -- (`NoneIdle` of quiet_code), or there are no such facts, or none were asked for, since no method is admitted or a kept constructor is none of its class (`KeepsForms` of pipeline). In their bodies, whose positions and regions 32 bits number, every position is
 -- reached, is no goto to the next one and no nop, but where the branch behind it goes to it, and none computes what nobody reads;
 -- and unless the program names a method of a wide type, no read of a copy could be one of the original (`IsStale` of pass_defs; 16
--- bits number the body's registers), and no register could have a lower number (`IsPacked`). Every class, method
--- and field is one that the program has, by its number; no body has more registers, and a method that isn't admitted keeps its code. A
--- method that had a receiver may become static: then its number names it with its class as the first parameter, and all else of it
--- stays (`StaysAlong`). Where calls are inlined, a body may first come to 16 registers (`StaysAlongInlined`).
+-- bits number the body's registers), and no register could have a lower number (`IsPacked`). Unless the rules forbid removal, every
+-- class, method and field that is left follows from what the outside keeps, by what is left (`NoneUnreached`), and every one is one
+-- that the program has, by its number; a method that isn't admitted keeps its code, and no body has more registers. A method that had a
+-- receiver may become static: then its number names it with its class as the first parameter, and all else of it stays (`StaysAlong`).
+-- Where calls are inlined, a body has no more registers, or at most 16 (`StaysAlongInlined`).
 pub record KeepsMeaning (inline : Bool) (voices : List Voice) (given : List Bool) (program : Program) (outside : Outside) (left : Program) : Type 0 where
   pub admitted : List Bool
   pub advised : AreAdmitted voices given program outside admitted
   pub shown : SameShown (silenced (named program) (outer_of program outside) (admitted_in program admitted)) (named left) (outer_of program outside)
   pub formed : is_well_formed left ≡ true
   pub typed : IsTyped (named left)
+  pub reached : outside.shrink ≡ true → NoneUnreached outside left
   pub folded : NoneKnown outside admitted left ⊎ KeepsForms outside admitted left
   pub bound : NoneBindable outside admitted left ⊎ KeepsForms outside admitted left
   pub loosened : NoneLoosable outside admitted left ⊎ KeepsForms outside admitted left
@@ -80,8 +81,7 @@ pub record KeepsMeaning (inline : Bool) (voices : List Voice) (given : List Bool
 
 -- The file spells a program, the rules that their text spells make a table of it, which is closed, with the methods shut that the
 -- library shuts where there is one, and the output is the file that is written for a program that keeps its meaning, when advisers who
--- reply so at first were told this and then asked. Not said yet: that the closed set by which conditions of the table are met is the
--- least, and that the written file spells that program and is valid.
+-- reply so at first were told this and then asked. Not said yet: that the written file spells that program and is valid.
 pub record Shrinks (inline : Bool) (voices : List Voice) (tells : List Tell) (inputs : Inputs) (output : List ℕ) : Type 0 where
   pub program : Program
   pub reads : program_at inputs.file ≡ Ok program

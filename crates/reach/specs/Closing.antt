@@ -2,6 +2,7 @@
 use Rattle.std.specs.Prelude.{◌≡◌, ℕ, Bool, false, List, [], ◌++◌, filter, map, Some, None, slice_get}
 use Rattle.call_graph.specs.Closed.{IsClosedSet}
 use Rattle.call_graph.specs.Facts.{Fits}
+use Rattle.call_graph.specs.Least.{IsLeastSet}
 use Rattle.call_graph.specs.declared.live_set.LiveSet.{LiveSet}
 use Rattle.program_model.specs.declared.pass.ClassIf.{ClassIf}
 use Rattle.program_model.specs.declared.pass.Outside.{Outside}
@@ -31,11 +32,12 @@ pub record KeepsBy (p : Program) (s : LiveSet) (o : Outside) (k : Kept) : Type 0
   pub fields : k.fields.items ≡ o.fields ++ filter (is_field_met p s) o.fields_if
   pub methods : k.methods.items ≡ o.methods ++ filter (is_method_met p s) o.methods_if
 
--- Just the conditions are met whose class is live in a set that is closed under what the outside keeps, its conditions among them.
+-- Just the conditions are met whose class is live: in the least set that is closed under what the outside keeps, its conditions among them.
 pub record KeepsAsLive (p : Program) (o : Outside) (k : Kept) : Type 0 where
   pub live : LiveSet
   pub sized : Fits p live
   pub closed : IsClosedSet p o live
+  pub least : IsLeastSet p o live
   pub keeps : KeepsBy p live o k
 
 -- So it is with the numbers that an outside keeps, and it has no condition left. Flags and marked methods are the same.

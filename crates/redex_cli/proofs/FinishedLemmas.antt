@@ -2,6 +2,7 @@
 use Rattle.std.proofs.Common.{◌≡◌, ◌≤◌, ℕ, List, [], Bool, length, true, false, Option, None, Some, Result, Ok, Err, refl, subst, sym, inl, inr}
 use Rattle.std.specs.Prelude.{IfOk}
 use Rattle.call_graph.specs.Closed.{IsClosedSet}
+use Rattle.call_graph.specs.Least.{IsLeastSet}
 use Rattle.call_graph.specs.declared.live_set.LiveSet.{LiveSet}
 use Rattle.command_line.specs.declared.command.Tell.{Tell}
 use Rattle.dex_base.specs.Reading.{Gives}
@@ -175,9 +176,10 @@ graph_fault program bytes fault reads well cause = record { program = program; r
 -- ---- what is live
 
 pub lists_file : (inputs : Inputs) (program : Program) (outside : Outside) (live : LiveSet) (text : List ℕ) → program_at inputs.file ≡ Ok program
-    → IsAccepted program → IsTableWith inputs.rules inputs.library program outside → IsClosedSet program outside live → text ≡ live_text program live
+    → IsAccepted program → IsTableWith inputs.rules inputs.library program outside → IsClosedSet program outside live → IsLeastSet program outside live
+    → text ≡ live_text program live
     → ListsFile inputs text
-lists_file inputs program outside live text reads accepted table closed says = record {
+lists_file inputs program outside live text reads accepted table closed least says = record {
   program = program;
   reads = reads;
   accepted = accepted;
@@ -185,5 +187,6 @@ lists_file inputs program outside live text reads accepted table closed says = r
   table = table;
   live = live;
   closed = closed;
+  least = least;
   says = says;
 }

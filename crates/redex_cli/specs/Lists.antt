@@ -1,6 +1,7 @@
 -- What `live` says.
 use Rattle.std.specs.Prelude.{◌≡◌, ℕ, Bool, List, [], ◌++◌, flat_map, Option, Some, None, Ok, slice_get, cond, codes}
 use Rattle.call_graph.specs.Closed.{IsClosedSet}
+use Rattle.call_graph.specs.Least.{IsLeastSet}
 use Rattle.call_graph.specs.declared.live_set.LiveSet.{LiveSet}
 use Rattle.dex_read.specs.File.{program_at}
 use Rattle.pipeline.specs.Asks.{proto_text}
@@ -51,8 +52,7 @@ abbrev pub live_text : Program → LiveSet → List ℕ
 live_text p live = flat_map (live_class p live) p.classes
 
 -- The text lists what is live of the program that the file of these inputs spells, which is accepted, by the table of their rules
--- and their library: sets that hold all that the table keeps and all that something in them entails. That they are the least is
--- not said.
+-- and their library: the least sets that hold all that the table keeps and all that something in them entails.
 pub record ListsFile (inputs : Inputs) (text : List ℕ) : Type 0 where
   pub program : Program
   pub reads : program_at inputs.file ≡ Ok program
@@ -61,6 +61,7 @@ pub record ListsFile (inputs : Inputs) (text : List ℕ) : Type 0 where
   pub table : IsTableWith inputs.rules inputs.library program outside
   pub live : LiveSet
   pub closed : IsClosedSet program outside live
+  pub least : IsLeastSet program outside live
   pub says : text ≡ live_text program live
 
 -- The same of what the names hold, where the shelf tells it.

@@ -1,9 +1,16 @@
 -- Where the rounds end nothing is left for the passes on bodies.
-use Rattle.std.proofs.Common.{◌≡◌, ◌⊎◌, inl, inr, ℕ, zero, suc, ◌<◌, Bool, true, false, true≢false, List, [], refl, sym, ◌∙◌, arith}
+use Rattle.std.proofs.Common.{◌≡◌, ◌⊎◌, inl, inr, ℕ, zero, suc, ◌<◌, Bool, true, false, true≢false, List, [], ◌∷◌, refl, sym, ap, subst, ◌∙◌, arith}
+use Rattle.std.specs.Prelude.{Contains, map}
 use Rattle.program_model.specs.declared.body.Body.{Body}
 use Rattle.program_model.specs.declared.pass.Origin.{Origin}
 use Rattle.program_model.specs.declared.pass.Outside.{Outside}
+use Rattle.program_model.specs.declared.program.Class.{Class}
 use Rattle.program_model.specs.declared.program.Program.{Program}
+use Rattle.call_graph.specs.declared.facts.Fact.TheVariants as fact
+use Rattle.call_graph.specs.declared.live_set.LiveSet.{LiveSet}
+use Rattle.call_graph.specs.Least.{IsLeastSet}
+use Rattle.reach.specs.Kept.{is_marked, kept_in, kept_of, live_classes}
+use Rattle.body_graph.proofs.Members.{none, first, there, split, in_filter}
 use Rattle.body_edit.specs.declared.fate.Fate.{Fate}
 use Rattle.thin_pass.specs.Weights.{weight_of}
 use Rattle.thin_pass.proofs.Lighter.{thinned_less}
@@ -23,8 +30,8 @@ use Rattle.copy_prop.specs.Propagated.{IsPropagatedProgram}
 use Rattle.copy_bridge.specs.Bridged.{AllFresh}
 use Rattle.copy_bridge.proofs.Settled.{program_settled as copies_settled}
 use Rattle.type_bridge.proofs.Refused.{refused_program}
-use Rattle.pipeline.specs.Passes.{Folds, KeepsForms, IsFolding, Rebinds, IsRebinding, Loosens, IsLoosening, Quiets, IsQuieting, Propagates, KeepsReads, NoneStale, Wide, Faulty, IllTyped, IsPropagation, Thins, IsCleaning, IsCompaction, passes, AreStill}
-use Rattle.rounds_bridge.specs.Ended.{NoneKnown, NoneBindable, NoneLoosable, NoneQuiet}
+use Rattle.pipeline.specs.Passes.{Removes, IsBarred, IsRemoval, Folds, KeepsForms, IsFolding, Rebinds, IsRebinding, Loosens, IsLoosening, Quiets, IsQuieting, Propagates, KeepsReads, NoneStale, Wide, Faulty, IllTyped, IsPropagation, Thins, IsCleaning, IsCompaction, passes, AreStill}
+use Rattle.rounds_bridge.specs.Ended.{NoneKnown, NoneBindable, NoneLoosable, NoneQuiet, NoneUnreached}
 use Rattle.rounds_bridge.specs.Owed.{IsSound}
 
 -- a thinning that leaves the program the same has counted nothing, since it would weigh less
@@ -46,7 +53,54 @@ unfaulted p sound x = by x.fault x.is x.cause
     by (fault.Twice class) is cause = sound.once class cause.twice
     by (fault.SplitOverride class method) is cause = sound.whole class method cause.is.is
 
+-- ---- what a removal leaves that takes nothing away
+
+-- what is of the images comes from one entry
+record FromEntry {A B : Type 0} (f : A → B) (xs : List A) (y : B) : Type 0 where
+  entry : A
+  is_in : Contains xs entry
+  same : f entry ≡ y
+
+image_from : {A B : Type 0} (f : A → B) (xs : List A) (y : B) → Contains (map f xs) y → FromEntry f xs y
+image_from f [] y c = absurd (none y c)
+image_from f (x ∷ xs) y c = elim (split (f x) (map f xs) y c) [
+  | inl same ↦ record { entry = x; is_in = first x xs; same = same }
+  | inr rest ↦ let one = image_from f xs y rest in record { entry = one.entry; is_in = there x xs one.entry one.is_in; same = one.same }
+]
+
+module _ (o : Outside) (p : Program) (s : LiveSet) (least : IsLeastSet p o s) (left : p ≡ kept_of s p) where
+  -- a class of the program is a live one with its live members
+  from_kept : (c : Class) → Contains p.classes c → FromEntry (kept_in s) (live_classes s p.classes) c
+  from_kept c i = image_from (kept_in s) (live_classes s p.classes) c (subst (λ cs. Contains cs c) (ap (λ (x : Program). x.classes) left) i)
+
+  pub unreached_none : NoneUnreached o p
+  unreached_none = record {
+    tables = least.tables;
+    are = least.are;
+    classes = λ c i.
+        let d = from_kept c i in
+        least.follows (fact.Class c.name) (subst (λ (k : Class). is_marked s.classes.items k.name ≡ true) d.same (in_filter (λ k. is_marked s.classes.items k.name) p.classes d.entry d.is_in).1);
+    fields = λ c f i j.
+        let d = from_kept c i in
+        least.follows (fact.Field f.name) (in_filter (λ g. is_marked s.fields.items g.name) d.entry.fields f (subst (λ (k : Class). Contains k.fields f) (sym d.same) j)).1;
+    methods = λ c m i j.
+        let d = from_kept c i in
+        least.follows (fact.Method m.name) (in_filter (λ n. is_marked s.methods.items n.name) d.entry.methods m (subst (λ (k : Class). Contains k.methods m) (sym d.same) j)).1;
+  }
+
 module _ (o : Outside) (admitted : List Bool) (p : Program) (sound : IsSound p) (still : AreStill o admitted passes p) where
+  -- the last removal took nothing away, so that all is live by the least marks
+  pub none_unreached : o.shrink ≡ true → NoneUnreached o p
+  none_unreached allowed = let h : IsRemoval o p p [] = still.0 sound.formed in by h.removal
+    where
+      barred : IsBarred o p → ⊥
+      barred (inl no) = true≢false (sym allowed ∙ no)
+      barred (inr graph) = unfaulted p sound graph
+
+      by : Removes o p p ⊎ ((p ≡ p) × IsBarred o p) → NoneUnreached o p
+      by (inl r) = unreached_none o p r.marks r.least r.left
+      by (inr none) = absurd (barred none.1)
+
   -- the facts that a fold goes by leave nothing to write, since it left the program the same
   pub all_folded : NoneKnown o admitted p ⊎ KeepsForms o admitted p
   all_folded = let h : IsFolding o admitted p p [] = still.1.0 sound.formed in by h.folding

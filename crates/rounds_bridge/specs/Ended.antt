@@ -1,9 +1,16 @@
 -- What is so where the rounds end.
-use Rattle.std.specs.Prelude.{◌≡◌, true, Bool, List}
+use Rattle.std.specs.Prelude.{◌≡◌, true, Bool, Contains, List}
+use Rattle.program_model.specs.declared.program.Class.{Class}
+use Rattle.program_model.specs.declared.program.Field.{Field}
+use Rattle.program_model.specs.declared.program.Method.{Method}
 use Rattle.program_model.specs.declared.pass.Outside.{Outside}
 use Rattle.program_model.specs.declared.program.Program.{Program}
 use Rattle.hierarchy.specs.Shapes.{IsResolved}
 use Rattle.hierarchy.specs.declared.build.Hierarchy.{Hierarchy}
+use Rattle.call_graph.specs.declared.facts.Fact.TheVariants as fact
+use Rattle.call_graph.specs.declared.tables.Tables.{Tables}
+use Rattle.call_graph.specs.Least.{Reached}
+use Rattle.call_graph.specs.Tables.{AreTables}
 use Rattle.facts.specs.declared.facts.Facts.{Facts}
 use Rattle.const_prop.specs.Folds.{NoneLeft}
 use Rattle.receivers.specs.Receiving.{is_straight}
@@ -30,7 +37,7 @@ pub record NoneBindable (o : Outside) (admitted : List Bool) (p : Program) : Typ
   pub known : AreKnown o p facts
   pub none_left : is_straight p ≡ true → NoCallLeft p hierarchy facts admitted
 
--- Such facts let no method be static that has a receiver, whatever the tables have room for.
+-- Such facts let no method do without its receiver, of those for whose new protos the tables have room.
 pub record NoneLoosable (o : Outside) (admitted : List Bool) (p : Program) : Type 0 where
   pub facts : Facts
   pub known : AreKnown o p facts
@@ -44,3 +51,12 @@ pub record NoneQuiet (o : Outside) (admitted : List Bool) (p : Program) : Type 0
   pub quiet : List Bool
   pub are_quiet : AreQuiet p facts.frames.items quiet
   pub none_left : NoneIdle p quiet facts.frames.items admitted
+
+-- Each class, field and method of the program follows from what the outside keeps of it, and from nothing else (`Reached` of
+-- call_graph).
+pub record NoneUnreached (o : Outside) (p : Program) : Type 0 where
+  pub tables : Tables
+  pub are : AreTables p o tables
+  pub classes : (c : Class) → Contains p.classes c → Reached p o tables (fact.Class c.name)
+  pub fields : (c : Class) (f : Field) → Contains p.classes c → Contains c.fields f → Reached p o tables (fact.Field f.name)
+  pub methods : (c : Class) (m : Method) → Contains p.classes c → Contains c.methods m → Reached p o tables (fact.Method m.name)

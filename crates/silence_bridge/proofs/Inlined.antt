@@ -22,16 +22,17 @@ use Rattle.copy_bridge.specs.Bridged.{AllFresh}
 use Rattle.squeeze.specs.Needed.{NothingLeft}
 use Rattle.pipeline.specs.Inlined.{IsOptimisedInlined}
 use Rattle.pipeline.specs.Passes.{KeepsForms}
-use Rattle.rounds_bridge.specs.Ended.{NoneKnown, NoneBindable, NoneLoosable, NoneQuiet}
+use Rattle.rounds_bridge.specs.Ended.{NoneKnown, NoneBindable, NoneLoosable, NoneQuiet, NoneUnreached}
 use Rattle.rounds_bridge.specs.Owed.{IsSound, Owes}
-use Rattle.rounds_bridge.proofs.Ends.{all_folded, all_bound, all_loosened, all_quiet, none_skipped, none_dead, all_fresh, all_packed}
+use Rattle.rounds_bridge.proofs.Ends.{none_unreached, all_folded, all_bound, all_loosened, all_quiet, none_skipped, none_dead, all_fresh, all_packed}
 use Rattle.rounds_bridge.proofs.Inlining.{inlining_owes, inlining_stays}
 use Rattle.rounds_bridge.proofs.Owing.{owes_on}
 use Rattle.rounds_bridge.proofs.Repeated.{all_rounds_owe}
 use Rattle.rounds_bridge.proofs.Staying.{rounds_stay}
+use Rattle.static_kept.specs.Staying.{StaysAlongInlined}
+use Rattle.static_kept.proofs.Staying.{along_before, along_inlined}
 use Rattle.stay_law.proofs.Staying.{stays_behind}
 use Rattle.silence_bridge.specs.Admitted.{admitted_in}
-use Rattle.silence_bridge.specs.Stayed.{StaysAlongInlined}
 use Rattle.silence_bridge.proofs.Optimised.{silent_named, silent_outer, silent_sound, silent_holds}
 use Rattle.silence_bridge.proofs.Staying.{silent_stays}
 
@@ -58,6 +59,9 @@ module _ (p : Program) (h : Hierarchy) (formed : is_well_formed p ≡ true) (res
   pub inlined_sound : IsSound r
   inlined_sound = rounds.sound
 
+  pub inlined_reached : o.shrink ≡ true → NoneUnreached o r
+  inlined_reached allowed = none_unreached o done.admitted r rounds.sound done.ran.ends allowed
+
   pub inlined_folded : NoneKnown o done.admitted r ⊎ KeepsForms o done.admitted r
   inlined_folded = all_folded o done.admitted r rounds.sound done.ran.ends
 
@@ -83,9 +87,7 @@ module _ (p : Program) (h : Hierarchy) (formed : is_well_formed p ≡ true) (res
   inlined_packed narrow = all_packed o done.admitted r rounds.sound done.ran.ends narrow
 
   pub inlined_stays : StaysAlongInlined done.admitted p r
-  inlined_stays = record {
-    between = done.inlined.program;
-    inlined = stays_behind done.admitted p done.silenced done.inlined.program (silent_stays o.silent done.admitted p done.silenced done.prepared.silent)
-        (inlining_stays o done.admitted done.silenced done.inlined done.calls done.inlining);
-    along = rounds_stay o done.admitted done.ran.changing done.inlined (record { program = r; origins = origins }) done.ran.rounds inlining.sound;
-  }
+  inlined_stays = along_before done.admitted p done.inlined.program r
+      (along_inlined done.admitted p done.inlined.program (stays_behind done.admitted p done.silenced done.inlined.program (silent_stays o.silent done.admitted p done.silenced done.prepared.silent)
+      (inlining_stays o done.admitted done.silenced done.inlined done.calls done.inlining)))
+      (rounds_stay o done.admitted done.ran.changing done.inlined (record { program = r; origins = origins }) done.ran.rounds inlining.sound)

@@ -1,5 +1,8 @@
-use Rattle.rounds_bridge.proofs.Ends.{all_folded, all_bound, all_loosened, all_quiet, none_skipped, none_dead, all_fresh, all_packed}
+use Rattle.rounds_bridge.proofs.Ends.{none_unreached, all_folded, all_bound, all_loosened, all_quiet, none_skipped, none_dead, all_fresh, all_packed}
 use Rattle.rounds_bridge.proofs.rounds.settled_law.Goals as goal
+
+pub returns-clause-reached : goal.returns-clause-reached
+returns-clause-reached c = λ o admitted p t count ran sound allowed. none_unreached o admitted t.program sound ran.ends allowed
 
 pub returns-clause-folded : goal.returns-clause-folded
 returns-clause-folded c = λ o admitted p t count ran sound. all_folded o admitted t.program sound ran.ends

@@ -1,4 +1,4 @@
-use Rattle.silence_bridge.proofs.Inlined.{inlined_shows, inlined_sound, inlined_folded, inlined_bound, inlined_loosened, inlined_quiet, inlined_skips, inlined_dead, inlined_fresh, inlined_packed, inlined_stays}
+use Rattle.silence_bridge.proofs.Inlined.{inlined_shows, inlined_sound, inlined_reached, inlined_folded, inlined_bound, inlined_loosened, inlined_quiet, inlined_skips, inlined_dead, inlined_fresh, inlined_packed, inlined_stays}
 use Rattle.silence_bridge.proofs.rules.all_rules_inlined_law.Goals as goal
 
 pub returns-clause-shown : goal.returns-clause-shown
@@ -8,6 +8,10 @@ returns-clause-shown c = λ p r origins h o olds news spared rounds before after
 pub returns-clause-sound : goal.returns-clause-sound
 returns-clause-sound c = λ p r origins h o olds news spared rounds before after formed resolved acyclic whole types done.
     inlined_sound p h formed resolved acyclic whole o types r origins olds news spared rounds before after done
+
+pub returns-clause-reached : goal.returns-clause-reached
+returns-clause-reached c = λ p r origins h o olds news spared rounds before after formed resolved acyclic whole types done allowed.
+    inlined_reached p h formed resolved acyclic whole o types r origins olds news spared rounds before after done allowed
 
 pub returns-clause-folded : goal.returns-clause-folded
 returns-clause-folded c = λ p r origins h o olds news spared rounds before after formed resolved acyclic whole types done.

@@ -1,4 +1,4 @@
-use Rattle.silence_bridge.proofs.Optimised.{silent_named, optimised_shows, optimised_sound, optimised_folded, optimised_bound, optimised_loosened, optimised_quiet, optimised_skips, optimised_dead, optimised_fresh, optimised_packed, optimised_stays}
+use Rattle.silence_bridge.proofs.Optimised.{silent_named, optimised_shows, optimised_sound, optimised_reached, optimised_folded, optimised_bound, optimised_loosened, optimised_quiet, optimised_skips, optimised_dead, optimised_fresh, optimised_packed, optimised_stays}
 use Rattle.silence_bridge.proofs.rules.all_rules_law.Goals as goal
 
 pub returns-clause-silenced : goal.returns-clause-silenced
@@ -11,6 +11,10 @@ returns-clause-shown c = λ p r origins h o advisers spared rounds before after 
 pub returns-clause-sound : goal.returns-clause-sound
 returns-clause-sound c = λ p r origins h o advisers spared rounds before after formed resolved acyclic whole types done.
     optimised_sound p h formed resolved acyclic whole o types r origins advisers spared rounds before after done
+
+pub returns-clause-reached : goal.returns-clause-reached
+returns-clause-reached c = λ p r origins h o advisers spared rounds before after formed resolved acyclic whole types done allowed.
+    optimised_reached p h formed resolved acyclic whole o types r origins advisers spared rounds before after done allowed
 
 pub returns-clause-folded : goal.returns-clause-folded
 returns-clause-folded c = λ p r origins h o advisers spared rounds before after formed resolved acyclic whole types done.

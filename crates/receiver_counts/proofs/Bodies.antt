@@ -24,8 +24,7 @@ use Rattle.compact.specs.Renamed as packed
 use Rattle.copy_prop.specs.Propagated.{IsPropagatedProgram}
 use Rattle.copy_prop.specs.Propagated as copied
 use Rattle.staticise.specs.Left.{class_receivers, has_receiver_word, receivers_in}
-use Rattle.staticise.proofs.Falls.{word_of}
-use Rattle.receiver_counts.proofs.Sums.{each_sum}
+use Rattle.receiver_counts.proofs.Sums.{each_sum, word_of}
 
 -- ---- thinning
 

@@ -9,7 +9,7 @@ use Rattle.call_graph.specs.declared.live_set.LiveSet.{LiveSet}
 use Rattle.reach.specs.Kept.{is_marked, kept_in, kept_of, live_classes}
 use Rattle.reach.proofs.Sublists.{sum_left}
 use Rattle.staticise.specs.Left.{class_receivers, receivers_in}
-use Rattle.staticise.proofs.Falls.{word_of}
+use Rattle.receiver_counts.proofs.Sums.{word_of}
 
 module _ (s : LiveSet) where
   class_no_more : (c : Class) → class_receivers (kept_in s c) ≤ class_receivers c

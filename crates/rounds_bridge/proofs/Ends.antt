@@ -94,7 +94,7 @@ module _ (o : Outside) (admitted : List Bool) (p : Program) (sound : IsSound p) 
   none_unreached allowed = let h : IsRemoval o p p [] = still.0 sound.formed in by h.removal
     where
       barred : IsBarred o p → ⊥
-      barred (inl no) = true≢false (sym allowed ∙ no)
+      barred (inl forbids) = true≢false (sym allowed ∙ forbids)
       barred (inr graph) = unfaulted p sound graph
 
       by : Removes o p p ⊎ ((p ≡ p) × IsBarred o p) → NoneUnreached o p

@@ -1,7 +1,6 @@
 -- Calls in a row: of instructions, of methods and of classes.
-use Rattle.std.proofs.Common.{◌≡◌, ◌⊎◌, inl, inr, ℕ, zero, suc, ◌+◌, ◌*◌, ◌<◌, ◌≤◌, ◌^◌, Bool, true, false, List, [], ◌∷◌, ◌++◌, length, take, take_all, get_or, Option, Some, None, refl, sym, ap, ◌∙◌, subst, arith}
+use Rattle.std.proofs.Common.{◌≡◌, ℕ, zero, suc, ◌+◌, ◌*◌, ◌<◌, ◌≤◌, Bool, true, false, List, [], ◌∷◌, ◌++◌, length, take, get_or, Option, Some, None, refl, sym, ap, ◌∙◌, arith}
 use Rattle.std.specs.Prelude.{◌&&◌, slice_get, sum_by}
-use Rattle.std.specs.List.{list_all}
 use Rattle.std.proofs.lemmas.Bool.{leb-true}
 use Rattle.std.proofs.lemmas.List.{length-take-le}
 use Rattle.std.proofs.lemmas.List.Sums.{sum_by-cons}
@@ -10,18 +9,14 @@ use Rattle.insn_set.specs.declared.form.Insn.{Insn}
 use Rattle.program_model.specs.Cells.{entries_of, body_cells, method_cells, class_cells, cells_of}
 use Rattle.program_model.specs.ProgramRules.{is_well_formed}
 use Rattle.program_model.specs.declared.body.Body.{Body}
-use Rattle.program_model.specs.declared.pass.Outside.{Outside}
 use Rattle.program_model.specs.declared.program.Class.{Class}
 use Rattle.program_model.specs.declared.program.Method.{Method}
 use Rattle.program_model.specs.declared.program.Program.{Program}
 use Rattle.program_model.proofs.Formed.{formed}
 use Rattle.facts.specs.declared.facts.Facts.{Facts}
-use Rattle.loose_methods.specs.declared.calls.Marks.{Marks}
 use Rattle.loose_methods.specs.Loose.{allows, all_allow, code_allows, methods_allow, classes_allow}
-use Rattle.loose_methods.specs.Marking.{is_on}
-use Rattle.loose_methods.specs.Sifting.{IsSifted, Sifts, IsShortCode, AreShortCodes}
+use Rattle.loose_methods.specs.Sifting.{IsShortCode, AreShortCodes}
 use Rattle.loose_methods.proofs.Placed.{one_more}
-use Rattle.loose_methods.proofs.Sifts.{sifts_then, sifts_none, sifts_same}
 
 and_assoc : (a b c : Bool) → ((a && b) && c) ≡ (a && (b && c))
 and_assoc true b c = refl

@@ -1,5 +1,5 @@
 -- Methods that numbers name lose their marks.
-use Rattle.std.proofs.Common.{◌≡◌, ℕ, ◌+◌, ◌<◌, ◌≤◌, Bool, true, false, List, [], ◌∷◌, ◌++◌, length, take, take_all, slice_index, Option, refl, sym, ap, ◌∙◌}
+use Rattle.std.proofs.Common.{◌≡◌, ℕ, ◌+◌, ◌<◌, Bool, true, false, List, [], ◌∷◌, length, take, slice_index, Option, refl, sym, ap, ◌∙◌}
 use Rattle.std.specs.Prelude.{◌&&◌, ◌||◌, not}
 use Rattle.std.specs.List.{list_any}
 use Rattle.std.proofs.lemmas.List.{take_more}
@@ -7,7 +7,6 @@ use Rattle.std.proofs.lemmas.List.Folds.{list_any-append}
 use Rattle.class_defs.specs.Finding.{resolves_method}
 use Rattle.program_model.specs.declared.program.Program.{Program}
 use Rattle.loose_methods.specs.Loose.{is_this, names_it, named_by}
-use Rattle.loose_methods.specs.Marking.{is_on}
 
 pub named_more : (p : Program) (n : ℕ) (xs : List ℕ) (i : ℕ) (old now new : Bool) (named : Option ℕ) → i < length xs → named ≡ named_by p (slice_index xs i) (resolves_method p (slice_index xs i))
     → now ≡ (old && not (list_any (names_it p n) (take i xs))) → new ≡ (now && not (is_this n named)) → new ≡ (old && not (list_any (names_it p n) (take (i + 1) xs)))

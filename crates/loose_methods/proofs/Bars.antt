@@ -1,11 +1,11 @@
 -- Marks that virtual and interface calls take.
-use Rattle.std.proofs.Common.{◌≡◌, ◌⊎◌, inl, inr, ℕ, ◌+◌, ◌<◌, ◌≤◌, Bool, true, false, true≢false, nat_eq, List, [], ◌∷◌, ◌++◌, length, take, Option, Some, None, refl, sym, ap, ◌∙◌, subst, arith}
-use Rattle.std.specs.Prelude.{◌&&◌, ◌||◌, filter, flat_map, is_some, not, slice_get}
+use Rattle.std.proofs.Common.{◌≡◌, inl, inr, ℕ, Bool, true, false, true≢false, nat_eq, List, [], ◌∷◌, ◌++◌, length, Option, Some, None, refl, sym, ap, ◌∙◌, subst}
+use Rattle.std.specs.Prelude.{◌&&◌, ◌||◌, flat_map, is_some, not, slice_get}
 use Rattle.std.specs.List.{list_any, list_all}
 use Rattle.insn_set.specs.declared.ops.InvokeKind.TheVariants as call
 use Rattle.std.proofs.lemmas.List.Folds.{list_any-append}
 use Rattle.lemmas.proofs.Bools.{and_left, and_right, and_both, and_false, or_left, or_right, or_cases, or_none, clash, untrue, not_true, none_or}
-use Rattle.program_model.specs.Lookups.{class_place, method_at}
+use Rattle.program_model.specs.Lookups.{class_place}
 use Rattle.program_model.specs.MemberRules.{is_object}
 use Rattle.program_model.specs.ProgramRules.{is_well_formed}
 use Rattle.program_model.specs.Texts.{type_text}
@@ -14,15 +14,15 @@ use Rattle.program_model.specs.declared.pools.MethodName.{MethodName}
 use Rattle.program_model.specs.declared.program.Class.{Class}
 use Rattle.program_model.specs.declared.program.MethodAt.{MethodAt}
 use Rattle.program_model.specs.declared.program.Program.{Program}
-use Rattle.class_defs.specs.Finding.{finds_static, finds_virtual, resolves_method}
-use Rattle.class_defs.specs.Members.{own_method, own_virtual, is_common}
+use Rattle.class_defs.specs.Finding.{finds_virtual, resolves_method}
+use Rattle.class_defs.specs.Members.{own_virtual, is_common}
 use Rattle.class_defs.specs.Places.{is_under}
-use Rattle.class_defs.proofs.Positions.{number_of, number_test, same_test}
+use Rattle.class_defs.proofs.Positions.{number_of, same_test}
 use Rattle.hierarchy.specs.Climbing.{In}
 use Rattle.hierarchy.specs.Naming.{definers_of}
 use Rattle.hierarchy.specs.Shapes.{IsResolved}
 use Rattle.hierarchy.specs.declared.build.Hierarchy.{Hierarchy}
-use Rattle.receivers.specs.Receiving.{is_at, interface_at, lists, lists_above}
+use Rattle.receivers.specs.Receiving.{is_at, lists, lists_above}
 use Rattle.receivers.proofs.Owned.{owns, at_itself, defines}
 use Rattle.receivers.proofs.Ranges.{in_filter, filter_in}
 use Rattle.receivers.proofs.Walks.{any_of, of_any}

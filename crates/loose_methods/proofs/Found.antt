@@ -1,10 +1,10 @@
 -- What calls find of a candidate: a method of a class that is no interface.
-use Rattle.std.proofs.Common.{◌≡◌, ◌⊎◌, inl, inr, ℕ, zero, suc, ◌<◌, Bool, true, false, true≢false, nat_eq, List, [], ◌∷◌, ◌++◌, length, Option, Some, None, refl, sym, ap, ◌∙◌, subst, arith}
-use Rattle.std.specs.Prelude.{◌&&◌, ◌||◌, codes, cond, flat_map, is_some, not, position, slice_get, option_and_then}
-use Rattle.std.specs.List.{list_any, list_all}
+use Rattle.std.proofs.Common.{◌≡◌, inl, inr, ℕ, ◌<◌, true, false, true≢false, nat_eq, List, [], ◌∷◌, ◌++◌, length, Option, Some, None, refl, sym, ap, ◌∙◌, subst}
+use Rattle.std.specs.Prelude.{◌&&◌, ◌||◌, codes, flat_map, is_some, not, position, slice_get, option_and_then}
+use Rattle.std.specs.List.{list_any}
 use Rattle.std.specs.Option.{option_or, option_map}
 use Rattle.std.proofs.lemmas.List.Folds.{list_any-append}
-use Rattle.lemmas.proofs.Bools.{and_left, and_right, and_both, or_left, or_right, or_cases, or_none, clash, untrue, not_true}
+use Rattle.lemmas.proofs.Bools.{and_left, and_right, and_both, or_cases, or_none, clash, untrue, not_true}
 use Rattle.lemmas.proofs.Lists.{got_short}
 use Rattle.lemmas.proofs.Options.{none_some, some_same, before_map}
 use Rattle.program_model.specs.Lookups.{class_place, method_at}
@@ -26,15 +26,15 @@ use Rattle.hierarchy.specs.Climbing.{In}
 use Rattle.hierarchy.specs.Ranks.{IsRanked}
 use Rattle.hierarchy.specs.declared.build.Hierarchy.{Hierarchy}
 use Rattle.hierarchy.specs.Shapes.{IsResolved}
-use Rattle.receivers.specs.Receiving.{interface_at, is_at}
+use Rattle.receivers.specs.Receiving.{interface_at}
 use Rattle.receivers.proofs.Found.{chain_over}
 use Rattle.receivers.proofs.Owned.{found_along, owns}
 use Rattle.receivers.proofs.Walks.{of_any, any_of}
-use Rattle.loose_methods.specs.Candidates.{is_plain_class, takes_receiver, is_kept, is_candidate}
-use Rattle.loose_methods.specs.Loose.{number_at, number_found, is_this, is_it, resolves_to, names_it, named_by, found_by, may_find_at, class_candidates, is_subclass, is_among, class_of_number, class_of_entry, is_alone}
+use Rattle.loose_methods.specs.Candidates.{is_plain_class, takes_receiver, is_kept}
+use Rattle.loose_methods.specs.Loose.{number_found, is_this, is_it, resolves_to, names_it, named_by, found_by, may_find_at, class_candidates, is_subclass, is_among, class_of_number, class_of_entry, is_alone}
 use Rattle.loose_methods.specs.Marking.{IsCandidate}
-use Rattle.loose_methods.proofs.Given.{Has, any_method, method_any, no_method, class_given, among_has}
-use Rattle.loose_methods.proofs.Once.{Owns, fits, class_once, number_once, stands, there, at_there}
+use Rattle.loose_methods.proofs.Given.{no_method, class_given, among_has}
+use Rattle.loose_methods.proofs.Once.{Owns, fits, class_once, number_once, stands, at_there}
 
 -- ---- first answers
 

@@ -2,14 +2,11 @@
 use Rattle.std.proofs.Common.{◌≡◌, ◌⊎◌, inl, inr, ℕ, zero, suc, Bool, true, false, true≢false, nat_eq, List, [], ◌∷◌, ◌++◌, length, Option, Some, None, refl, sym, ap, ◌∙◌, subst}
 use Rattle.std.specs.Prelude.{◌&&◌, ◌||◌, cond, filter, flat_map, not, slice_get}
 use Rattle.std.specs.List.{list_any, list_all}
-use Rattle.std.specs.Option.{option_or}
 use Rattle.lemmas.proofs.Bools.{and_left, and_right, or_right}
-use Rattle.lemmas.proofs.Options.{none_some, some_same}
-use Rattle.program_model.specs.declared.pools.MethodName.{MethodName}
 use Rattle.program_model.specs.declared.program.MethodAt.{MethodAt}
 use Rattle.program_model.specs.declared.program.Program.{Program}
 use Rattle.program_model.specs.Lookups.{method_at}
-use Rattle.class_defs.specs.Finding.{Search, Nothing, Clash, Finds, candidates, candidates_from, finds_among, first_among, is_037, is_lowest, lowest, one_or_none, verdict, without_repeats}
+use Rattle.class_defs.specs.Finding.{Clash, Finds, candidates, candidates_from, finds_among, is_037, is_lowest, lowest, one_or_none, verdict, without_repeats}
 use Rattle.class_defs.specs.Members.{has_code, is_common, is_interface, own_virtual}
 use Rattle.class_defs.specs.Places.{chain_of, interface_places, is_under, placed, super_place}
 use Rattle.hierarchy.specs.Climbing.{In}
@@ -18,7 +15,6 @@ use Rattle.receivers.specs.Receiving.{interface_at}
 use Rattle.receivers.proofs.Found.{chain_over}
 use Rattle.receivers.proofs.Owned.{own_class}
 use Rattle.receivers.proofs.Walks.{under_self, under_up}
-use Rattle.loose_methods.specs.Loose.{class_candidates, super_candidates}
 
 -- ---- members of lists of methods
 

@@ -1,13 +1,12 @@
 -- Methods that are marked, class by class and method by method.
-use Rattle.std.proofs.Common.{◌≡◌, ◌⊎◌, inl, inr, ℕ, ◌+◌, ◌<◌, ◌≤◌, Bool, true, false, List, nat_eq, length, replicate, Some, None, Option, refl, sym, ap, ◌∙◌, subst, arith, true≢false}
-use Rattle.std.specs.Prelude.{◌&&◌, ◌||◌, not, is_some, slice_get, slice_set, cond}
+use Rattle.std.proofs.Common.{◌≡◌, ◌⊎◌, inl, inr, ℕ, ◌+◌, ◌<◌, ◌≤◌, Bool, true, false, List, nat_eq, length, replicate, Some, refl, sym, ap, ◌∙◌, subst, arith, true≢false}
+use Rattle.std.specs.Prelude.{◌&&◌, ◌||◌, not, slice_get, slice_set, cond}
 use Rattle.std.specs.List.{list_any}
 use Rattle.std.proofs.lemmas.Bool.{cases_lt}
-use Rattle.lemmas.proofs.Bools.{and_left, and_right, and_both}
+use Rattle.lemmas.proofs.Bools.{and_left}
 use Rattle.lemmas.proofs.Lists.{got_short}
 use Rattle.lemmas.proofs.Options.{some_same}
 use Rattle.program_model.specs.MemberRules.{is_direct}
-use Rattle.program_model.specs.ProgramRules.{is_well_formed}
 use Rattle.program_model.specs.declared.pass.Outside.{Outside}
 use Rattle.program_model.specs.declared.pools.MethodName.{MethodName}
 use Rattle.program_model.specs.declared.program.Class.{Class}

@@ -1,5 +1,5 @@
 -- A method number is defined once, and names a method of its class.
-use Rattle.std.proofs.Common.{◌≡◌, ℕ, ◌<◌, ◌⊎◌, inl, inr, Bool, true, false, nat_eq, List, [], ◌∷◌, Option, Some, None, refl, sym, ap, subst, ◌∙◌, arith}
+use Rattle.std.proofs.Common.{◌≡◌, ℕ, inl, inr, true, nat_eq, [], ◌∷◌, Option, Some, None, refl, sym, ap, subst, ◌∙◌}
 use Rattle.std.specs.Prelude.{◌&&◌, slice_get, option_and_then}
 use Rattle.std.specs.Option.{option_map}
 use Rattle.std.proofs.lemmas.Bool.{cases_order}
@@ -10,14 +10,14 @@ use Rattle.program_model.specs.declared.program.MethodAt.{MethodAt}
 use Rattle.program_model.specs.declared.program.Class.{Class}
 use Rattle.program_model.specs.declared.program.Program.{Program}
 use Rattle.program_model.specs.Distinct.{method_key, own_method_key}
-use Rattle.program_model.specs.Lookups.{class_place, method_at}
+use Rattle.program_model.specs.Lookups.{method_at}
 use Rattle.program_model.specs.MemberRules.{class_fits}
 use Rattle.program_model.specs.ProgramRules.{is_well_formed}
 use Rattle.class_defs.specs.ClassGraph.{IsTwice}
 use Rattle.class_defs.specs.Members.{names_method}
-use Rattle.class_defs.proofs.Positions.{number_of, place_first}
+use Rattle.class_defs.proofs.Positions.{number_of}
 use Rattle.class_defs.proofs.WellFormed.{MethodFits, sound, class_parts, all_at, and_left, and_right}
-use Rattle.loose_methods.specs.Loose.{number_at, is_this, is_it}
+use Rattle.loose_methods.specs.Loose.{is_this, is_it}
 use Rattle.loose_methods.proofs.Differ.{methods_differ, same_number}
 
 -- a method that stands in a class

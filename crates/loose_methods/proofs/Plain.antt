@@ -1,9 +1,9 @@
 -- Virtual calls that find a candidate alone.
-use Rattle.std.proofs.Common.{◌≡◌, ◌⊎◌, inl, inr, ℕ, ◌<◌, Bool, true, false, true≢false, nat_eq, List, [], ◌∷◌, ◌++◌, length, Option, Some, None, refl, sym, ap, ◌∙◌, subst, arith}
-use Rattle.std.specs.Prelude.{◌&&◌, ◌||◌, filter, flat_map, is_some, not, slice_get}
+use Rattle.std.proofs.Common.{◌≡◌, inl, inr, ℕ, ◌<◌, Bool, true, false, true≢false, nat_eq, List, [], ◌∷◌, ◌++◌, length, Option, Some, None, refl, sym, ap, ◌∙◌, subst}
+use Rattle.std.specs.Prelude.{◌&&◌, ◌||◌, flat_map, is_some, not, slice_get}
 use Rattle.std.specs.List.{list_any, list_all}
 use Rattle.insn_set.specs.declared.ops.InvokeKind.TheVariants as call
-use Rattle.lemmas.proofs.Bools.{and_left, and_right, and_both, or_left, or_right, clash, untrue, not_true, none_or, or_false_left, or_false_right, neither_of}
+use Rattle.lemmas.proofs.Bools.{and_left, and_right, and_both, or_left, or_right, clash, untrue, not_true, none_or, or_false_left, or_false_right}
 use Rattle.program_model.specs.Lookups.{class_place, method_at}
 use Rattle.program_model.specs.ProgramRules.{is_well_formed}
 use Rattle.program_model.specs.declared.pass.Outside.{Outside}
@@ -26,8 +26,8 @@ use Rattle.receivers.proofs.Walks.{of_any, under_on}
 use Rattle.loose_methods.specs.Loose.{places, classes_under, is_face, is_in_interface, is_alone, has_rival, has_outward, number_found, is_this, is_it, found_by, is_nothing, class_candidates, may_find_at, receivers, is_within, is_within_at, may_find, misses, may_leave, resolves_to, is_subclass, is_plain_call, interface_there}
 use Rattle.loose_methods.specs.Marking.{is_on, IsCandidate, AreUnder}
 use Rattle.loose_methods.specs.Sifting.{HasCandidates, KeepsPlain}
-use Rattle.loose_methods.proofs.Given.{Has, any_method, method_any, all_methods, methods_all, no_method, has_flat, flat_has, has_left, has_right, has_split, class_given, clash_one, among_has, nothing_has}
-use Rattle.loose_methods.proofs.Found.{coded, here, itself, method_here, other_than, names_are, static_same, so_static, resolves_static, none_given, not_among, FindsIt, finds_it, alone, first_some, method_class, own_short, static_is}
+use Rattle.loose_methods.proofs.Given.{Has, all_methods, methods_all, no_method, has_flat, flat_has, has_left, has_right, class_given, clash_one, among_has, nothing_has}
+use Rattle.loose_methods.proofs.Found.{coded, here, method_here, other_than, names_are, static_same, so_static, finds_it, alone, first_some, method_class, own_short, static_is}
 use Rattle.loose_methods.proofs.Marks.{same_or, differ_test}
 use Rattle.loose_methods.proofs.Under.{in_places, place_of, in_under, under_in}
 

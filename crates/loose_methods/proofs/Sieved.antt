@@ -1,5 +1,5 @@
 -- The marks of the methods that may be static as far as the tables have room.
-use Rattle.std.proofs.Common.{◌≡◌, ℕ, Bool, true, false, List, Some, refl, sym, ap, ◌∙◌, length}
+use Rattle.std.proofs.Common.{◌≡◌, ℕ, Bool, true, List, Some, sym, ap, ◌∙◌}
 use Rattle.std.specs.Prelude.{◌&&◌, not, slice_get}
 use Rattle.lemmas.proofs.Bools.{and_left}
 use Rattle.lemmas.proofs.Options.{some_same}
@@ -13,13 +13,13 @@ use Rattle.class_defs.specs.ClassGraph.{IsTwice}
 use Rattle.class_defs.proofs.Positions.{same_test}
 use Rattle.facts.specs.declared.facts.Facts.{Facts}
 use Rattle.loose_methods.specs.Asked.{AreCandidates}
-use Rattle.loose_methods.specs.Candidates.{is_candidate, may_be_static}
+use Rattle.loose_methods.specs.Candidates.{is_candidate}
 use Rattle.loose_methods.specs.Loose.{calls_allow}
-use Rattle.loose_methods.specs.Marking.{is_on, IsCandidate}
+use Rattle.loose_methods.specs.Marking.{is_on}
 use Rattle.loose_methods.specs.Mentioned.{is_mentioned}
 use Rattle.loose_methods.specs.Sieved.{IsSieved}
 use Rattle.loose_methods.specs.Sifting.{HasCandidates, Keeps}
-use Rattle.loose_methods.proofs.Once.{Owns, number_once}
+use Rattle.loose_methods.proofs.Once.{number_once}
 
 module _ (p : Program) (wf : is_well_formed p ≡ true) (once : (class : ℕ) → IsTwice p class → ⊥) (o : Outside) where
   -- a marked method is a candidate, since its number is defined once

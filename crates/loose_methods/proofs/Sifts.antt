@@ -1,10 +1,10 @@
 -- What each kind of call leaves of the marked methods.
-use Rattle.std.proofs.Common.{◌≡◌, ◌⊎◌, inl, inr, ℕ, zero, suc, ◌+◌, ◌<◌, ◌≤◌, Bool, true, false, true≢false, nat_eq, List, [], ◌∷◌, ◌++◌, length, take, Option, Some, None, refl, sym, ap, ◌∙◌, subst, arith}
+use Rattle.std.proofs.Common.{◌≡◌, inl, inr, ℕ, zero, suc, Bool, true, false, true≢false, List, [], ◌∷◌, ◌++◌, length, Option, Some, None, refl, sym, ap, ◌∙◌, subst}
 use Rattle.std.specs.Prelude.{◌&&◌, ◌||◌, is_some, not, replicate, slice_get, slice_index_or, slice_set, cond, if◌then◌else◌}
 use Rattle.std.specs.List.{list_any, list_all}
 use Rattle.insn_set.specs.declared.ops.InvokeKind.TheVariants as call
 use Rattle.std.proofs.lemmas.List.Folds.{list_any-append}
-use Rattle.lemmas.proofs.Bools.{and_left, and_right, and_both, or_left, or_right, or_cases, or_none, clash, untrue, not_true, none_or}
+use Rattle.lemmas.proofs.Bools.{and_left, and_right, and_both, or_left, or_right, or_none, clash, untrue, not_true, none_or}
 use Rattle.lemmas.proofs.Options.{some_same}
 use Rattle.program_model.specs.Lookups.{class_place, method_at}
 use Rattle.program_model.specs.ProgramRules.{is_well_formed}
@@ -29,9 +29,9 @@ use Rattle.loose_methods.specs.Loose.{allows, allows_by, has_receiver, number_at
 use Rattle.loose_methods.specs.Marking.{is_on, IsCandidate}
 use Rattle.loose_methods.specs.Sifting.{number_searched, is_clear, same_some, HasCandidates, Keeps, IsSifted, Sifts, allows_so, allows_entry}
 use Rattle.loose_methods.proofs.Bars.{keeps_all, keeps_one, keeps_both, keeps_same, kept_on, candidates_kept}
-use Rattle.loose_methods.proofs.Found.{here, itself, coded, method_here, other_than, static_is, static_same, so_static, resolves_static}
+use Rattle.loose_methods.proofs.Found.{here, coded, method_here, other_than, static_is, static_same, so_static, resolves_static}
 use Rattle.loose_methods.proofs.Given.{Has, among_has, clash_one, super_given, no_method, all_methods, has_right}
-use Rattle.loose_methods.proofs.Marks.{same_or, differ_test, and_true, set_from, none_on}
+use Rattle.loose_methods.proofs.Marks.{set_from, none_on}
 
 -- ---- the state
 

@@ -1,6 +1,6 @@
 -- The classes under one, which of them have an ancestor of the framework, and what stands above them.
 use Rattle.std.proofs.Common.{◌≡◌, ◌⊎◌, inl, inr, ℕ, ◌+◌, ◌<◌, ◌≤◌, Bool, true, false, true≢false, nat_eq, List, [], ◌∷◌, ◌++◌, length, replicate, Some, None, Option, refl, sym, ap, ◌∙◌, subst, arith}
-use Rattle.std.specs.Prelude.{◌&&◌, ◌||◌, not, filter, is_some, slice_get}
+use Rattle.std.specs.Prelude.{◌&&◌, ◌||◌, not, is_some, slice_get}
 use Rattle.std.specs.List.{list_any, range_with_len}
 use Rattle.std.proofs.lemmas.Bool.{cases_lt}
 use Rattle.lemmas.proofs.Bools.{and_left, and_right, and_both, or_left, or_right, or_cases, or_none}

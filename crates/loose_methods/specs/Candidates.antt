@@ -1,6 +1,6 @@
 -- Which methods may be static, as far as the tables have room for their new protos (Dalvik executable format, "access_flags
 -- Definitions"; this project's profile).
-use Rattle.std.specs.Prelude.{◌≡◌, ℕ, ◌&&◌, ◌||◌, not, Bool, nat_eq, List, codes, is_some, Some, slice_get}
+use Rattle.std.specs.Prelude.{ℕ, ◌&&◌, ◌||◌, not, Bool, nat_eq, List, codes, is_some}
 use Rattle.std.specs.List.{list_any}
 use Rattle.program_model.specs.declared.pass.Outside.{Outside}
 use Rattle.program_model.specs.declared.pools.MethodName.{MethodName}

@@ -1,6 +1,6 @@
 -- What keeps a method from being static, by number: what reaches it other than by calls, the calls that may find it, and the
 -- annotations and first values that name it (Dalvik executable format, "access_flags Definitions"; this project's profile).
-use Rattle.std.specs.Prelude.{◌≡◌, ℕ, suc, ◌&&◌, ◌||◌, not, Bool, true, false, nat_eq, List, [], ◌∷◌, ◌++◌, length, filter, flat_map, Option, Some, None, is_some, slice_get, slice_index_or, if◌then◌else◌}
+use Rattle.std.specs.Prelude.{ℕ, suc, ◌&&◌, ◌||◌, not, Bool, true, false, nat_eq, List, [], ◌∷◌, ◌++◌, length, filter, flat_map, Option, Some, None, is_some, slice_get, slice_index_or, if◌then◌else◌}
 use Rattle.std.specs.List.{list_any, list_all, range_with_len}
 use Rattle.std.specs.Option.{option_map}
 use Rattle.insn_set.specs.declared.ops.InvokeKind.{InvokeKind}
@@ -14,7 +14,7 @@ use Rattle.program_model.specs.declared.program.Method.{Method}
 use Rattle.program_model.specs.declared.program.MethodAt.{MethodAt}
 use Rattle.program_model.specs.declared.program.Program.{Program}
 use Rattle.program_model.specs.Lookups.{class_place, method_at}
-use Rattle.program_model.specs.MemberRules.{is_static, is_direct, is_object}
+use Rattle.program_model.specs.MemberRules.{is_object}
 use Rattle.program_model.specs.Texts.{type_text}
 use Rattle.class_defs.specs.Finding.{Search, Nothing, Clash, Finds, one_or_none, is_037, candidates, finds_at, finds_static, finds_super, resolves_method}
 use Rattle.class_defs.specs.Members.{own_method, own_virtual, has_code, is_common}

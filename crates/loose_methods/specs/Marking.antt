@@ -1,5 +1,5 @@
 -- Marks on numbers, and which methods are marked on the way.
-use Rattle.std.specs.Prelude.{◌≡◌, ◌<◌, ◌⊎◌, ℕ, ◌&&◌, ◌||◌, not, Bool, true, false, nat_eq, List, [], ◌∷◌, length, Option, Some, None, is_some, slice_get, slice_index_or, slice_set}
+use Rattle.std.specs.Prelude.{◌≡◌, ◌<◌, ℕ, ◌&&◌, ◌||◌, not, Bool, true, false, nat_eq, List, [], ◌∷◌, length, Some, is_some, slice_get, slice_index_or, slice_set}
 use Rattle.std.specs.List.{list_any}
 use Rattle.program_model.specs.declared.pass.Outside.{Outside}
 use Rattle.program_model.specs.declared.pools.MethodName.{MethodName}

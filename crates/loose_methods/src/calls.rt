@@ -615,13 +615,7 @@ impl Sifter<'_> {
         ensures { let p = self.now.judged.program.now in (o : Outside) → IsJudged self.now.judged → IsSifted p o marks.old → (call.now.kind ≡ invoke.Static → call.now.safe ≡ false)
             → OnOk result (Sifts p o (allows_entry p call.now.caller call.now.kind call.now.called (slice_get p.methods call.now.called) call.now.safe) marks.old marks.new) }
     {
-        match self
-            .judged
-            .program
-            .methods
-            .as_slice()
-            .get(call.called as usize)
-        {
+        match self.judged.name_at(call.called) {
             Some(name) => {
                 self.judge_named(alloc, marks, call, name)?;
                 Ok(())

@@ -2,6 +2,7 @@
 
 ghost use Rattle.std.specs.Prelude.{◌≡◌, ◌<◌, ◌&&◌, ℕ, Some, true, cond, length, slice_get, slice_set, IfOk, OnOk};
 ghost use Rattle.std.specs.List.{list_any};
+ghost use Rattle.std.specs.Option.{option_copied};
 ghost use Rattle.program_model.specs.declared.pools.MethodName.{MethodName};
 ghost use Rattle.program_model.specs.declared.program.Class.{Class};
 ghost use Rattle.class_defs.specs.Places.{is_under};
@@ -35,6 +36,13 @@ struct Place<'b> {
 }
 
 impl<'a> Judged<'a> {
+    /// The entry of a method number.
+    pub(crate) fn name_at(&self, number: u32) -> Option<&'a MethodName>
+        ensures { option_copied result ≡ slice_get self.now.program.now.methods number }
+    {
+        self.program.methods.as_slice().get(number as usize)
+    }
+
     /// Whether the class at a place is an interface.
     pub(crate) fn is_interface(&self, place: u32) -> bool
         ensures { result ≡ interface_at self.now.program.now place }
@@ -237,7 +245,7 @@ impl<'a> Judged<'a> {
             → place.now.outward ≡ has_outward p place.now.class
             → result ≡ tested p kept.now place.now.class q method.now }
     {
-        match self.program.methods.as_slice().get(method.name as usize) {
+        match self.name_at(method.name) {
             Some(name) => self.is_candidate_named(kept, place, name, method),
             None => false,
         }

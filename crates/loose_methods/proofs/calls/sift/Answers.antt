@@ -1,4 +1,4 @@
-use Rattle.std.proofs.Common.{◌≡◌, ◌<◌, ◌^◌, ◌∙◌, ap, arith, length, sym}
+use Rattle.std.proofs.Common.{◌∙◌, ap, arith, length, sym}
 use Rattle.std.specs.Prelude.{slice_get}
 use Rattle.std.specs.List.{list_any}
 use Rattle.class_defs.proofs.WellFormed.{few_classes}

@@ -1,4 +1,4 @@
-use Rattle.std.proofs.Common.{◌≡◌, ◌+◌, refl, sym, ap, ◌∙◌, subst, take, take_all, arith}
+use Rattle.std.proofs.Common.{◌≡◌, ◌+◌, refl, sym, ap, subst, take, take_all, arith}
 use Rattle.loose_methods.specs.Loose.{methods_allow, classes_allow}
 use Rattle.loose_methods.specs.Sifting.{Sifts, AreShortCodes}
 use Rattle.loose_methods.proofs.Allowed.{classes_more}
@@ -17,15 +17,15 @@ loop-class-preserved c = λ o j s few short.
     let ks = c.args.classes.now in
     let i = c.loop-class.class in
     let lt = c.loop-class-test.true in
-    let x = c.one-item.result in
+    let x = c.index-classes-class.result in
     let word : c.word.result ≡ i = c.word.ensures (omega (arith, lt, few)) in
     let was = c.loop-class.invariant o j s few short in
-    let codes : AreShortCodes c.as_slice.result.now = subst AreShortCodes (sym c.as_slice.ensures) (short i x (got ks i x lt c.one-item.is)) in
+    let codes : AreShortCodes c.as_slice.result.now = subst AreShortCodes (sym c.as_slice.ensures) (short i x (got ks i x lt c.index-classes-class.is)) in
     let step = c.in_ok-judge_methods.ensures o j was.sifted codes in
     let step2 : Sifts p o (λ n. methods_allow p facts admitted n i x.methods) c.loop-class.marks c.judge_methods.new.marks =
     subst (λ k. Sifts p o (λ n. methods_allow p facts admitted n k x.methods) c.loop-class.marks c.judge_methods.new.marks) word (subst (λ ms. Sifts p o (λ n. methods_allow p facts admitted n c.word.result ms) c.loop-class.marks c.judge_methods.new.marks) c.as_slice.ensures step) in
     sifts_then p o (λ n. classes_allow p facts admitted n 0 (take i ks)) (λ n. methods_allow p facts admitted n i x.methods) (λ n. classes_allow p facts admitted n 0 (take (i + 1) ks)) c.args.marks.now c.loop-class.marks c.judge_methods.new.marks s was step2
-    (λ n m. classes_more p facts admitted n ks i x lt c.one-item.is)
+    (λ n m. classes_more p facts admitted n ks i x lt c.index-classes-class.is)
 
 pub returns : goal.returns
 returns c = λ o j s few short.

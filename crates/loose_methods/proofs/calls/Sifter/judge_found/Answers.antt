@@ -2,7 +2,7 @@ use Rattle.std.proofs.Common.{◌∙◌, ap, sym}
 use Rattle.std.specs.Prelude.{◌&&◌, not}
 use Rattle.class_defs.specs.Finding.{finds_static}
 use Rattle.loose_methods.specs.Loose.{is_this, names_it, number_found}
-use Rattle.loose_methods.specs.Sifting.{allows_so, same_some}
+use Rattle.loose_methods.specs.Sifting.{same_some}
 use Rattle.loose_methods.proofs.Sifts.{bar_sifts, direct_barred, direct_kept, sifts_none, sifts_then, super_barred, super_kept}
 use Rattle.loose_methods.proofs.calls.Sifter.judge_found.Goals as goal
 

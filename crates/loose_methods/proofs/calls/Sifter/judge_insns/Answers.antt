@@ -1,4 +1,4 @@
-use Rattle.std.proofs.Common.{◌≡◌, ◌+◌, refl, sym, ap, ◌∙◌, subst, take, take_all, arith}
+use Rattle.std.proofs.Common.{◌≡◌, ◌+◌, refl, ap, subst, take, take_all, arith}
 use Rattle.loose_methods.specs.Loose.{allows, all_allow}
 use Rattle.loose_methods.specs.Sifting.{Sifts}
 use Rattle.loose_methods.proofs.Allowed.{insns_more}
@@ -19,9 +19,9 @@ loop-position-preserved c = λ o j s few.
     let lt = c.loop-position-test.true in
     let word : c.word.result ≡ i = c.word.ensures (omega (arith, lt, few)) in
     let was = c.loop-position.invariant o j s few in
-    sifts_then p o (λ n. all_allow p facts admitted n at.class at.number 0 (take i is)) (λ n. allows p facts admitted n at.class at.number i c.insn-item.result) (λ n. all_allow p facts admitted n at.class at.number 0 (take (i + 1) is)) c.args.marks.now c.loop-position.marks c.judge_insn.new.marks s was
-    (subst (λ k. Sifts p o (λ n. allows p facts admitted n at.class at.number k c.insn-item.result) c.loop-position.marks c.judge_insn.new.marks) word (c.in_ok-judge_insn.ensures o j was.sifted))
-    (λ n m. insns_more p facts admitted n at.class at.number is i c.insn-item.result lt c.insn-item.is)
+    sifts_then p o (λ n. all_allow p facts admitted n at.class at.number 0 (take i is)) (λ n. allows p facts admitted n at.class at.number i c.index-insns-position.result) (λ n. all_allow p facts admitted n at.class at.number 0 (take (i + 1) is)) c.args.marks.now c.loop-position.marks c.judge_insn.new.marks s was
+    (subst (λ k. Sifts p o (λ n. allows p facts admitted n at.class at.number k c.index-insns-position.result) c.loop-position.marks c.judge_insn.new.marks) word (c.in_ok-judge_insn.ensures o j was.sifted))
+    (λ n m. insns_more p facts admitted n at.class at.number is i c.index-insns-position.result lt c.index-insns-position.is)
 
 pub returns : goal.returns
 returns c = λ o j s few.

@@ -1,4 +1,4 @@
-use Rattle.std.proofs.Common.{◌≡◌, ◌+◌, refl, sym, ap, ◌∙◌, take, take_all, arith}
+use Rattle.std.proofs.Common.{◌+◌, refl, ap, take, take_all}
 use Rattle.loose_methods.specs.Loose.{code_allows, methods_allow}
 use Rattle.loose_methods.proofs.Allowed.{methods_more}
 use Rattle.loose_methods.proofs.Placed.{got}

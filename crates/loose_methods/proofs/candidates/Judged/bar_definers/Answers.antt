@@ -1,4 +1,4 @@
-use Rattle.std.proofs.Common.{sym, ap, ◌∙◌, subst, slice_index, take, take_all, ◌∷◌, [], ◌++◌}
+use Rattle.std.proofs.Common.{sym, subst, slice_index, take, take_all}
 use Rattle.std.proofs.lemmas.List.{take_more}
 use Rattle.receivers.proofs.Loops.{at_index}
 use Rattle.loose_methods.specs.Sifting.{Keeps, unfound_in}

@@ -1,4 +1,4 @@
-use Rattle.std.proofs.Common.{ap, refl, subst}
+use Rattle.std.proofs.Common.{refl, subst}
 use Rattle.loose_methods.specs.Sifting.{Keeps, unfound_in}
 use Rattle.loose_methods.proofs.Bars.{unfound_all}
 use Rattle.loose_methods.proofs.Under.{definers_short}

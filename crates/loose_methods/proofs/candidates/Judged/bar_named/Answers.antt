@@ -1,4 +1,4 @@
-use Rattle.std.proofs.Common.{◌∙◌, sym, ap, refl, take_all}
+use Rattle.std.proofs.Common.{◌∙◌, ap, refl, take_all}
 use Rattle.std.specs.Prelude.{◌&&◌, not}
 use Rattle.std.specs.List.{list_any}
 use Rattle.loose_methods.specs.Loose.{names_it}

@@ -3,8 +3,8 @@ use Rattle.loose_methods.specs.Loose.{number_found}
 use Rattle.loose_methods.proofs.Bars.{none_defined}
 use Rattle.loose_methods.proofs.candidates.Judged.bar_own.Goals as goal
 
-pub returns-in-Some : goal.returns-in-Some
-returns-in-Some c = λ o q j k kind own lt cand. c.in_ok-bar_number.ensures o q j k kind own lt cand (sym c.number_at.ensures ∙ c.in-Some.is)
+pub returns-in_ok-bar_number-in-Some : goal.returns-in_ok-bar_number-in-Some
+returns-in_ok-bar_number-in-Some c = λ o q j k kind own lt cand. c.in_ok-bar_number-in-Some.ensures o q j k kind own lt cand (sym c.number_at.ensures ∙ c.in-Some.is)
 
 pub returns-in-None : goal.returns-in-None
 returns-in-None c = λ o q j k kind own lt cand.

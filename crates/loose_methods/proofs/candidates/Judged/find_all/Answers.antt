@@ -1,4 +1,4 @@
-use Rattle.std.proofs.Common.{◌≡◌, ◌∙◌, slice_index, ap, sym}
+use Rattle.std.proofs.Common.{◌∙◌, ap, sym}
 use Rattle.class_defs.specs.Finding.{finds_virtual}
 use Rattle.receivers.specs.Receiving.{is_at}
 use Rattle.receivers.proofs.Loops.{all_broken, all_more, all_done}

@@ -1,7 +1,6 @@
 use Rattle.std.proofs.Common.{◌≡◌, ◌∙◌, Bool, ap, false, refl, sym, true}
 use Rattle.std.specs.Prelude.{◌&&◌, ◌||◌, not}
 use Rattle.class_defs.specs.Members.{is_common}
-use Rattle.hierarchy.specs.Naming.{definers_of}
 use Rattle.loose_methods.specs.Loose.{has_outward, has_rival, is_in_interface}
 use Rattle.loose_methods.proofs.Under.{alone_is, kept_is, kept_of, definers_short}
 use Rattle.loose_methods.proofs.candidates.Judged.is_alone.Goals as goal

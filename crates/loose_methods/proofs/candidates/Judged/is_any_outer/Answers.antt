@@ -1,4 +1,4 @@
-use Rattle.std.proofs.Common.{sym, ◌∙◌, slice_index}
+use Rattle.std.proofs.Common.{sym, ◌∙◌}
 use Rattle.loose_methods.specs.Loose.{is_outer}
 use Rattle.receivers.proofs.Loops.{any_here, none_done, none_more}
 use Rattle.loose_methods.proofs.candidates.Judged.is_any_outer.Goals as goal

@@ -1,6 +1,6 @@
 use Rattle.std.proofs.Common.{◌≡◌, ◌∙◌, Bool, ap, false, refl, sym, true}
-use Rattle.std.specs.Prelude.{◌&&◌, ◌||◌, not, slice_index_or}
-use Rattle.lemmas.proofs.Bools.{and_false, not_false, not_true}
+use Rattle.std.specs.Prelude.{◌&&◌, ◌||◌, not}
+use Rattle.lemmas.proofs.Bools.{not_false, not_true}
 use Rattle.program_model.specs.MemberRules.{is_direct}
 use Rattle.loose_methods.specs.Candidates.{takes_receiver}
 use Rattle.loose_methods.specs.Loose.{is_alone}

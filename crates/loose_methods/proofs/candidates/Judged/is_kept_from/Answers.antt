@@ -1,4 +1,4 @@
-use Rattle.std.proofs.Common.{◌≡◌, Bool, ℕ, sym, ◌∙◌, slice_index}
+use Rattle.std.proofs.Common.{sym, ◌∙◌, slice_index}
 use Rattle.std.specs.Prelude.{◌&&◌}
 use Rattle.std.specs.List.{list_any}
 use Rattle.class_defs.specs.Places.{is_under}

@@ -1,4 +1,4 @@
-use Rattle.std.proofs.Common.{◌∙◌, ap, sym, subst}
+use Rattle.std.proofs.Common.{◌∙◌, sym, subst}
 use Rattle.receivers.proofs.Walks.{place_short}
 use Rattle.loose_methods.specs.Marking.{AreUnder}
 use Rattle.loose_methods.proofs.Plain.{interface_unplain, plain_is}

@@ -1,7 +1,6 @@
-use Rattle.std.proofs.Common.{◌≡◌, ◌∙◌, Some, ap, refl, sym, true}
+use Rattle.std.proofs.Common.{◌≡◌, ◌∙◌, ap, refl, sym, true}
 use Rattle.lemmas.proofs.Bools.{clash}
 use Rattle.class_defs.proofs.Positions.{number_test}
-use Rattle.class_defs.specs.Finding.{finds_static}
 use Rattle.loose_methods.specs.Loose.{is_it, is_this, number_found}
 use Rattle.loose_methods.specs.Marking.{is_on}
 use Rattle.loose_methods.proofs.Plain.{one_plain, plain_known}

@@ -1,12 +1,11 @@
-use Rattle.std.proofs.Common.{◌≡◌, ◌∙◌, Some, ap, subst, sym, true, false, refl}
-use Rattle.std.specs.Prelude.{◌&&◌, not, slice_get}
+use Rattle.std.proofs.Common.{◌≡◌, ◌∙◌, ap, subst, sym, true, false, refl}
+use Rattle.std.specs.Prelude.{◌&&◌, not}
 use Rattle.lemmas.proofs.Bools.{and_both, and_false}
 use Rattle.lemmas.proofs.Lists.{got_short}
 use Rattle.program_model.specs.MemberRules.{has_flag}
 use Rattle.class_defs.specs.Starts.{is_trivial}
 use Rattle.loose_methods.specs.Candidates.{is_plain_class}
 use Rattle.loose_methods.specs.Marking.{AreUnder}
-use Rattle.loose_methods.specs.Loose.{has_outward}
 use Rattle.loose_methods.proofs.Marking.{no_candidates}
 use Rattle.loose_methods.proofs.Under.{outward_under}
 use Rattle.loose_methods.proofs.candidates.Judged.mark_class.Goals as goal

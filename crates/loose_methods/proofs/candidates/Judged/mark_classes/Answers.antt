@@ -20,7 +20,7 @@ loop-place-preserved c = λ o j kept outward same none.
     let was = c.loop-place.invariant o j kept outward same none in
     candidates_more p o i c.loop-place.marks c.mark_class.new.marks was
     (subst (λ n. MarksClass p o n c.loop-place.marks c.mark_class.new.marks) at
-    (c.in_ok-mark_class.ensures o j (subst (λ n. slice_get p.classes n ≡ Some c.class-item.result) (sym at) (got_in c.args.classes.now p.classes i c.class-item.result same lt c.class-item.is)) kept outward was.long))
+    (c.in_ok-mark_class.ensures o j (subst (λ n. slice_get p.classes n ≡ Some c.index-classes-place.result) (sym at) (got_in c.args.classes.now p.classes i c.index-classes-place.result same lt c.index-classes-place.is)) kept outward was.long))
 
 pub returns : goal.returns
 returns c = λ o j kept outward same none.

@@ -19,7 +19,7 @@ loop-place-preserved c = λ j same none.
     let at : c.word.result ≡ i = c.word.ensures (omega (arith, lt, few, long)) in
     outwards_more p i c.loop-place.marks c.mark_outward.new.marks (c.loop-place.invariant j same none)
     (subst (λ n. MarksOutward p n c.loop-place.marks c.mark_outward.new.marks) at
-    (c.in_ok-mark_outward.ensures j (subst (λ n. slice_get p.classes n ≡ Some c.class-item.result) (sym at) (got_in c.args.classes.now p.classes i c.class-item.result same lt c.class-item.is))))
+    (c.in_ok-mark_outward.ensures j (subst (λ n. slice_get p.classes n ≡ Some c.index-classes-place.result) (sym at) (got_in c.args.classes.now p.classes i c.index-classes-place.result same lt c.index-classes-place.is))))
 
 pub returns : goal.returns
 returns c = λ j same none.

@@ -1,4 +1,4 @@
-use Rattle.std.proofs.Common.{◌≡◌, ◌∙◌, ◌++◌, ap, [], ◌∷◌}
+use Rattle.std.proofs.Common.{◌∙◌, ◌++◌, ap, [], ◌∷◌}
 use Rattle.loose_methods.proofs.Under.{under_are}
 use Rattle.loose_methods.proofs.candidates.Judged.under.Goals as goal
 

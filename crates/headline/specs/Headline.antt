@@ -18,8 +18,8 @@ use Rattle.compact_bridge.specs.Bridged.{AllPacked}
 use Rattle.copy_bridge.specs.Bridged.{AllFresh}
 use Rattle.pipeline.specs.Passes.{KeepsForms}
 use Rattle.pipeline.specs.Prepared.{IsAdvisedBy}
-use Rattle.rounds_bridge.specs.Ended.{NoneKnown, NoneBindable, NoneQuiet, NoneUnreached}
-use Rattle.stay_law.specs.Stays.{Stays, StaysInlined}
+use Rattle.rounds_bridge.specs.Ended.{NoneKnown, NoneBindable, NoneLoosable, NoneQuiet, NoneUnreached}
+use Rattle.static_kept.specs.Staying.{StaysAlong, StaysAlongInlined}
 use Rattle.silence_bridge.specs.Admitted.{admitted_in}
 use Rattle.command_line.specs.Spelling.{Spells}
 use Rattle.command_line.specs.declared.command.CommandWords.TheVariants.{Optimise}
@@ -36,8 +36,8 @@ use Rattle.redex_cli.specs.declared.fetching.Inputs.{Inputs}
 
 -- what stays of a program, by whether calls are inlined
 abbrev pub StaysFor : Bool → List Bool → Program → Program → Type 0
-StaysFor false admitted program left = Stays admitted program left
-StaysFor true admitted program left = StaysInlined admitted program left
+StaysFor false admitted program left = StaysAlong admitted program left
+StaysFor true admitted program left = StaysAlongInlined admitted program left
 
 -- Advisers who reply so, and whose answers stand behind those that were given, took these turns: they were asked about each live method
 -- with code, and a method is admitted where all of them said yes. None is where the rules forbid all rewriting.
@@ -53,14 +53,15 @@ pub record AreAdmitted (voices : List Voice) (given : List Bool) (program : Prog
 -- framework, under every script and float table that fit, and is well-formed and typed. Advisers who reply so were asked which methods
 -- may be rewritten: these are admitted. Facts that are certified of what is left leave nothing to write in their bodies (`NoneLeft`
 -- of const_prop), where the superclass of no interface is a class of the program that is none, no call to name another method
--- (`NoneLeft` of devirt), and no call and no division that does nothing (`NoneIdle` of quiet_code), or there are no such facts, or none
--- were asked for, since no method is admitted or a kept constructor is none of its class (`KeepsForms` of pipeline). In their bodies, whose positions and regions 32 bits number, every position is
+-- (`NoneLeft` of devirt), no method that could be static (`NoneLeft` of staticise), and no call and no division that does nothing
+-- (`NoneIdle` of quiet_code), or there are no such facts, or none were asked for, since no method is admitted or a kept constructor is none of its class (`KeepsForms` of pipeline). In their bodies, whose positions and regions 32 bits number, every position is
 -- reached, is no goto to the next one and no nop, but where the branch behind it goes to it, and none computes what nobody reads;
 -- and unless the program names a method of a wide type, no read of a copy could be one of the original (`IsStale` of pass_defs; 16
 -- bits number the body's registers), and no register could have a lower number (`IsPacked`). Unless the rules forbid removal, every
 -- class, method and field that is left follows from what the outside keeps, by what is left (`NoneUnreached`), and every one is one
--- that the program has; a method that isn't admitted stays as it was, and no body has more registers (`Stays`), or at most 16 where
--- calls are inlined (`StaysInlined`).
+-- that the program has, by its number; a method that isn't admitted keeps its code, and no body has more registers. A method that had a
+-- receiver may become static: then its number names it with its class as the first parameter, and all else of it stays (`StaysAlong`).
+-- Where calls are inlined, a body has no more registers, or at most 16 (`StaysAlongInlined`).
 pub record KeepsMeaning (inline : Bool) (voices : List Voice) (given : List Bool) (program : Program) (outside : Outside) (left : Program) : Type 0 where
   pub admitted : List Bool
   pub advised : AreAdmitted voices given program outside admitted
@@ -70,6 +71,7 @@ pub record KeepsMeaning (inline : Bool) (voices : List Voice) (given : List Bool
   pub reached : outside.shrink ≡ true → NoneUnreached outside left
   pub folded : NoneKnown outside admitted left ⊎ KeepsForms outside admitted left
   pub bound : NoneBindable outside admitted left ⊎ KeepsForms outside admitted left
+  pub loosened : NoneLoosable outside admitted left ⊎ KeepsForms outside admitted left
   pub quieted : NoneQuiet outside admitted left ⊎ KeepsForms outside admitted left
   pub squeezed : NothingLeft admitted left
   pub cleaned : NoneDead (is_quiet_field left) admitted left

@@ -1,10 +1,11 @@
 -- No pass makes a program more.
-use Rattle.std.proofs.Common.{◌≡◌, suc, ◌<◌, ◌≤◌, Bool, List, [], ◌∷◌, map, length, refl, sym, ap, subst, ◌∙◌, arith}
+use Rattle.std.proofs.Common.{◌≡◌, suc, ◌+◌, ◌<◌, ◌≤◌, Bool, List, [], ◌∷◌, map, min, length, refl, sym, ap, subst, ◌∙◌, arith}
 use Rattle.std.specs.Prelude.{All}
 use Rattle.std.specs.List.{sum_by}
 use Rattle.std.proofs.lemmas.List.Sums.{sum_by-cons}
 use Rattle.program_model.specs.declared.body.Body.{Body}
 use Rattle.program_model.specs.declared.pass.Changed.{Changed}
+use Rattle.program_model.specs.declared.pass.Outside.{Outside}
 use Rattle.program_model.specs.declared.program.Class.{Class}
 use Rattle.program_model.specs.declared.program.Method.{Method}
 use Rattle.program_model.specs.declared.program.Program.{Program}
@@ -32,6 +33,12 @@ use Rattle.calls_law.proofs.Rebound.{rebound_size, rebound_weight, rebound_open}
 use Rattle.open_law.proofs.Compacted.{compacted_open}
 use Rattle.open_law.proofs.Folded.{folded_size, folded_weight}
 use Rattle.open_law.proofs.Propagated.{propagated_open}
+use Rattle.facts.specs.declared.facts.Facts.{Facts}
+use Rattle.staticise.specs.Left.{receivers_in}
+use Rattle.staticise.specs.Loosened.{IsStaticisedBy}
+use Rattle.receiver_counts.proofs.Bodies.{thinned_receivers, written_receivers, compacted_receivers, propagated_receivers}
+use Rattle.receiver_counts.proofs.Made.{made_size, made_weight}
+use Rattle.receiver_counts.proofs.Removed.{removed_receivers}
 use Rattle.pipeline.specs.Changes.{bulk_of}
 
 -- ---- removal
@@ -48,7 +55,10 @@ module _ (s : LiveSet) where
   kept_no_heavier p = omega (arith, classes_no_heavier (live_classes s p.classes), sum_left (λ c. is_marked s.classes.items c.name) class_weight p.classes)
 
   pub removal_less : (p q : Program) → q ≡ kept_of s p → size_of q < size_of p → bulk_of q < bulk_of p
-  removal_less p q e less = let w : weight_of q ≤ weight_of p = subst (λ (x : Program). weight_of x ≤ weight_of p) (sym e) (kept_no_heavier p) in omega (arith, w, less)
+  removal_less p q e less =
+      let w : weight_of q ≤ weight_of p = subst (λ (x : Program). weight_of x ≤ weight_of p) (sym e) (kept_no_heavier p) in
+      let r : receivers_in q ≤ receivers_in p = subst (λ (x : Program). receivers_in x ≤ receivers_in p) (sym e) (removed_receivers s p) in
+      omega (arith, w, r, less)
 
 -- ---- thinning
 
@@ -68,7 +78,8 @@ classes_sized (ps ∷ plan) (c ∷ cs) = omega (arith, class_sized ps c, classes
 pub thinned_less : (wishes : Body → List Fate → Type 0) (admitted : List Bool) (p : Program) (c : Changed) → IsThinnedBy wishes admitted p c → weight_of c.program < weight_of p → bulk_of c.program < bulk_of p
 thinned_less wishes admitted p c h less =
     let size : size_of c.program ≡ size_of p = ap size_of h.program ∙ classes_sized h.plan p.classes in
-    omega (arith, size, less)
+    let receivers : receivers_in c.program ≡ receivers_in p = thinned_receivers wishes admitted p c h in
+    omega (arith, size, receivers, less)
 
 -- ---- nops over instructions
 
@@ -88,7 +99,16 @@ written_classes (ps ∷ plan) (c ∷ cs) = omega (arith, written_class ps c, wri
 pub written_less : (writes : MethodAt → Method → Body → List Edit → Type 0) (admitted : List Bool) (p : Program) (c : Changed) → IsRewrittenBy writes admitted p c → weight_of c.program < weight_of p → bulk_of c.program < bulk_of p
 written_less writes admitted p c h less =
     let size : size_of c.program ≡ size_of p = ap size_of h.written.program ∙ written_classes h.plan p.classes in
-    omega (arith, size, less)
+    let receivers : receivers_in c.program ≡ receivers_in p = written_receivers writes admitted p c h in
+    omega (arith, size, receivers, less)
+
+-- ---- methods made static
+
+pub loosened_less : (p : Program) (facts : Facts) (o : Outside) (admitted : List Bool) (c : Changed) → IsStaticisedBy p facts o admitted c → receivers_in c.program + min c.count 1 ≤ receivers_in p → 0 < c.count → bulk_of c.program < bulk_of p
+loosened_less p facts o admitted c h falls some =
+    let size : size_of c.program ≡ size_of p = made_size p facts o admitted c h in
+    let weight : weight_of c.program ≡ weight_of p = made_weight p facts o admitted c h in
+    omega (arith, size, weight, falls, some)
 
 -- ---- compaction
 
@@ -96,7 +116,8 @@ pub compacted_same : (admitted : List Bool) (p q : Program) → IsCompactedProgr
 compacted_same admitted p q h =
     let size : size_of q ≡ size_of p = compacted_size admitted p q h in
     let weight : weight_of q ≡ weight_of p = compacted_weight admitted p q h in
-    omega (arith, size, weight)
+    let receivers : receivers_in q ≡ receivers_in p = compacted_receivers admitted p q h in
+    omega (arith, size, weight, receivers)
 
 -- ---- folding
 
@@ -104,7 +125,8 @@ pub folded_no_more : (admitted : List Bool) (p : Program) (c : Changed) → IsRe
 folded_no_more admitted p c r =
     let size : size_of c.program ≡ size_of p = folded_size admitted p c r in
     let weight : weight_of c.program ≤ weight_of p = folded_weight admitted p c r in
-    omega (arith, size, weight)
+    let receivers : receivers_in c.program ≡ receivers_in p = written_receivers (λ at m b es. All (IsFold b) es) admitted p c r in
+    omega (arith, size, weight, receivers)
 
 -- ---- rebinding
 
@@ -112,7 +134,8 @@ pub rebound_same : (admitted : List Bool) (p : Program) (c : Changed) → IsRewr
 rebound_same admitted p c r =
     let size : size_of c.program ≡ size_of p = rebound_size admitted p c r in
     let weight : weight_of c.program ≡ weight_of p = rebound_weight admitted p c r in
-    omega (arith, size, weight)
+    let receivers : receivers_in c.program ≡ receivers_in p = written_receivers (λ at m b es. All (IsRecalledAt b) es) admitted p c r in
+    omega (arith, size, weight, receivers)
 
 pub rebound_plainer : (admitted : List Bool) (p : Program) (c : Changed) → IsRewrittenBy (λ at m b es. All (IsRecalledAt b) es) admitted p c → open_forms c.program ≤ open_forms p
 rebound_plainer admitted p c r = omega (arith, rebound_open admitted p c r)
@@ -123,7 +146,8 @@ pub propagated_same : (admitted : List Bool) (p q : Program) → IsPropagatedPro
 propagated_same admitted p q h =
     let size : size_of q ≡ size_of p = propagated_size admitted p q h in
     let weight : weight_of q ≡ weight_of p = propagated_weight admitted p q h in
-    omega (arith, size, weight)
+    let receivers : receivers_in q ≡ receivers_in p = propagated_receivers admitted p q h in
+    omega (arith, size, weight, receivers)
 
 -- ---- instructions that may be folded
 

@@ -39,6 +39,8 @@ use Rattle.devirt.specs.Measure.{calls_in}
 use Rattle.receivers.specs.Receiving.{is_straight}
 use Rattle.devirt.specs.Left.{NoneLeft as NoneBindable}
 use Rattle.devirt.specs.Rebound.{IsRecalledAt, IsReboundBy}
+use Rattle.staticise.specs.Left.{NoneLeft as NoneLoose, receivers_in}
+use Rattle.staticise.specs.Loosened.{IsStaticisedBy}
 use Rattle.quiet_code.specs.Quiet.{AreDropped}
 use Rattle.quiet_code.specs.Quieted.{IsQuieted}
 use Rattle.copy_prop.specs.Propagated.{IsCounted, IsPropagatedProgram}
@@ -54,9 +56,9 @@ use Rattle.pipeline.specs.declared.traces.Traced.{Traced}
 use Rattle.pipeline.specs.Changes.{no_changes, total_of, bulk_of, rank_of, Falls}
 use Rattle.pipeline.specs.Graph.{HasGraph, HasGraphFault}
 use Rattle.pipeline.specs.Origins.{Follow}
-use Rattle.pipeline.specs.Passes.{Pass, Reach, ConstProp, Devirt, QuietCalls, CopyProp, DeadCode, Squeeze, Compact, Removes, AreKnown, KeepsForms, IsIllTyped, KeepsReads, Does, Steps, Last, Then, AreStill, HavePassed}
+use Rattle.pipeline.specs.Passes.{Pass, Reach, ConstProp, Devirt, Staticise, QuietCalls, CopyProp, DeadCode, Squeeze, Compact, Removes, AreKnown, KeepsForms, IsIllTyped, KeepsReads, Does, Steps, Last, Then, AreStill, HavePassed}
 use Rattle.pipeline.proofs.Few.{few_fields}
-use Rattle.pipeline.proofs.Bulk.{removal_less, folded_no_more, rebound_same, rebound_plainer, propagated_same, propagated_plainer, propagated_nearer, thinned_less, written_less, compacted_same, compacted_plainer, compacted_nearer}
+use Rattle.pipeline.proofs.Bulk.{removal_less, loosened_less, folded_no_more, rebound_same, rebound_plainer, propagated_same, propagated_plainer, propagated_nearer, thinned_less, written_less, compacted_same, compacted_plainer, compacted_nearer}
 
 -- ---- any passes
 
@@ -352,6 +354,30 @@ module _ (o : Outside) (admitted : List Bool) (t : Traced) (r : Passed) where
         still = becomes.written.origins;
       })
       (omega arith) same (λ _. becomes.written.origins) (rebound_falls c.program t.program c.count same (rebound_same admitted t.program c becomes) (rebound_plainer admitted t.program c becomes) nearer)
+
+  -- ---- methods made static
+
+  pub kept_loose_passed : r.traced ≡ t → r.changes ≡ no_changes → (is_well_formed t.program ≡ true → KeepsForms o admitted t.program) → HavePassed o admitted (Staticise ∷ []) t r
+  kept_loose_passed same none keeps = none_passed o admitted Staticise t r (λ formed. record { loosening = inr (refl, keeps formed); still = refl }) same none
+
+  pub loosened_passed : (c : Changed) (h : Hierarchy) (facts : Facts) → IsPassed t.origins c (removes c.count) r → HasGraph t.program h → AreKnown o t.program facts
+      → IsStaticisedBy t.program facts o admitted c → (c.count ≡ 0 → NoneLoose t.program facts o admitted) → (c.count ≡ 0 → c.program ≡ t.program) → (c.program ≡ t.program → c.count ≡ 0)
+      → receivers_in c.program + min c.count 1 ≤ receivers_in t.program → HavePassed o admitted (Staticise ∷ []) t r
+  loosened_passed c h facts passed graph known staticised none same settled falls = taken_passed Staticise c passed
+      (λ formed. record {
+        loosening = inl (record {
+          hierarchy = h;
+          resolved = graph.resolved;
+          facts = facts;
+          known = known;
+          changed = c;
+          staticised = staticised;
+          left = refl;
+          none_left = λ e. none (settled e);
+        });
+        still = staticised.origins;
+      })
+      same (λ _. staticised.origins) (λ some. loosened_less t.program facts o admitted c staticised falls some)
 
   -- ---- calls that do nothing
 

@@ -7,6 +7,7 @@ use Rattle.compact.specs.Measure.{numbers_in}
 use Rattle.const_prop.specs.Measure.{open_forms}
 use Rattle.devirt.specs.Measure.{calls_in}
 use Rattle.moves_law.specs.Measure.{moves_in}
+use Rattle.staticise.specs.Left.{receivers_in}
 use Rattle.pipeline.specs.declared.traces.Changes.{Changes}
 
 abbrev pub no_changes : Changes
@@ -16,10 +17,11 @@ no_changes = record { removed = 0; folded = 0; rebound = 0; reread = 0; renamed 
 abbrev pub total_of : Changes → ℕ
 total_of c = c.removed + c.folded + c.rebound + c.reread + c.renamed
 
--- How much of a program there is: its classes and members, and its instructions, a nop counting 1 and every other one 2. No pass
--- makes it more, and a pass that takes away makes it less, or that makes nops of instructions.
+-- How much of a program there is: its classes and members, its instructions, a nop counting 1 and every other one 2, and the
+-- receivers of its methods with code. No pass makes it more, and a pass that takes away makes it less, or that makes nops of
+-- instructions, or static methods of others.
 abbrev pub bulk_of : Program → ℕ
-bulk_of p = size_of p + weight_of p
+bulk_of p = size_of p + weight_of p + receivers_in p
 
 -- What its bodies name: their registers, and the numbers of those that instructions name. A pass that gives registers other numbers
 -- makes it less.
@@ -42,7 +44,7 @@ IsPlainer q p = (open_forms q < open_forms p) ⊎ ((open_forms q ≤ open_forms 
 abbrev pub IsLess : Program → Program → Type 0
 IsLess q p = (bulk_of q < bulk_of p) ⊎ ((bulk_of q ≤ bulk_of p) × IsPlainer q p)
 
--- No more of a program is left, and less where something was taken away. Where nothing was, no more of its instructions may still
+-- No more of a program is left, and less where something was taken away, be it a receiver. Where nothing was, no more of its instructions may still
 -- be folded, and fewer where some were. Where none were either, its calls are no further from what they find, and nearer where some
 -- name another method. Where none do, its reads of copies are no more, and fewer where some read originals; and where none do, it
 -- ranks no higher, and lower where registers got other numbers.

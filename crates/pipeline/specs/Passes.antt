@@ -26,6 +26,8 @@ use Rattle.const_prop.specs.Folds.{IsFoldedBy, NoneLeft}
 use Rattle.receivers.specs.Receiving.{is_straight}
 use Rattle.devirt.specs.Left.{NoneLeft as NoneBindable}
 use Rattle.devirt.specs.Rebound.{IsReboundBy}
+use Rattle.staticise.specs.Left.{NoneLeft as NoneLoose}
+use Rattle.staticise.specs.Loosened.{IsStaticisedBy}
 use Rattle.quiet_code.specs.Quieted.{NoneIdle, IsQuieted}
 use Rattle.copy_prop.specs.Propagated.{IsPropagatedProgram}
 use Rattle.dead_code.specs.Dead.{is_quiet_field}
@@ -45,6 +47,7 @@ pub data Pass : Type 0 where
   Reach : Pass
   ConstProp : Pass
   Devirt : Pass
+  Staticise : Pass
   QuietCalls : Pass
   CopyProp : Pass
   DeadCode : Pass
@@ -53,7 +56,7 @@ pub data Pass : Type 0 where
 
 -- The passes of a round, in their order.
 abbrev pub passes : List Pass
-passes = Reach ∷ ConstProp ∷ Devirt ∷ QuietCalls ∷ CopyProp ∷ DeadCode ∷ Squeeze ∷ Compact ∷ []
+passes = Reach ∷ ConstProp ∷ Devirt ∷ Staticise ∷ QuietCalls ∷ CopyProp ∷ DeadCode ∷ Squeeze ∷ Compact ∷ []
 
 -- ---- what each pass does to a well-formed program
 
@@ -133,6 +136,23 @@ pub record IsRebinding (o : Outside) (admitted : List Bool) (p q : Program) (mov
   pub rebinding : Rebinds o admitted p q ⊎ ((q ≡ p) × KeepsForms o admitted p)
   pub still : moved ≡ []
 
+-- Methods are static that can do without a receiver by such facts, and just these are, and so are their calls. Where the program is
+-- left the same, no method is left that can.
+pub record Loosens (o : Outside) (admitted : List Bool) (p q : Program) : Type 0 where
+  pub hierarchy : Hierarchy
+  pub resolved : IsResolved p hierarchy
+  pub facts : Facts
+  pub known : AreKnown o p facts
+  pub changed : Changed
+  pub staticised : IsStaticisedBy p facts o admitted changed
+  pub left : q ≡ changed.program
+  pub none_left : q ≡ p → NoneLoose p facts o admitted
+
+-- Methods that can do without a receiver are static, or nothing changes. No position moves.
+pub record IsLoosening (o : Outside) (admitted : List Bool) (p q : Program) (moved : List (List Origin)) : Type 0 where
+  pub loosening : Loosens o admitted p q ⊎ ((q ≡ p) × KeepsForms o admitted p)
+  pub still : moved ≡ []
+
 -- Calls and divisions in admitted methods that do nothing by such facts are nops, and just these are. Where the program is left the
 -- same, nothing is left in these methods that does nothing by them.
 pub record Quiets (o : Outside) (admitted : List Bool) (p q : Program) : Type 0 where
@@ -198,6 +218,7 @@ abbrev pub Does : Outside → List Bool → Pass → Program → Program → Lis
 Does o admitted Reach p q moved = IsRemoval o p q moved
 Does o admitted ConstProp p q moved = IsFolding o admitted p q moved
 Does o admitted Devirt p q moved = IsRebinding o admitted p q moved
+Does o admitted Staticise p q moved = IsLoosening o admitted p q moved
 Does o admitted QuietCalls p q moved = IsQuieting o admitted p q moved
 Does o admitted CopyProp p q moved = IsPropagation admitted p q moved
 Does o admitted DeadCode p q moved = IsCleaning admitted p q moved

@@ -10,7 +10,7 @@ ghost use Rattle.premises.specs.Plain.{ListsPlainly};
 ghost use Rattle.compact.specs.Narrow.{has_narrow_classes};
 ghost use Rattle.pipeline.specs.Changes.{no_changes, total_of};
 ghost use Rattle.pipeline.specs.Graph.{IsGraph};
-ghost use Rattle.pipeline.specs.Passes.{Reach, ConstProp, Devirt, QuietCalls, CopyProp, DeadCode, Squeeze, Compact, AreKnown, IsAnalysis, IsIllTyped, KeepsReads, HavePassed};
+ghost use Rattle.pipeline.specs.Passes.{Reach, ConstProp, Devirt, Staticise, QuietCalls, CopyProp, DeadCode, Squeeze, Compact, AreKnown, IsAnalysis, IsIllTyped, KeepsReads, HavePassed};
 
 use crate::graph::hierarchy_of;
 use crate::traces::{Changes, Passed, Traced, left_by};
@@ -369,6 +369,80 @@ pub fn rebind_calls(
         → IfOk result (λ passed. IsAnalysis outside.now admitted.now.methods.items passed.traced.program facts.new) }
 {
     let passed = rebind_graphed(alloc, traced, graph, facts, admitted)?;
+    with_facts(alloc, graph, facts, passed, outside, admitted)
+}
+
+/// Makes methods static that can do without a receiver, by a program's hierarchy and facts. The only error is want of memory.
+fn loosen_known(
+    alloc: Global,
+    traced: Traced,
+    hierarchy: &Hierarchy,
+    facts: &Facts,
+    outside: &Outside,
+    admitted: &Admitted,
+) -> Result<Passed, AllocError>
+    ensures { IsGraph traced.program (Some hierarchy.now) → is_well_formed traced.program ≡ true → AreKnown outside.now traced.program facts.now
+        → IfOk result (HavePassed outside.now admitted.now.methods.items (Staticise ∷ []) traced) }
+{
+    let changed = staticise::apply(alloc, traced.program, hierarchy, facts, outside, admitted)?;
+    let changes = Changes::removed(changed.count);
+    Ok(left_by(traced.origins, changed, changes))
+}
+
+/// The same by the facts that are known, if any are.
+fn loosen_by(
+    alloc: Global,
+    traced: Traced,
+    hierarchy: &Hierarchy,
+    facts: &Option<Facts>,
+    outside: &Outside,
+    admitted: &Admitted,
+) -> Result<Passed, AllocError>
+    ensures { IsGraph traced.program (Some hierarchy.now) → IsAnalysis outside.now admitted.now.methods.items traced.program facts.now
+        → IfOk result (HavePassed outside.now admitted.now.methods.items (Staticise ∷ []) traced) }
+{
+    match facts {
+        Some(facts) => loosen_known(alloc, traced, hierarchy, facts, outside, admitted),
+        None => Ok(unchanged(traced)),
+    }
+}
+
+/// The same, unless the class graph has a fault.
+fn loosen_graphed(
+    alloc: Global,
+    traced: Traced,
+    graph: &Option<Hierarchy>,
+    facts: &Option<Facts>,
+    outside: &Outside,
+    admitted: &Admitted,
+) -> Result<Passed, AllocError>
+    ensures { IsGraph traced.program graph.now → IsAnalysis outside.now admitted.now.methods.items traced.program facts.now
+        → IfOk result (HavePassed outside.now admitted.now.methods.items (Staticise ∷ []) traced) }
+{
+    match graph {
+        Some(hierarchy) => loosen_by(alloc, traced, hierarchy, facts, outside, admitted),
+        None => Ok(unchanged(traced)),
+    }
+}
+
+/// Makes methods static that can do without a receiver, where facts are known; the graph and the facts are then those of what
+/// is left. The only error is want of memory.
+pub fn loosen_methods(
+    alloc: Global,
+    traced: Traced,
+    graph: &mut Option<Hierarchy>,
+    facts: &mut Option<Facts>,
+    outside: &Outside,
+    admitted: &Admitted,
+) -> Result<Passed, AllocError>
+    ensures passed { IsGraph traced.program graph.old → IsAnalysis outside.now admitted.now.methods.items traced.program facts.old
+        → IfOk result (HavePassed outside.now admitted.now.methods.items (Staticise ∷ []) traced) }
+    ensures graph { IsGraph traced.program graph.old → IsAnalysis outside.now admitted.now.methods.items traced.program facts.old
+        → IfOk result (λ passed. IsGraph passed.traced.program graph.new) }
+    ensures facts { IsGraph traced.program graph.old → IsAnalysis outside.now admitted.now.methods.items traced.program facts.old
+        → IfOk result (λ passed. IsAnalysis outside.now admitted.now.methods.items passed.traced.program facts.new) }
+{
+    let passed = loosen_graphed(alloc, traced, graph, facts, outside, admitted)?;
     with_facts(alloc, graph, facts, passed, outside, admitted)
 }
 

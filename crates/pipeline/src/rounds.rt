@@ -10,7 +10,7 @@ ghost use Rattle.moves_law.specs.Measure.{moves_in};
 ghost use Rattle.pipeline.specs.Changes.{bulk_of, total_of};
 ghost use Rattle.pipeline.specs.Counts.{members_of, insns_of};
 ghost use Rattle.pipeline.specs.Graph.{IsGraph};
-ghost use Rattle.pipeline.specs.Passes.{ConstProp, Devirt, QuietCalls, CopyProp, DeadCode, Squeeze, Compact, passes, HavePassed, IsAnalysis};
+ghost use Rattle.pipeline.specs.Passes.{ConstProp, Devirt, Staticise, QuietCalls, CopyProp, DeadCode, Squeeze, Compact, passes, HavePassed, IsAnalysis};
 ghost use Rattle.pipeline.specs.Inlined.{InlinedBegins, IsOptimisedInlined};
 ghost use Rattle.pipeline.specs.Prepared.{IsAdvisedBy, IsPrepared, MayBegin};
 ghost use Rattle.pipeline.specs.Replies.{HaveTaken};
@@ -21,8 +21,8 @@ use crate::counts::{count_instructions, count_members};
 use crate::graph::hierarchy_of;
 use crate::inlined::inline_sites;
 use crate::passes::{
-    clean_bodies, compact_bodies, facts_of, fold_constants, propagate_copies, quiet_calls,
-    rebind_calls, remove_unreached, squeeze_bodies,
+    clean_bodies, compact_bodies, facts_of, fold_constants, loosen_methods, propagate_copies,
+    quiet_calls, rebind_calls, remove_unreached, squeeze_bodies,
 };
 use crate::silent::silence;
 use crate::traces::{Passed, Traced, and_then, unmoved};
@@ -160,15 +160,17 @@ fn value_passes_by(
     admitted: &Admitted,
 ) -> Result<Passed, AllocError>
     ensures passed { IsGraph traced.program graph.old → IsAnalysis outside.now admitted.now.methods.items traced.program facts.old
-        → IfOk result (HavePassed outside.now admitted.now.methods.items (ConstProp ∷ Devirt ∷ QuietCalls ∷ []) traced) }
+        → IfOk result (HavePassed outside.now admitted.now.methods.items (ConstProp ∷ Devirt ∷ Staticise ∷ QuietCalls ∷ []) traced) }
     ensures graph { IsGraph traced.program graph.old → IsAnalysis outside.now admitted.now.methods.items traced.program facts.old
         → IfOk result (λ passed. IsGraph passed.traced.program graph.new) }
 {
     let folded = fold_constants(alloc, traced, graph, facts, outside, admitted)?;
     let rebound = rebind_calls(alloc, folded.traced, graph, facts, outside, admitted)?;
     let rebound = and_then(folded.changes, rebound);
-    let quieted = quiet_calls(alloc, rebound.traced, graph, facts, admitted)?;
-    Ok(and_then(rebound.changes, quieted))
+    let loosened = loosen_methods(alloc, rebound.traced, graph, facts, outside, admitted)?;
+    let loosened = and_then(rebound.changes, loosened);
+    let quieted = quiet_calls(alloc, loosened.traced, graph, facts, admitted)?;
+    Ok(and_then(loosened.changes, quieted))
 }
 
 /// The passes that take facts, each those of the program as it stands before it; the graph is then that of what is left.
@@ -179,7 +181,7 @@ fn value_passes(
     outside: &Outside,
     admitted: &Admitted,
 ) -> Result<Passed, AllocError>
-    ensures passed { IsGraph traced.program graph.old → IfOk result (HavePassed outside.now admitted.now.methods.items (ConstProp ∷ Devirt ∷ QuietCalls ∷ []) traced) }
+    ensures passed { IsGraph traced.program graph.old → IfOk result (HavePassed outside.now admitted.now.methods.items (ConstProp ∷ Devirt ∷ Staticise ∷ QuietCalls ∷ []) traced) }
     ensures graph { IsGraph traced.program graph.old → IfOk result (λ passed. IsGraph passed.traced.program graph.new) }
 {
     let mut facts = facts_of(alloc, &traced.program, graph, outside, admitted)?;

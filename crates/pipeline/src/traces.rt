@@ -28,7 +28,7 @@ pub fn unmoved(alloc: Global, program: Program) -> Traced
     }
 }
 
-/// How much passes took away, over how many instructions they wrote what is known of them, how many calls they let name what
+/// How much passes took away, receivers of methods among it, over how many instructions they wrote what is known of them, how many calls they let name what
 /// these find, how many instructions they let read originals in place of copies, and in how many bodies they gave registers
 /// other numbers.
 #[derive(Clone, Copy, Drop)]

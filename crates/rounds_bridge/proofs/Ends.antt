@@ -30,8 +30,8 @@ use Rattle.copy_prop.specs.Propagated.{IsPropagatedProgram}
 use Rattle.copy_bridge.specs.Bridged.{AllFresh}
 use Rattle.copy_bridge.proofs.Settled.{program_settled as copies_settled}
 use Rattle.type_bridge.proofs.Refused.{refused_program}
-use Rattle.pipeline.specs.Passes.{Removes, IsBarred, IsRemoval, Folds, KeepsForms, IsFolding, Rebinds, IsRebinding, Quiets, IsQuieting, Propagates, KeepsReads, NoneStale, Wide, Faulty, IllTyped, IsPropagation, Thins, IsCleaning, IsCompaction, passes, AreStill}
-use Rattle.rounds_bridge.specs.Ended.{NoneKnown, NoneBindable, NoneQuiet, NoneUnreached}
+use Rattle.pipeline.specs.Passes.{Removes, IsBarred, IsRemoval, Folds, KeepsForms, IsFolding, Rebinds, IsRebinding, Loosens, IsLoosening, Quiets, IsQuieting, Propagates, KeepsReads, NoneStale, Wide, Faulty, IllTyped, IsPropagation, Thins, IsCleaning, IsCompaction, passes, AreStill}
+use Rattle.rounds_bridge.specs.Ended.{NoneKnown, NoneBindable, NoneLoosable, NoneQuiet, NoneUnreached}
 use Rattle.rounds_bridge.specs.Owed.{IsSound}
 
 -- a thinning that leaves the program the same has counted nothing, since it would weigh less
@@ -117,26 +117,34 @@ module _ (o : Outside) (admitted : List Bool) (p : Program) (sound : IsSound p) 
       by (inl r) = inl (record { hierarchy = r.hierarchy; resolved = r.resolved; facts = r.facts; known = r.known; none_left = r.none_left refl })
       by (inr none) = inr none.1
 
+  -- and such facts let no method be static
+  pub all_loosened : NoneLoosable o admitted p ⊎ KeepsForms o admitted p
+  all_loosened = let h : IsLoosening o admitted p p [] = still.1.1.1.0 sound.formed in by h.loosening
+    where
+      by : Loosens o admitted p p ⊎ ((p ≡ p) × KeepsForms o admitted p) → NoneLoosable o admitted p ⊎ KeepsForms o admitted p
+      by (inl x) = inl (record { facts = x.facts; known = x.known; none_left = x.none_left refl })
+      by (inr none) = inr none.1
+
   -- and so do those by which calls and divisions do nothing
   pub all_quiet : NoneQuiet o admitted p ⊎ KeepsForms o admitted p
-  all_quiet = let h : IsQuieting o admitted p p [] = still.1.1.1.0 sound.formed in by h.quieting
+  all_quiet = let h : IsQuieting o admitted p p [] = still.1.1.1.1.0 sound.formed in by h.quieting
     where
       by : Quiets o admitted p p ⊎ ((p ≡ p) × KeepsForms o admitted p) → NoneQuiet o admitted p ⊎ KeepsForms o admitted p
       by (inl q) = inl (record { facts = q.facts; known = q.known; quiet = q.quieted.quiet; are_quiet = q.quieted.are_quiet; none_left = q.none_left refl })
       by (inr none) = inr none.1
 
   pub none_skipped : NothingLeft admitted p
-  none_skipped = let h : Thins AreSkips (NothingLeft admitted p) admitted p p [] = still.1.1.1.1.1.1.0 sound.formed in h.none_left (none_counted AreSkips (NothingLeft admitted p) admitted p [] h)
+  none_skipped = let h : Thins AreSkips (NothingLeft admitted p) admitted p p [] = still.1.1.1.1.1.1.1.0 sound.formed in h.none_left (none_counted AreSkips (NothingLeft admitted p) admitted p [] h)
 
   pub none_dead : NoneDead (is_quiet_field p) admitted p
-  none_dead = by (still.1.1.1.1.1.0 sound.formed)
+  none_dead = by (still.1.1.1.1.1.1.0 sound.formed)
     where
       by : IsCleaning admitted p p [] → NoneDead (is_quiet_field p) admitted p
       by (inl h) = h.none_left (none_counted (AreCleaned (is_quiet_field p)) (NoneDead (is_quiet_field p) admitted p) admitted p [] h)
       by (inr none) = absurd (unfaulted p sound none.1)
 
   pub all_packed : has_narrow_classes p ≡ true → AllPacked admitted p
-  all_packed narrow = let h : IsCompaction admitted p p [] = still.1.1.1.1.1.1.1.0 sound.formed in by h.compaction
+  all_packed narrow = let h : IsCompaction admitted p p [] = still.1.1.1.1.1.1.1.1.0 sound.formed in by h.compaction
     where
       by : ((has_narrow_classes p ≡ true) × IsCompactedProgram admitted p p) ⊎ ((p ≡ p) × (has_narrow_classes p ≡ false)) → AllPacked admitted p
       by (inl c) = program_settled admitted p c.1
@@ -150,7 +158,7 @@ module _ (o : Outside) (admitted : List Bool) (p : Program) (sound : IsSound p) 
   still_fresh narrow (IllTyped h resolved ill) = absurd (refused_program p h sound.formed resolved ill.method ill.position ill.register ill.refused sound.typed)
 
   pub all_fresh : has_narrow_classes p ≡ true → AllFresh admitted p
-  all_fresh narrow = let h : IsPropagation admitted p p [] = still.1.1.1.1.0 sound.formed in copies_settled admitted p sound.formed (by h.propagation)
+  all_fresh narrow = let h : IsPropagation admitted p p [] = still.1.1.1.1.1.0 sound.formed in copies_settled admitted p sound.formed (by h.propagation)
     where
       by : Propagates admitted p p ⊎ ((p ≡ p) × KeepsReads admitted p) → IsPropagatedProgram admitted p p
       by (inl c) = c.propagated

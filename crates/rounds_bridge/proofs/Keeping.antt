@@ -10,7 +10,8 @@ use Rattle.reach.specs.Marked.{IsMarked}
 use Rattle.reach.proofs.Formed.{kept_formed}
 use Rattle.dalvik_defs.specs.Names.{Text}
 use Rattle.dalvik_defs.specs.Naming.{named}
-use Rattle.dalvik_defs.specs.Outer.{outer_of}
+use Rattle.dalvik_defs.specs.Outer.{Outer, outer_of}
+use Rattle.dalvik_defs.specs.Silence.{key_in}
 use Rattle.dalvik_defs.specs.Under.{defines}
 use Rattle.dalvik_defs.specs.declared.program.NamedClass.{NamedClass}
 use Rattle.dalvik_defs.specs.declared.program.NamedProgram.{NamedProgram}
@@ -32,7 +33,7 @@ use Rattle.compact.specs.Narrow.{has_narrow_classes}
 use Rattle.compact.specs.Renamed.{IsCompactedProgram}
 use Rattle.kept_bridge.proofs.Compacted.{compacted_kept}
 use Rattle.copy_kept.proofs.Kept.{propagated_kept}
-use Rattle.pipeline.specs.Passes.{Pass, Reach, ConstProp, Devirt, QuietCalls, CopyProp, DeadCode, Squeeze, Compact, Removes, IsBarred, IsRemoval, Folds, KeepsForms, IsFolding, Rebinds, IsRebinding, Quiets, IsQuieting, Propagates, KeepsReads, IsPropagation, Thins, IsCleaning, IsCompaction}
+use Rattle.pipeline.specs.Passes.{Pass, Reach, ConstProp, Devirt, Staticise, QuietCalls, CopyProp, DeadCode, Squeeze, Compact, Removes, IsBarred, IsRemoval, Folds, KeepsForms, IsFolding, Rebinds, IsRebinding, Loosens, IsLoosening, Quiets, IsQuieting, Propagates, KeepsReads, IsPropagation, Thins, IsCleaning, IsCompaction}
 use Rattle.reach_bridge.specs.Names.{family_of}
 use Rattle.reach_bridge.proofs.Kept.{kept_named}
 use Rattle.reach_bridge.proofs.Within.{shows_the_same, keeps_shuts, keeps_typing}
@@ -42,6 +43,12 @@ use Rattle.rebind_kept.proofs.Shuts.{rebound_holds}
 use Rattle.rebind_kept.proofs.Kept.{rebound_kept}
 use Rattle.quiet_kept.proofs.Kept.{quieted_kept}
 use Rattle.quiet_kept.proofs.Shuts.{quieted_shut}
+use Rattle.outer_law.specs.Shutting.{with_shut}
+use Rattle.alike_law.specs.Virtual.{VirtualsStay}
+use Rattle.static_kept.specs.Owed as along
+use Rattle.static_kept.specs.Passing as loose
+use Rattle.static_kept.proofs.Left.{virtuals_numbered, virtuals_removed}
+use Rattle.static_kept.proofs.Passing.{loosened_owes}
 use Rattle.rounds_bridge.specs.Owed.{IsSound, Owes, Keeps}
 use Rattle.rounds_bridge.proofs.Heads.{others_define}
 use Rattle.rounds_bridge.proofs.Owing.{owes_same}
@@ -74,7 +81,9 @@ module _ (o : Outside) where
       whole = whole_left p (kept_of s p) refl (kept_part s p.classes) sound.whole;
       typed = keeps_typing p o s marked sound.typed;
     };
+    virtuals = subst (VirtualsStay (named p)) (sym (kept_named p s sound.formed)) (virtuals_removed (named p) (family_of p s));
     outer = refl;
+    shuts = λ t c m e i v. refl;
     fewer = kept_defines p s sound.formed;
     shown = shows_the_same p o s marked sound.typed;
     holds = keeps_shuts p o s marked;
@@ -102,11 +111,17 @@ module _ (o : Outside) where
       whole = whole_left p q kept.others.same (other_part AnyCode p p.classes q.classes kept.others.classes) sound.whole;
       typed = kept.typed;
     };
-    outer = ap (λ (x : Program). outer_of x o) kept.others.same;
+    virtuals = virtuals_numbered AnyCode p q kept.others;
+    outer = subst (λ (x : Outer). x ≡ with_shut (outer_of p o) x.silent x.shut) (sym same) refl;
+    shuts = λ t c m e i v. ap (λ (x : Outer). x.shut (key_in c m)) same;
     fewer = λ t d. sym (others_define AnyCode p t q kept.others) ∙ d;
     shown = kept.shown;
     holds = λ h. subst (ShutsHold (named q)) (ap (λ (x : Program). outer_of x o) (sym kept.others.same)) (shuts h);
   }
+    where
+      -- numbers name what they named
+      same : outer_of q o ≡ outer_of p o
+      same = ap (λ (x : Program). outer_of x o) kept.others.same
 
   -- one that keeps it so for every outside
   bodies_owe : (p q : Program) → IsSound p → IsKept p q → (ShutsHold (named p) (outer_of p o) → ShutsHold (named q) (outer_of p o)) → Owes o p q
@@ -140,6 +155,42 @@ module _ (o : Outside) where
 
   pub devirt_keeps : (admitted : List Bool) → Keeps o admitted Devirt
   devirt_keeps admitted = record { owes = rebinding_owes admitted }
+
+  loosening_owes : (admitted : List Bool) (p q : Program) (moved : List (List Origin)) → IsSound p → IsLoosening o admitted p q moved → Owes o p q
+  loosening_owes admitted p q moved sound h = by h.loosening
+    where
+      known : Loosens o admitted p q → loose.Loosens o admitted p q
+      known x = record {
+        hierarchy = x.hierarchy;
+        resolved = x.resolved;
+        facts = x.facts;
+        certified = x.known.certified;
+        words = x.known.words;
+        makers = x.known.makers;
+        plain = x.known.plain;
+        changed = x.changed;
+        staticised = x.staticised;
+        left = x.left;
+        none_left = x.none_left;
+      }
+
+      owed : along.OwesAlong o p q → Owes o p q
+      owed y = record {
+        sound = record { formed = y.sound.formed; once = y.sound.once; grounded = y.sound.grounded; whole = y.sound.whole; typed = y.sound.typed };
+        virtuals = y.virtuals;
+        outer = y.outer;
+        shuts = y.shuts;
+        fewer = y.fewer;
+        shown = y.shown;
+        holds = y.holds;
+      }
+
+      by : Loosens o admitted p q ⊎ ((q ≡ p) × KeepsForms o admitted p) → Owes o p q
+      by (inl x) = owed (loosened_owes o admitted p q (known x) (record { formed = sound.formed; once = sound.once; grounded = sound.grounded; whole = sound.whole; typed = sound.typed }))
+      by (inr none) = subst (λ (x : Program). Owes o p x) (sym none.0) (owes_same o p sound)
+
+  pub staticise_keeps : (admitted : List Bool) → Keeps o admitted Staticise
+  staticise_keeps admitted = record { owes = loosening_owes admitted }
 
   quieting_owes : (admitted : List Bool) (p q : Program) (moved : List (List Origin)) → IsSound p → IsQuieting o admitted p q moved → Owes o p q
   quieting_owes admitted p q moved sound h = by h.quieting
@@ -198,6 +249,7 @@ module _ (o : Outside) where
   each_keeps admitted Reach = reach_keeps admitted
   each_keeps admitted ConstProp = const_prop_keeps admitted
   each_keeps admitted Devirt = devirt_keeps admitted
+  each_keeps admitted Staticise = staticise_keeps admitted
   each_keeps admitted QuietCalls = quiet_calls_keeps admitted
   each_keeps admitted CopyProp = copy_prop_keeps admitted
   each_keeps admitted DeadCode = dead_code_keeps admitted

@@ -13,12 +13,15 @@ use Rattle.quiet_code.specs.Quieted.{Nops}
 use Rattle.compact.specs.Narrow.{has_narrow_classes}
 use Rattle.compact.specs.Renamed.{IsCompactedProgram}
 use Rattle.stay_law.specs.Stays.{Stays}
-use Rattle.stay_law.proofs.Staying.{stays_same, stays_on}
+use Rattle.stay_law.proofs.Staying.{stays_same}
 use Rattle.stay_law.proofs.Rewritten.{rewritten_stays}
 use Rattle.stay_law.proofs.Passes.{removed_stays, thinned_stays, propagated_stays, compacted_stays}
 use Rattle.pipeline.specs.declared.traces.Traced.{Traced}
-use Rattle.pipeline.specs.Passes.{Pass, Reach, ConstProp, Devirt, QuietCalls, CopyProp, DeadCode, Squeeze, Compact, Removes, IsBarred, Folds, KeepsForms, Rebinds, Quiets, Propagates, KeepsReads, Thins, IsCleaning, Does, passes, Steps, Last, Then}
+use Rattle.pipeline.specs.Passes.{Pass, Reach, ConstProp, Devirt, Staticise, QuietCalls, CopyProp, DeadCode, Squeeze, Compact, Removes, IsBarred, Folds, KeepsForms, Rebinds, Loosens, Quiets, Propagates, KeepsReads, Thins, IsCleaning, Does, passes, Steps, Last, Then}
 use Rattle.pipeline.specs.Rounds.{Rounds, Ended, Next}
+use Rattle.static_kept.specs.Staying.{StaysAlong}
+use Rattle.static_kept.proofs.Passing.{staticised_stays}
+use Rattle.static_kept.proofs.Staying.{along_kept, along_then}
 use Rattle.rounds_bridge.specs.Owed.{IsSound, Owes}
 use Rattle.rounds_bridge.proofs.Keeping.{each_keeps}
 use Rattle.rounds_bridge.proofs.Owing.{steps_owe}
@@ -58,25 +61,30 @@ module _ (o : Outside) (admitted : List Bool) where
   compaction_stays p q (inl c) = compacted_stays admitted p q c.1
   compaction_stays p q (inr none) = same_stays p q none.0
 
-  pass_stays : (pass : Pass) (p q : Program) (moved : List (List Origin)) → Does o admitted pass p q moved → Stays admitted p q
-  pass_stays Reach p q moved h = removal_stays p q h.removal
-  pass_stays ConstProp p q moved h = folding_stays p q h.folding
-  pass_stays Devirt p q moved h = rebinding_stays p q h.rebinding
-  pass_stays QuietCalls p q moved h = quieting_stays p q h.quieting
-  pass_stays CopyProp p q moved h = propagation_stays p q h.propagation
-  pass_stays DeadCode p q moved h = cleaning_stays p q moved h
-  pass_stays Squeeze p q moved h = squeezing_stays p q moved h
-  pass_stays Compact p q moved h = compaction_stays p q h.compaction
+  loosening_stays : (p q : Program) → IsSound p → Loosens o admitted p q ⊎ ((q ≡ p) × KeepsForms o admitted p) → StaysAlong admitted p q
+  loosening_stays p q sound (inl x) = subst (λ (y : Program). StaysAlong admitted p y) (sym x.left) (staticised_stays p x.facts o admitted sound.formed sound.once x.changed x.staticised)
+  loosening_stays p q sound (inr none) = along_kept admitted p q (same_stays p q none.0)
 
-  steps_stay : (some : List Pass) (t u : Traced) → Steps o admitted some t u → IsSound t.program → Stays admitted t.program u.program
-  steps_stay some t u (Last x) sound = stays_same admitted x.program
+  pass_stays : (pass : Pass) (p q : Program) (moved : List (List Origin)) → IsSound p → Does o admitted pass p q moved → StaysAlong admitted p q
+  pass_stays Reach p q moved sound h = along_kept admitted p q (removal_stays p q h.removal)
+  pass_stays ConstProp p q moved sound h = along_kept admitted p q (folding_stays p q h.folding)
+  pass_stays Devirt p q moved sound h = along_kept admitted p q (rebinding_stays p q h.rebinding)
+  pass_stays Staticise p q moved sound h = loosening_stays p q sound h.loosening
+  pass_stays QuietCalls p q moved sound h = along_kept admitted p q (quieting_stays p q h.quieting)
+  pass_stays CopyProp p q moved sound h = along_kept admitted p q (propagation_stays p q h.propagation)
+  pass_stays DeadCode p q moved sound h = along_kept admitted p q (cleaning_stays p q moved h)
+  pass_stays Squeeze p q moved sound h = along_kept admitted p q (squeezing_stays p q moved h)
+  pass_stays Compact p q moved sound h = along_kept admitted p q (compaction_stays p q h.compaction)
+
+  steps_stay : (some : List Pass) (t u : Traced) → Steps o admitted some t u → IsSound t.program → StaysAlong admitted t.program u.program
+  steps_stay some t u (Last x) sound = along_kept admitted x.program x.program (stays_same admitted x.program)
   steps_stay some t u (Then pass rest x y z first others) sound =
       let does : Does o admitted pass x.program y.program first.moved = first.does sound.formed in
       let owed : Owes o x.program y.program = (each_keeps o admitted pass).owes x.program y.program first.moved sound does in
-      stays_on admitted x.program y.program z.program (pass_stays pass x.program y.program first.moved does) (steps_stay rest y z others owed.sound)
+      along_then admitted x.program y.program z.program (pass_stays pass x.program y.program first.moved sound does) (steps_stay rest y z others owed.sound)
 
-  pub rounds_stay : (n : ℕ) (t u : Traced) → Rounds o admitted n t u → IsSound t.program → Stays admitted t.program u.program
-  rounds_stay n t u (Ended x) sound = stays_same admitted x.program
+  pub rounds_stay : (n : ℕ) (t u : Traced) → Rounds o admitted n t u → IsSound t.program → StaysAlong admitted t.program u.program
+  rounds_stay n t u (Ended x) sound = along_kept admitted x.program x.program (stays_same admitted x.program)
   rounds_stay n t u (Next m x y z first less rest) sound =
       let owed : Owes o x.program y.program = steps_owe o admitted (each_keeps o admitted) passes x y first sound in
-      stays_on admitted x.program y.program z.program (steps_stay passes x y first sound) (rounds_stay m y z rest owed.sound)
+      along_then admitted x.program y.program z.program (steps_stay passes x y first sound) (rounds_stay m y z rest owed.sound)

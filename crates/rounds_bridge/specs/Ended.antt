@@ -15,6 +15,7 @@ use Rattle.facts.specs.declared.facts.Facts.{Facts}
 use Rattle.const_prop.specs.Folds.{NoneLeft}
 use Rattle.receivers.specs.Receiving.{is_straight}
 use Rattle.devirt.specs.Left.{NoneLeft as NoCallLeft}
+use Rattle.staticise.specs.Left.{NoneLeft as NoneLoose}
 use Rattle.quiet_methods.specs.Quiet.{AreQuiet}
 use Rattle.quiet_code.specs.Quieted.{NoneIdle}
 use Rattle.pipeline.specs.Passes.{AreKnown}
@@ -35,6 +36,12 @@ pub record NoneBindable (o : Outside) (admitted : List Bool) (p : Program) : Typ
   pub facts : Facts
   pub known : AreKnown o p facts
   pub none_left : is_straight p ≡ true → NoCallLeft p hierarchy facts admitted
+
+-- Such facts let no method do without its receiver, of those for whose new protos the tables have room.
+pub record NoneLoosable (o : Outside) (admitted : List Bool) (p : Program) : Type 0 where
+  pub facts : Facts
+  pub known : AreKnown o p facts
+  pub none_left : NoneLoose p facts o admitted
 
 -- Such facts leave no call and no division in these bodies that does nothing, where just the methods are quiet that are so by the
 -- registers that they know.

@@ -10,6 +10,8 @@ use Rattle.dalvik_defs.specs.Naming.{named}
 use Rattle.dalvik_defs.specs.Outer.{outer_of}
 use Rattle.dalvik_defs.specs.Under.{defines}
 use Rattle.dalvik_defs.specs.Shown.{SameShown}
+use Rattle.alike_law.specs.Virtual.{VirtualsStay}
+use Rattle.outer_law.specs.Shutting.{ShutsAlike, with_shut}
 use Rattle.pass_defs.specs.Typed.{IsTyped}
 use Rattle.removal_law.specs.Reach.{ShutsHold}
 use Rattle.hierarchy.specs.Splitting.{NoSplit}
@@ -24,11 +26,15 @@ pub record IsSound (p : Program) : Type 0 where
   pub whole : NoSplit p
   pub typed : IsTyped (named p)
 
--- What is left is sound, what the outside names is the same by the tables of both programs, and no more classes are defined. Where
--- the table of shut methods holds what it says, the same is shown, and it holds that of what is left.
+-- What is left is sound, it defines no more classes, and its virtual methods are some of those that there were. By the tables of both
+-- programs the outside names the same but for silent and shut methods, and shuts the same of the virtual methods that are left. Where
+-- the table of shut methods holds what it says, the same is shown, by the names that the numbers had before, and the table holds that
+-- of what is left, by the names that they have then.
 pub record Owes (o : Outside) (p q : Program) : Type 0 where
   pub sound : IsSound q
-  pub outer : outer_of q o ≡ outer_of p o
+  pub virtuals : VirtualsStay (named p) (named q)
+  pub outer : outer_of q o ≡ with_shut (outer_of p o) (outer_of q o).silent (outer_of q o).shut
+  pub shuts : ShutsAlike (named q) (outer_of p o).shut (outer_of q o).shut
   pub fewer : (t : Text) → defines (named q) t ≡ true → defines (named p) t ≡ true
   pub shown : ShutsHold (named p) (outer_of p o) → SameShown (named p) (named q) (outer_of p o)
   pub holds : ShutsHold (named p) (outer_of p o) → ShutsHold (named q) (outer_of q o)

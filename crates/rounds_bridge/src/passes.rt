@@ -12,7 +12,7 @@ ghost use Rattle.inline_calls.specs.Asked.{Row};
 ghost use Rattle.inline_calls.specs.Plans.{IsInlined};
 ghost use Rattle.pipeline.specs.declared.traces.Traced.{Traced};
 ghost use Rattle.pipeline.specs.Inlining.{IsInlining};
-ghost use Rattle.pipeline.specs.Passes.{Reach, ConstProp, Devirt, QuietCalls, CopyProp, DeadCode, Squeeze, Compact, AreKnown};
+ghost use Rattle.pipeline.specs.Passes.{Reach, ConstProp, Devirt, Staticise, QuietCalls, CopyProp, DeadCode, Squeeze, Compact, AreKnown};
 ghost use Rattle.rounds_bridge.specs.Owed.{IsSound, Owes, Keeps};
 ghost use Rattle.stay_law.specs.Stays.{StaysInlined};
 
@@ -29,6 +29,11 @@ pub fn const_prop_keeps_law()
 /// Bodies whose calls name what all their receivers find keep what a pass owes.
 pub fn devirt_keeps_law()
     ensures { (o : Outside) (admitted : List Bool) → Keeps o admitted Devirt }
+{}
+
+/// Methods that are static which could do without a receiver keep what a pass owes.
+pub fn staticise_keeps_law()
+    ensures { (o : Outside) (admitted : List Bool) → Keeps o admitted Staticise }
 {}
 
 /// Bodies without calls and divisions that do nothing keep what a pass owes.

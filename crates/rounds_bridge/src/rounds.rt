@@ -18,8 +18,8 @@ ghost use Rattle.copy_bridge.specs.Bridged.{AllFresh};
 ghost use Rattle.pipeline.specs.declared.traces.Traced.{Traced};
 ghost use Rattle.pipeline.specs.Passes.{KeepsForms};
 ghost use Rattle.pipeline.specs.Rounds.{HaveRun, IsOptimised, Rounds};
-ghost use Rattle.stay_law.specs.Stays.{Stays};
-ghost use Rattle.rounds_bridge.specs.Ended.{NoneBindable, NoneKnown, NoneQuiet, NoneUnreached};
+ghost use Rattle.static_kept.specs.Staying.{StaysAlong};
+ghost use Rattle.rounds_bridge.specs.Ended.{NoneBindable, NoneKnown, NoneLoosable, NoneQuiet, NoneUnreached};
 ghost use Rattle.rounds_bridge.specs.Owed.{IsSound, Owes};
 
 /// A well-formed program of which a hierarchy was built, and of which the verifier has a typing of each method, is sound.
@@ -29,10 +29,10 @@ pub fn accepted_sound_law()
 
 /// What any number of rounds leave of a sound program is sound. Where the table of shut methods holds what it says, as it does
 /// where no method is shut, what they leave shows the same as the program before all of them, and the table holds what it says of
-/// it. A method that isn't admitted stays whole, and no body has more registers.
+/// it. A method that isn't admitted keeps its code, also where it becomes static, and no body has more registers.
 pub fn rounds_law()
     ensures owes { (o : Outside) (admitted : List Bool) (n : ℕ) (t u : Traced) → Rounds o admitted n t u → IsSound t.program → Owes o t.program u.program }
-    ensures stays { (o : Outside) (admitted : List Bool) (n : ℕ) (t u : Traced) → Rounds o admitted n t u → IsSound t.program → Stays admitted t.program u.program }
+    ensures stays { (o : Outside) (admitted : List Bool) (n : ℕ) (t u : Traced) → Rounds o admitted n t u → IsSound t.program → StaysAlong admitted t.program u.program }
 {}
 
 /// What `optimise` leaves of a sound program is sound, and shows the same where the table of shut methods holds what it says, where
@@ -44,7 +44,7 @@ pub fn optimised_law()
 {}
 
 /// Where the rounds end in a sound program, as they do where they began with one, each class and member follows from what the
-/// outside keeps, unless the rules forbid removal; facts that are known leave nothing to write in an admitted method, no call in one to name another method, and no call and no division in one that does nothing, or there is a
+/// outside keeps, unless the rules forbid removal; facts that are known leave nothing to write in an admitted method, no call in one to name another method, no method to be static, and no call and no division in one that does nothing, or there is a
 /// reason why none was written (no method is admitted, a kept constructor is none of its class, or no facts are certified); no position of
 /// an admitted method is left that a squeeze takes out, and none that is dead; and unless some method of a wide type is named, no read of it is stale, and its
 /// registers have the least numbers that they can have. (`NothingLeft` and `NoneDead` speak of bodies whose positions and
@@ -56,6 +56,8 @@ pub fn settled_law()
         → NoneKnown o admitted t.program ⊎ KeepsForms o admitted t.program }
     ensures bound { (o : Outside) (admitted : List Bool) (p : Program) (t : Traced) (count : ℕ) → HaveRun o admitted p t count → IsSound t.program
         → NoneBindable o admitted t.program ⊎ KeepsForms o admitted t.program }
+    ensures loosened { (o : Outside) (admitted : List Bool) (p : Program) (t : Traced) (count : ℕ) → HaveRun o admitted p t count → IsSound t.program
+        → NoneLoosable o admitted t.program ⊎ KeepsForms o admitted t.program }
     ensures quiet { (o : Outside) (admitted : List Bool) (p : Program) (t : Traced) (count : ℕ) → HaveRun o admitted p t count → IsSound t.program
         → NoneQuiet o admitted t.program ⊎ KeepsForms o admitted t.program }
     ensures skips { (o : Outside) (admitted : List Bool) (p : Program) (t : Traced) (count : ℕ) → HaveRun o admitted p t count → IsSound t.program → NothingLeft admitted t.program }

@@ -22,15 +22,16 @@ use Rattle.copy_bridge.specs.Bridged.{AllFresh}
 use Rattle.squeeze.specs.Needed.{NothingLeft}
 use Rattle.pipeline.specs.Inlined.{IsOptimisedInlined}
 use Rattle.pipeline.specs.Passes.{KeepsForms}
-use Rattle.rounds_bridge.specs.Ended.{NoneKnown, NoneBindable, NoneQuiet, NoneUnreached}
+use Rattle.rounds_bridge.specs.Ended.{NoneKnown, NoneBindable, NoneLoosable, NoneQuiet, NoneUnreached}
 use Rattle.rounds_bridge.specs.Owed.{IsSound, Owes}
-use Rattle.rounds_bridge.proofs.Ends.{none_unreached, all_folded, all_bound, all_quiet, none_skipped, none_dead, all_fresh, all_packed}
+use Rattle.rounds_bridge.proofs.Ends.{none_unreached, all_folded, all_bound, all_loosened, all_quiet, none_skipped, none_dead, all_fresh, all_packed}
 use Rattle.rounds_bridge.proofs.Inlining.{inlining_owes, inlining_stays}
 use Rattle.rounds_bridge.proofs.Owing.{owes_on}
 use Rattle.rounds_bridge.proofs.Repeated.{all_rounds_owe}
 use Rattle.rounds_bridge.proofs.Staying.{rounds_stay}
-use Rattle.stay_law.specs.Stays.{StaysInlined}
-use Rattle.stay_law.proofs.Staying.{stays_behind, stays_before}
+use Rattle.static_kept.specs.Staying.{StaysAlongInlined}
+use Rattle.static_kept.proofs.Staying.{along_before, along_inlined}
+use Rattle.stay_law.proofs.Staying.{stays_behind}
 use Rattle.silence_bridge.specs.Admitted.{admitted_in}
 use Rattle.silence_bridge.proofs.Optimised.{silent_named, silent_outer, silent_sound, silent_holds}
 use Rattle.silence_bridge.proofs.Staying.{silent_stays}
@@ -67,6 +68,9 @@ module _ (p : Program) (h : Hierarchy) (formed : is_well_formed p ≡ true) (res
   pub inlined_bound : NoneBindable o done.admitted r ⊎ KeepsForms o done.admitted r
   inlined_bound = all_bound o done.admitted r rounds.sound done.ran.ends
 
+  pub inlined_loosened : NoneLoosable o done.admitted r ⊎ KeepsForms o done.admitted r
+  inlined_loosened = all_loosened o done.admitted r rounds.sound done.ran.ends
+
   pub inlined_quiet : NoneQuiet o done.admitted r ⊎ KeepsForms o done.admitted r
   inlined_quiet = all_quiet o done.admitted r rounds.sound done.ran.ends
 
@@ -82,7 +86,8 @@ module _ (p : Program) (h : Hierarchy) (formed : is_well_formed p ≡ true) (res
   pub inlined_packed : has_narrow_classes r ≡ true → AllPacked done.admitted r
   inlined_packed narrow = all_packed o done.admitted r rounds.sound done.ran.ends narrow
 
-  pub inlined_stays : StaysInlined done.admitted p r
-  inlined_stays = stays_behind done.admitted p done.silenced r (silent_stays o.silent done.admitted p done.silenced done.prepared.silent)
-      (stays_before done.admitted done.silenced done.inlined.program r (inlining_stays o done.admitted done.silenced done.inlined done.calls done.inlining)
-      (rounds_stay o done.admitted done.ran.changing done.inlined (record { program = r; origins = origins }) done.ran.rounds inlining.sound))
+  pub inlined_stays : StaysAlongInlined done.admitted p r
+  inlined_stays = along_before done.admitted p done.inlined.program r
+      (along_inlined done.admitted p done.inlined.program (stays_behind done.admitted p done.silenced done.inlined.program (silent_stays o.silent done.admitted p done.silenced done.prepared.silent)
+      (inlining_stays o done.admitted done.silenced done.inlined done.calls done.inlining)))
+      (rounds_stay o done.admitted done.ran.changing done.inlined (record { program = r; origins = origins }) done.ran.rounds inlining.sound)

@@ -27,15 +27,15 @@ use Rattle.copy_bridge.specs.Bridged.{AllFresh}
 use Rattle.squeeze.specs.Needed.{NothingLeft}
 use Rattle.pipeline.specs.Passes.{KeepsForms}
 use Rattle.pipeline.specs.Rounds.{first_of, IsOptimised}
-use Rattle.rounds_bridge.specs.Ended.{NoneKnown, NoneBindable, NoneQuiet, NoneUnreached}
+use Rattle.rounds_bridge.specs.Ended.{NoneKnown, NoneBindable, NoneLoosable, NoneQuiet, NoneUnreached}
 use Rattle.rounds_bridge.specs.Owed.{IsSound, Owes}
-use Rattle.rounds_bridge.proofs.Ends.{none_unreached, all_folded, all_bound, all_quiet, none_skipped, none_dead, all_fresh, all_packed}
+use Rattle.rounds_bridge.proofs.Ends.{none_unreached, all_folded, all_bound, all_loosened, all_quiet, none_skipped, none_dead, all_fresh, all_packed}
 use Rattle.rounds_bridge.proofs.Parts.{Part, mapped_head, mapped_part, still_once, still_grounded}
 use Rattle.rounds_bridge.proofs.Splits.{whole_left}
 use Rattle.rounds_bridge.proofs.Repeated.{all_rounds_owe}
 use Rattle.rounds_bridge.proofs.Staying.{rounds_stay}
-use Rattle.stay_law.specs.Stays.{Stays}
-use Rattle.stay_law.proofs.Staying.{stays_on}
+use Rattle.static_kept.specs.Staying.{StaysAlong}
+use Rattle.static_kept.proofs.Staying.{along_kept, along_then}
 use Rattle.shut_law.proofs.Silent.{silenced_holds}
 use Rattle.silence_law.proofs.Silenced.{silenced_typed}
 use Rattle.silence_law.proofs.WellFormed.{well_placed}
@@ -120,6 +120,9 @@ module _ (p : Program) (h : Hierarchy) (formed : is_well_formed p ≡ true) (res
       pub optimised_bound : NoneBindable o done.admitted r ⊎ KeepsForms o done.admitted r
       optimised_bound = all_bound o done.admitted r rounds.sound done.ran.ends
 
+      pub optimised_loosened : NoneLoosable o done.admitted r ⊎ KeepsForms o done.admitted r
+      optimised_loosened = all_loosened o done.admitted r rounds.sound done.ran.ends
+
       pub optimised_quiet : NoneQuiet o done.admitted r ⊎ KeepsForms o done.admitted r
       optimised_quiet = all_quiet o done.admitted r rounds.sound done.ran.ends
 
@@ -135,6 +138,6 @@ module _ (p : Program) (h : Hierarchy) (formed : is_well_formed p ≡ true) (res
       pub optimised_packed : has_narrow_classes r ≡ true → AllPacked done.admitted r
       optimised_packed narrow = all_packed o done.admitted r rounds.sound done.ran.ends narrow
 
-      pub optimised_stays : Stays done.admitted p r
-      optimised_stays = stays_on done.admitted p done.silenced r (silent_stays o.silent done.admitted p done.silenced done.silent)
+      pub optimised_stays : StaysAlong done.admitted p r
+      optimised_stays = along_then done.admitted p done.silenced r (along_kept done.admitted p done.silenced (silent_stays o.silent done.admitted p done.silenced done.silent))
           (rounds_stay o done.admitted done.ran.changing (first_of done.silenced) (record { program = r; origins = origins }) done.ran.rounds (silent_sound done.admitted done.silenced done.silent done.formed))

@@ -24,18 +24,18 @@ ghost use Rattle.pipeline.specs.Passes.{KeepsForms};
 ghost use Rattle.pipeline.specs.Rounds.{IsOptimised};
 ghost use Rattle.redex_outside.specs.Voices.{Voice};
 ghost use Rattle.removal_law.specs.Reach.{ShutsHold};
-ghost use Rattle.rounds_bridge.specs.Ended.{NoneBindable, NoneKnown, NoneQuiet, NoneUnreached};
+ghost use Rattle.rounds_bridge.specs.Ended.{NoneBindable, NoneKnown, NoneLoosable, NoneQuiet, NoneUnreached};
 ghost use Rattle.rounds_bridge.specs.Owed.{IsSound};
-ghost use Rattle.stay_law.specs.Stays.{Stays, StaysInlined};
+ghost use Rattle.static_kept.specs.Staying.{StaysAlong, StaysAlongInlined};
 ghost use Rattle.silence_bridge.specs.Admitted.{admitted_in};
 
 /// What `optimise` leaves of a well-formed program for any rules shows what the program shows without its silent calls in
 /// the methods that were admitted, and is sound, where the hierarchy was built of the program, the verifier has a typing of each
 /// method, and the table of shut methods holds what it says, as it does where no method is shut. What the rounds begin with is, by
 /// names, the program without these calls. Each class and member that is left follows from what the outside keeps, unless the rules
-/// forbid removal. Facts that are known leave nothing to write in the admitted methods, no call in them to name another method, and no call and no division that does nothing, or there is a reason why none was written. Nothing is left
+/// forbid removal. Facts that are known leave nothing to write in the admitted methods, no call in them to name another method, no method to be static, and no call and no division that does nothing, or there is a reason why none was written. Nothing is left
 /// in them that a squeeze takes out or that is dead; and unless the program names a method of a wide type, no read of theirs is stale, and their registers are packed. A method that wasn't
-/// admitted stays whole, and no body has more registers than before. The premises are what `Hierarchy::build`,
+/// admitted keeps its code, also where it becomes static, and no body has more registers than before. The premises are what `Hierarchy::build`,
 /// `verify_all` and `optimise` say where they accept.
 pub fn all_rules_law()
     ensures silenced { (p r : Program) (origins : List (List Origin)) (h : Hierarchy) (o : Outside) (advisers spared rounds : ℕ) (before after : List Bool)
@@ -57,6 +57,9 @@ pub fn all_rules_law()
     ensures bound { (p r : Program) (origins : List (List Origin)) (h : Hierarchy) (o : Outside) (advisers spared rounds : ℕ) (before after : List Bool) → is_well_formed p ≡ true
         → IsResolved p h → IsAcyclic p → NoSplit p → TypesAll p h
         → (done : IsOptimised o p advisers before after spared r origins rounds) → NoneBindable o done.admitted r ⊎ KeepsForms o done.admitted r }
+    ensures loosened { (p r : Program) (origins : List (List Origin)) (h : Hierarchy) (o : Outside) (advisers spared rounds : ℕ) (before after : List Bool) → is_well_formed p ≡ true
+        → IsResolved p h → IsAcyclic p → NoSplit p → TypesAll p h
+        → (done : IsOptimised o p advisers before after spared r origins rounds) → NoneLoosable o done.admitted r ⊎ KeepsForms o done.admitted r }
     ensures quiet { (p r : Program) (origins : List (List Origin)) (h : Hierarchy) (o : Outside) (advisers spared rounds : ℕ) (before after : List Bool) → is_well_formed p ≡ true
         → IsResolved p h → IsAcyclic p → NoSplit p → TypesAll p h
         → (done : IsOptimised o p advisers before after spared r origins rounds) → NoneQuiet o done.admitted r ⊎ KeepsForms o done.admitted r }
@@ -74,7 +77,7 @@ pub fn all_rules_law()
         → (done : IsOptimised o p advisers before after spared r origins rounds) → has_narrow_classes r ≡ true → AllPacked done.admitted r }
     ensures stays { (p r : Program) (origins : List (List Origin)) (h : Hierarchy) (o : Outside) (advisers spared rounds : ℕ) (before after : List Bool) → is_well_formed p ≡ true
         → IsResolved p h → IsAcyclic p → NoSplit p → TypesAll p h
-        → (done : IsOptimised o p advisers before after spared r origins rounds) → Stays done.admitted p r }
+        → (done : IsOptimised o p advisers before after spared r origins rounds) → StaysAlong done.admitted p r }
 {}
 
 /// The same of what `optimise_inlined` leaves, which inlines calls before the rounds: but for what a body may come to, which has no
@@ -96,6 +99,9 @@ pub fn all_rules_inlined_law()
     ensures bound { (p r : Program) (origins : List (List Origin)) (h : Hierarchy) (o : Outside) (olds news : List Voice) (spared rounds : ℕ) (before after : List Bool) → is_well_formed p ≡ true
         → IsResolved p h → IsAcyclic p → NoSplit p → TypesAll p h
         → (done : IsOptimisedInlined o p olds news before after spared r origins rounds) → NoneBindable o done.admitted r ⊎ KeepsForms o done.admitted r }
+    ensures loosened { (p r : Program) (origins : List (List Origin)) (h : Hierarchy) (o : Outside) (olds news : List Voice) (spared rounds : ℕ) (before after : List Bool) → is_well_formed p ≡ true
+        → IsResolved p h → IsAcyclic p → NoSplit p → TypesAll p h
+        → (done : IsOptimisedInlined o p olds news before after spared r origins rounds) → NoneLoosable o done.admitted r ⊎ KeepsForms o done.admitted r }
     ensures quiet { (p r : Program) (origins : List (List Origin)) (h : Hierarchy) (o : Outside) (olds news : List Voice) (spared rounds : ℕ) (before after : List Bool) → is_well_formed p ≡ true
         → IsResolved p h → IsAcyclic p → NoSplit p → TypesAll p h
         → (done : IsOptimisedInlined o p olds news before after spared r origins rounds) → NoneQuiet o done.admitted r ⊎ KeepsForms o done.admitted r }
@@ -113,5 +119,5 @@ pub fn all_rules_inlined_law()
         → (done : IsOptimisedInlined o p olds news before after spared r origins rounds) → has_narrow_classes r ≡ true → AllPacked done.admitted r }
     ensures stays { (p r : Program) (origins : List (List Origin)) (h : Hierarchy) (o : Outside) (olds news : List Voice) (spared rounds : ℕ) (before after : List Bool) → is_well_formed p ≡ true
         → IsResolved p h → IsAcyclic p → NoSplit p → TypesAll p h
-        → (done : IsOptimisedInlined o p olds news before after spared r origins rounds) → StaysInlined done.admitted p r }
+        → (done : IsOptimisedInlined o p olds news before after spared r origins rounds) → StaysAlongInlined done.admitted p r }
 {}

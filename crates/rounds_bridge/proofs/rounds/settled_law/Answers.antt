@@ -1,4 +1,4 @@
-use Rattle.rounds_bridge.proofs.Ends.{none_unreached, all_folded, all_bound, all_quiet, none_skipped, none_dead, all_fresh, all_packed}
+use Rattle.rounds_bridge.proofs.Ends.{none_unreached, all_folded, all_bound, all_loosened, all_quiet, none_skipped, none_dead, all_fresh, all_packed}
 use Rattle.rounds_bridge.proofs.rounds.settled_law.Goals as goal
 
 pub returns-clause-reached : goal.returns-clause-reached
@@ -9,6 +9,9 @@ returns-clause-folded c = λ o admitted p t count ran sound. all_folded o admitt
 
 pub returns-clause-bound : goal.returns-clause-bound
 returns-clause-bound c = λ o admitted p t count ran sound. all_bound o admitted t.program sound ran.ends
+
+pub returns-clause-loosened : goal.returns-clause-loosened
+returns-clause-loosened c = λ o admitted p t count ran sound. all_loosened o admitted t.program sound ran.ends
 
 pub returns-clause-quiet : goal.returns-clause-quiet
 returns-clause-quiet c = λ o admitted p t count ran sound. all_quiet o admitted t.program sound ran.ends

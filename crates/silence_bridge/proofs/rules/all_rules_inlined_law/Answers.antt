@@ -1,4 +1,4 @@
-use Rattle.silence_bridge.proofs.Inlined.{inlined_shows, inlined_sound, inlined_reached, inlined_folded, inlined_bound, inlined_quiet, inlined_skips, inlined_dead, inlined_fresh, inlined_packed, inlined_stays}
+use Rattle.silence_bridge.proofs.Inlined.{inlined_shows, inlined_sound, inlined_reached, inlined_folded, inlined_bound, inlined_loosened, inlined_quiet, inlined_skips, inlined_dead, inlined_fresh, inlined_packed, inlined_stays}
 use Rattle.silence_bridge.proofs.rules.all_rules_inlined_law.Goals as goal
 
 pub returns-clause-shown : goal.returns-clause-shown
@@ -20,6 +20,10 @@ returns-clause-folded c = λ p r origins h o olds news spared rounds before afte
 pub returns-clause-bound : goal.returns-clause-bound
 returns-clause-bound c = λ p r origins h o olds news spared rounds before after formed resolved acyclic whole types done.
     inlined_bound p h formed resolved acyclic whole o types r origins olds news spared rounds before after done
+
+pub returns-clause-loosened : goal.returns-clause-loosened
+returns-clause-loosened c = λ p r origins h o olds news spared rounds before after formed resolved acyclic whole types done.
+    inlined_loosened p h formed resolved acyclic whole o types r origins olds news spared rounds before after done
 
 pub returns-clause-quiet : goal.returns-clause-quiet
 returns-clause-quiet c = λ p r origins h o olds news spared rounds before after formed resolved acyclic whole types done.

@@ -1,4 +1,4 @@
-use Rattle.silence_bridge.proofs.Optimised.{silent_named, optimised_shows, optimised_sound, optimised_reached, optimised_folded, optimised_bound, optimised_quiet, optimised_skips, optimised_dead, optimised_fresh, optimised_packed, optimised_stays}
+use Rattle.silence_bridge.proofs.Optimised.{silent_named, optimised_shows, optimised_sound, optimised_reached, optimised_folded, optimised_bound, optimised_loosened, optimised_quiet, optimised_skips, optimised_dead, optimised_fresh, optimised_packed, optimised_stays}
 use Rattle.silence_bridge.proofs.rules.all_rules_law.Goals as goal
 
 pub returns-clause-silenced : goal.returns-clause-silenced
@@ -23,6 +23,10 @@ returns-clause-folded c = λ p r origins h o advisers spared rounds before after
 pub returns-clause-bound : goal.returns-clause-bound
 returns-clause-bound c = λ p r origins h o advisers spared rounds before after formed resolved acyclic whole types done.
     optimised_bound p h formed resolved acyclic whole o types r origins advisers spared rounds before after done
+
+pub returns-clause-loosened : goal.returns-clause-loosened
+returns-clause-loosened c = λ p r origins h o advisers spared rounds before after formed resolved acyclic whole types done.
+    optimised_loosened p h formed resolved acyclic whole o types r origins advisers spared rounds before after done
 
 pub returns-clause-quiet : goal.returns-clause-quiet
 returns-clause-quiet c = λ p r origins h o advisers spared rounds before after formed resolved acyclic whole types done.

@@ -1,0 +1,4 @@
+pub mod Bodies
+pub mod Made
+pub mod Removed
+pub mod Sums

@@ -1,10 +1,10 @@
 -- Code in which calls became other calls keeps the rules of bodies.
-use Rattle.std.proofs.Common.{◌≡◌, ℕ, ◌+◌, ◌*◌, Bool, true, List, [], ◌∷◌, length, map, Option, Some, None, refl, sym, ap, ap₂, ◌∙◌}
-use Rattle.std.specs.Prelude.{◌&&◌, ◌-◌, not, nat_le, nat_lt, slice_get, sum_by}
+use Rattle.std.proofs.Common.{◌≡◌, ℕ, ◌+◌, ◌*◌, Bool, true, List, [], ◌∷◌, length, map, Option, Some, None, refl, ap, ap₂, ◌∙◌}
+use Rattle.std.specs.Prelude.{◌&&◌, ◌-◌, not, nat_le, nat_lt, slice_get}
 use Rattle.std.specs.List.{list_all, enumerate_from}
 use Rattle.std.specs.Option.{option_map}
 use Rattle.lemmas.proofs.Bools.{and_left, and_right, and_both}
-use Rattle.lemmas.proofs.Lists.{all_more, get_map, map_long}
+use Rattle.lemmas.proofs.Lists.{get_map, map_long}
 use Rattle.insn_set.specs.Flow.{goes_on, targets_of}
 use Rattle.insn_set.specs.Spelling.{is_encodable}
 use Rattle.insn_set.specs.declared.form.Insn.{Insn}
@@ -17,7 +17,7 @@ use Rattle.program_model.specs.Neighbours.{neighbours}
 use Rattle.program_model.specs.OperandRules.{numbers_fit, registers_fit}
 use Rattle.program_model.specs.ProgramRules.{is_well_formed}
 use Rattle.program_model.specs.RegionRules.{are_apart, catches, handler_fits, may_begin, region_fits, regions_fit, rest_fits}
-use Rattle.program_model.specs.Texts.{has_method, has_type}
+use Rattle.program_model.specs.Texts.{has_method}
 use Rattle.program_model.specs.declared.body.Body.{Body}
 use Rattle.program_model.specs.declared.body.Handler.{Handler}
 use Rattle.program_model.specs.declared.body.Region.{Region}

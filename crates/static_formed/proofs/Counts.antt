@@ -1,15 +1,13 @@
 -- How many cells and items a program has in which methods are made static.
-use Rattle.std.proofs.Common.{◌≡◌, ◌⊎◌, inl, inr, ℕ, zero, suc, ◌+◌, ◌*◌, ◌<◌, ◌≤◌, Bool, true, false, List, [], ◌∷◌, ◌++◌, length, map, replicate, Option, Some, None, refl, sym, ap, ap₂, ◌∙◌, subst, arith}
-use Rattle.std.specs.Prelude.{cond, is_some, nat_eq, slice_get, slice_set, slice_index_or, sum_by}
-use Rattle.std.specs.List.Sorted.{IsPermutation}
+use Rattle.std.proofs.Common.{◌≡◌, ℕ, zero, suc, ◌+◌, ◌<◌, ◌≤◌, Bool, true, false, List, [], ◌∷◌, length, map, replicate, Option, Some, None, refl, sym, ap, ap₂, ◌∙◌, subst, arith}
+use Rattle.std.specs.Prelude.{cond, slice_get, slice_set, sum_by}
 use Rattle.std.proofs.lemmas.List.Sorted.{sum_by-IsPermutation}
 use Rattle.std.proofs.lemmas.List.Sums.{sum_by-cons}
 use Rattle.lemmas.proofs.Lists.{got_short}
 use Rattle.lemmas.proofs.Options.{some_same}
 use Rattle.program_model.specs.Cells.{body_cells, cells_of, class_cells, method_cells}
-use Rattle.program_model.specs.Items.{body_items, class_items, fields_items, items_of, mark_items, marks_items, method_items, proto_items}
+use Rattle.program_model.specs.Items.{body_items, class_items, fields_items, items_of, marks_items, method_items, proto_items}
 use Rattle.program_model.specs.ProgramRules.{is_well_formed}
-use Rattle.program_model.specs.Texts.{has_method}
 use Rattle.program_model.specs.declared.body.Body.{Body}
 use Rattle.program_model.specs.declared.pools.Proto.{Proto}
 use Rattle.program_model.specs.declared.program.Class.{Class}
@@ -17,13 +15,11 @@ use Rattle.program_model.specs.declared.program.Method.{Method}
 use Rattle.program_model.specs.declared.program.Program.{Program}
 use Rattle.program_model.specs.declared.value.Mark.{Mark}
 use Rattle.class_defs.specs.ClassGraph.{IsTwice}
-use Rattle.static_protos.specs.Tables.{Tables, is_marked, items_with, marks_more, place_or, proto_at, proto_more, proto_of, protos_with, tables_of, with_new}
+use Rattle.static_protos.specs.Tables.{Tables, is_marked, marks_more, place_or, proto_at, proto_more, proto_of, protos_with, tables_of, with_new}
 use Rattle.static_protos.specs.declared.tables.Wanted.{Wanted}
-use Rattle.loose_methods.proofs.Marks.{same_or}
 use Rattle.loose_methods.proofs.Once.{Owns, number_once}
-use Rattle.staticise.specs.Loosened.{AreEach, IsLoosenedClass, code_loosened, given_at, is_given, marks_loosened, method_loosened}
+use Rattle.staticise.specs.Loosened.{AreEach, IsLoosenedClass, code_loosened, is_given, marks_loosened, method_loosened}
 use Rattle.static_formed.proofs.Bodies.{cells_same}
-use Rattle.static_formed.proofs.Extended.{Extends}
 use Rattle.static_formed.proofs.Lists.{sum_both, sum_end, sum_map}
 use Rattle.static_formed.proofs.Methods.{method_by}
 use Rattle.static_formed.proofs.Plans.{IsPlan}

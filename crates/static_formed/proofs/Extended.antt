@@ -1,8 +1,8 @@
 -- What entries that are appended to the tables leave of the rules: texts, annotations, first values and fields.
-use Rattle.std.proofs.Common.{◌≡◌, ℕ, zero, suc, ◌<◌, ◌≤◌, Bool, true, List, [], ◌∷◌, ◌++◌, length, Option, Some, None, refl, sym, ap, ◌∙◌, arith, lt-ltb}
+use Rattle.std.proofs.Common.{◌≡◌, ℕ, zero, suc, Bool, true, List, [], ◌++◌, length, Option, Some, None, refl, ap, ◌∙◌, arith, lt-ltb}
 use std.Path.{fun_ext}
-use Rattle.std.specs.Prelude.{◌&&◌, not, is_ok, nat_eq, nat_lt, slice_get, slice_index_or, if◌then◌else◌}
-use Rattle.std.specs.List.{list_all, zip}
+use Rattle.std.specs.Prelude.{◌&&◌, not, is_ok, nat_lt, slice_get, slice_index_or, if◌then◌else◌}
+use Rattle.std.specs.List.{list_all}
 use Rattle.lemmas.proofs.Bools.{and_left, and_right, and_both}
 use Rattle.lemmas.proofs.Lists.{all_at, all_more}
 use Rattle.dex_base.specs.Descriptor.{descriptor_of}

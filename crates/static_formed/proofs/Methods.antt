@@ -1,20 +1,17 @@
 -- Methods and classes keep the rules where methods are made static.
-use Rattle.std.proofs.Common.{◌≡◌, ℕ, zero, suc, ◌+◌, ◌<◌, Bool, true, false, true≢false, nat_eq, List, [], ◌∷◌, length, map, Option, Some, None, refl, sym, ap, ap₂, ◌∙◌, subst, arith}
+use Rattle.std.proofs.Common.{◌≡◌, ℕ, suc, ◌+◌, Bool, true, false, true≢false, nat_eq, List, [], ◌∷◌, length, map, Option, Some, None, refl, sym, ap, ap₂, ◌∙◌, subst, arith}
 use std.Path.{fun_ext}
-use Rattle.std.specs.Prelude.{◌&&◌, ◌||◌, ◌==◌, not, bit_or, is_some, nat_le, nat_lt, option_and_then, slice_get, sum_by, if◌then◌else◌}
-use Rattle.std.specs.Int.RustNames.{bit_and}
+use Rattle.std.specs.Prelude.{◌&&◌, ◌||◌, ◌==◌, not, is_some, nat_le, nat_lt, option_and_then, slice_get, sum_by, if◌then◌else◌}
 use Rattle.std.specs.List.{list_all}
-use Rattle.std.specs.List.Sorted.{IsPermutation}
 use Rattle.std.specs.Option.{option_map}
 use Rattle.std.proofs.lemmas.List.Sums.{sum_by-cons}
-use Rattle.std.proofs.lemmas.List.Sorted.{sum_by-IsPermutation}
 use Rattle.std.proofs.lemmas.Nat.{and_or_apart, and_or_self}
-use Rattle.lemmas.proofs.Bools.{and_left, and_right, and_both, clash}
+use Rattle.lemmas.proofs.Bools.{and_left, and_right, and_both}
 use Rattle.lemmas.proofs.Lists.{all_at, map_long}
 use Rattle.program_model.specs.BodyRules.{body_fits}
 use Rattle.program_model.specs.Distinct.{own_method_key, all_differ}
 use Rattle.program_model.specs.LineRules.{lines_fit}
-use Rattle.program_model.specs.MemberRules.{class_fits, class_of_method, code_fits, fields_fit, frame_fits, has_flag, in_groups, is_class_number, is_class_type, is_direct, is_object, is_private, is_static, lacks_code, method_fits, methods_fit, methods_in_order, name_of_method, proto_of, receiver_words, source_fits, takes_words, types_of_class_fit, words_of}
+use Rattle.program_model.specs.MemberRules.{class_fits, class_of_method, code_fits, fields_fit, frame_fits, in_groups, is_class_number, is_class_type, is_direct, is_object, is_private, is_static, lacks_code, method_fits, methods_fit, methods_in_order, name_of_method, proto_of, receiver_words, source_fits, takes_words, types_of_class_fit, words_of}
 use Rattle.program_model.specs.Neighbours.{neighbours}
 use Rattle.program_model.specs.ProgramRules.{is_well_formed}
 use Rattle.program_model.specs.TableRules.{method_id_fits}
@@ -29,10 +26,10 @@ use Rattle.program_model.specs.declared.program.Method.{Method}
 use Rattle.program_model.specs.declared.program.Program.{Program}
 use Rattle.program_model.specs.declared.value.Mark.{Mark}
 use Rattle.class_defs.proofs.Positions.{number_of, number_test}
-use Rattle.class_defs.proofs.WellFormed.{MethodFits, class_parts, sound}
+use Rattle.class_defs.proofs.WellFormed.{sound}
 use Rattle.staticise.specs.Loosened.{IsLoosenedClass, body_loosened, code_loosened, flags_loosened, given_at, insn_loosened, is_given, marks_loosened, method_loosened, name_with}
 use Rattle.static_formed.proofs.Bodies.{body_kept}
-use Rattle.static_formed.proofs.Extended.{Extends, fields_kept, kind_same, letter_same, marks_kept, proto_there, source_kept, string_same, types_same, words_same}
+use Rattle.static_formed.proofs.Extended.{Extends, fields_kept, marks_kept, proto_there, source_kept, string_same, types_same, words_same}
 use Rattle.static_formed.proofs.Lists.{all_permuted}
 use Rattle.static_formed.proofs.Plans.{IsNew, IsPlan, class_same, name_same}
 

@@ -1,6 +1,6 @@
 -- Protos of types of the program with their short forms fit.
-use Rattle.std.proofs.Common.{◌≡◌, ◌⊎◌, inl, inr, ℕ, zero, suc, ◌<◌, ◌≤◌, Bool, true, false, true≢false, nat_eq, List, [], ◌∷◌, ◌++◌, length, map, Option, Some, None, refl, sym, ap, ap₂, ◌∙◌, arith, lt-ltb}
-use Rattle.std.specs.Prelude.{◌&&◌, ◌||◌, ◌==◌, not, nat_lt, slice_get, if◌then◌else◌}
+use Rattle.std.proofs.Common.{◌≡◌, ◌⊎◌, inl, inr, ℕ, zero, suc, Bool, true, false, true≢false, nat_eq, List, [], ◌∷◌, ◌++◌, length, map, Option, Some, None, refl, sym, ap, ◌∙◌, lt-ltb}
+use Rattle.std.specs.Prelude.{◌&&◌, ◌||◌, not, slice_get, if◌then◌else◌}
 use Rattle.std.specs.List.{list_all, zip}
 use Rattle.lemmas.proofs.Bools.{and_left, and_right, and_both}
 use Rattle.lemmas.proofs.Lists.{all_at, got_short, map_long}
@@ -8,13 +8,12 @@ use Rattle.lemmas.proofs.Options.{none_some, some_same}
 use Rattle.program_model.specs.MemberRules.{is_class_type}
 use Rattle.program_model.specs.ProgramRules.{is_well_formed}
 use Rattle.program_model.specs.TableRules.{is_shorty, proto_fits, stands_for, stands_for_parameter}
-use Rattle.program_model.specs.Texts.{has_string, has_type, is_class, is_reference, is_void, letter_of, string_text}
+use Rattle.program_model.specs.Texts.{has_string, has_type, is_class, is_void, letter_of, string_text}
 use Rattle.program_model.specs.declared.pools.Proto.{Proto}
 use Rattle.program_model.specs.declared.program.Program.{Program}
 use Rattle.class_defs.proofs.Positions.{number_of, number_test}
 use Rattle.class_defs.proofs.WellFormed.{sound}
-use Rattle.static_protos.specs.Growing.{AreSound}
-use Rattle.static_protos.specs.Tables.{Tables, letter_at, shorty, tables_of, protos_with, proto_of, with_new, proto_at}
+use Rattle.static_protos.specs.Tables.{Tables, letter_at, shorty, protos_with, proto_of, with_new, proto_at}
 use Rattle.static_protos.specs.declared.tables.Wanted.{Wanted}
 use Rattle.static_formed.proofs.Extended.{Extends, letter_same, type_same}
 use Rattle.static_formed.proofs.Lists.{index_there}

@@ -1,8 +1,7 @@
 -- The tables that come are such as files can spell.
-use Rattle.std.proofs.Common.{◌≡◌, ◌⊎◌, inl, inr, ℕ, ◌<◌, ◌≤◌, ◌^◌, Bool, true, false, List, [], ◌∷◌, ◌++◌, length, Option, Some, None, refl, sym, ap, ◌∙◌, subst, arith, lt-ltb}
+use Rattle.std.proofs.Common.{◌≡◌, ℕ, ◌<◌, ◌≤◌, ◌^◌, true, List, [], ◌∷◌, length, Option, Some, None, refl, sym, ap, ◌∙◌, subst, arith, lt-ltb}
 use Rattle.std.specs.Prelude.{◌&&◌, not, is_ok, nat_le, nat_lt, slice_get, sum_by}
 use Rattle.std.specs.List.{list_all}
-use Rattle.std.specs.Option.{option_map}
 use Rattle.std.proofs.lemmas.Bool.{le-leb}
 use Rattle.lemmas.proofs.Bools.{and_left, and_right, and_both}
 use Rattle.lemmas.proofs.Lists.{all_at, all_more, got_short}
@@ -19,12 +18,12 @@ use Rattle.program_model.specs.declared.program.Program.{Program}
 use Rattle.program_model.proofs.Formed.{formed}
 use Rattle.class_defs.proofs.WellFormed.{sound}
 use Rattle.static_protos.specs.Growing.{AreSound}
-use Rattle.static_protos.specs.Tables.{Tables, shorty}
+use Rattle.static_protos.specs.Tables.{Tables}
 use Rattle.loose_methods.proofs.Differ.{same_number}
 use Rattle.staticise.specs.Loosened.{given_at, name_with}
-use Rattle.static_formed.proofs.Extended.{Extends, letter_same, proto_kept, proto_there, string_kept, string_same, type_same}
+use Rattle.static_formed.proofs.Extended.{Extends, letter_same, proto_kept, string_kept, string_same, type_same}
 use Rattle.static_formed.proofs.Lists.{all_each, differ_each}
-use Rattle.static_formed.proofs.Plans.{IsNew, IsPlan, class_same, name_same}
+use Rattle.static_formed.proofs.Plans.{IsPlan, class_same, name_same}
 use Rattle.static_formed.proofs.Protos.{AreOfTypes, proto_formed}
 
 -- ---- parts of rules

@@ -1,5 +1,5 @@
 -- What holds of the tables behind each method, and of those behind all.
-use Rattle.std.proofs.Common.{◌≡◌, ℕ, zero, suc, ◌+◌, Bool, true, false, List, [], ◌∷◌, Some, refl, sym, ap, ◌∙◌, subst, arith}
+use Rattle.std.proofs.Common.{◌≡◌, ℕ, suc, ◌+◌, Bool, true, false, List, [], ◌∷◌, Some, refl, sym, ap, ◌∙◌, subst, arith}
 use Rattle.std.specs.Prelude.{slice_get, if◌then◌else◌}
 use Rattle.program_model.specs.declared.pass.Outside.{Outside}
 use Rattle.program_model.specs.declared.pools.MethodName.{MethodName}
@@ -10,7 +10,7 @@ use Rattle.program_model.specs.declared.program.Program.{Program}
 use Rattle.facts.specs.declared.facts.Facts.{Facts}
 use Rattle.static_protos.specs.Tables.{Tables, tables_of, wanted, with_new}
 use Rattle.loose_methods.proofs.Once.{Owns}
-use Rattle.staticise.specs.Judging.{behind_classes, behind_method, behind_methods, is_loose, judged}
+use Rattle.staticise.specs.Judging.{behind_classes, behind_method, behind_methods, judged}
 use Rattle.staticise.proofs.Judged.{Gives, Stays, Step, step}
 
 module _ (p : Program) (facts : Facts) (o : Outside) (admitted : List Bool) (P : Tables → Type 0) (first : P (tables_of p))

@@ -1,26 +1,23 @@
 -- What staticise leaves of a well-formed program is well-formed.
-use Rattle.std.proofs.Common.{◌≡◌, ◌⊎◌, inl, inr, ℕ, zero, suc, ◌+◌, ◌<◌, ◌≤◌, Bool, true, false, true≢false, List, [], ◌∷◌, length, map, Option, Some, None, refl, sym, ap, ap₂, ◌∙◌, subst, arith, lt-ltb}
-use Rattle.std.specs.Prelude.{◌&&◌, not, codes, cond, is_some, nat_eq, nat_le, slice_get, slice_index_or, sum_by}
+use Rattle.std.proofs.Common.{◌≡◌, ◌⊎◌, inl, inr, ℕ, zero, suc, ◌+◌, ◌<◌, ◌≤◌, Bool, true, false, true≢false, List, [], ◌∷◌, length, map, Option, Some, None, refl, sym, ap, ◌∙◌, subst, arith, lt-ltb}
+use Rattle.std.specs.Prelude.{◌&&◌, not, cond, is_some, nat_eq, nat_le, slice_get, sum_by}
 use Rattle.std.specs.List.{list_all}
-use Rattle.std.specs.List.Sorted.{IsPermutation}
 use Rattle.std.proofs.lemmas.Bool.{le-leb}
 use Rattle.std.proofs.lemmas.List.Sorted.{sum_by-IsPermutation}
 use Rattle.lemmas.proofs.Bools.{and_both, and_left, and_right, not_true}
 use Rattle.lemmas.proofs.Lists.{all_at, get_there, got_short}
 use Rattle.lemmas.proofs.Options.{none_some, some_same}
-use Rattle.program_model.specs.Cells.{cells_of}
 use Rattle.program_model.specs.Distinct.{all_differ, own_method_key}
 use Rattle.program_model.specs.Items.{class_items, items_of, proto_items}
 use Rattle.program_model.specs.Lookups.{method_at}
 use Rattle.program_model.specs.MemberRules.{class_fits, fields_fit, is_class_type, is_object, is_static, methods_fit, source_fits, types_of_class_fit}
 use Rattle.program_model.specs.ProgramRules.{is_well_formed}
 use Rattle.program_model.specs.TableRules.{method_id_fits}
-use Rattle.program_model.specs.Texts.{has_method, has_proto, has_string, has_type, type_text}
+use Rattle.program_model.specs.Texts.{has_proto, has_string, has_type, type_text}
 use Rattle.program_model.specs.ValueRules.{marks_fit}
 use Rattle.program_model.specs.declared.pass.Changed.{Changed}
 use Rattle.program_model.specs.declared.pass.Outside.{Outside}
 use Rattle.program_model.specs.declared.pools.MethodName.{MethodName}
-use Rattle.program_model.specs.declared.pools.Proto.{Proto}
 use Rattle.program_model.specs.declared.program.Class.{Class}
 use Rattle.program_model.specs.declared.program.Method.{Method}
 use Rattle.program_model.specs.declared.program.MethodAt.{MethodAt}
@@ -28,19 +25,14 @@ use Rattle.program_model.specs.declared.program.Program.{Program}
 use Rattle.program_model.proofs.Formed.{Drawn, Ended, Kept, SameHead, formed, stand_kept, well_formed}
 use Rattle.class_defs.specs.ClassGraph.{IsTwice}
 use Rattle.class_defs.specs.Finding.{resolves_method}
-use Rattle.class_defs.specs.Members.{string_is}
-use Rattle.class_defs.proofs.WellFormed.{MethodFits, below, class_parts, sound}
+use Rattle.class_defs.proofs.WellFormed.{below, class_parts, sound}
 use Rattle.facts.specs.declared.facts.Facts.{Facts}
 use Rattle.static_protos.proofs.Behind.{stays}
-use Rattle.static_protos.specs.Growing.{AreSound}
-use Rattle.static_protos.specs.Tables.{Tables, has_room, tables_of, wanted, with_new}
-use Rattle.loose_methods.specs.Candidates.{is_candidate, is_kept, is_plain_class, may_be_static, takes_receiver}
+use Rattle.static_protos.specs.Tables.{Tables, wanted}
 use Rattle.loose_methods.proofs.Once.{Owns, number_once}
 use Rattle.staticise.specs.Judging.{judged}
-use Rattle.staticise.specs.Left.{has_receiver_word}
-use Rattle.staticise.specs.Loosened.{AreEach, IsLoosenedBy, IsLoosenedClass, IsStaticisedBy, given_at, is_given, method_loosened, name_with, names_with, target_at, target_method, target_of}
-use Rattle.staticise.specs.Made.{AreMade, IsMade, WasLoose}
-use Rattle.staticise.specs.Ordering.{AreOwn}
+use Rattle.staticise.specs.Loosened.{AreEach, IsLoosenedBy, IsLoosenedClass, IsStaticisedBy, given_at, is_given, method_loosened, names_with, target_at, target_method, target_of}
+use Rattle.staticise.specs.Made.{AreMade, IsMade}
 use Rattle.staticise.proofs.Falls.{receives_so}
 use Rattle.staticise.proofs.Fresh.{fresh}
 use Rattle.staticise.proofs.Limits.{all_sound}
@@ -52,7 +44,7 @@ use Rattle.static_formed.proofs.Extended.{Extends}
 use Rattle.static_formed.proofs.Lists.{once_differ}
 use Rattle.static_formed.proofs.Methods.{class_kept}
 use Rattle.static_formed.proofs.Plans.{IsNew, IsPlan, names_at}
-use Rattle.static_formed.proofs.Protos.{AreOfTypes, IsOfTypes, class_passed, first_typed, more_typed}
+use Rattle.static_formed.proofs.Protos.{AreOfTypes, class_passed, first_typed, more_typed}
 use Rattle.static_formed.proofs.Tables.{tables_now}
 use Rattle.static_formed.proofs.Turns.{all_turns}
 

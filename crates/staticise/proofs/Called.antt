@@ -1,10 +1,9 @@
 -- The calls of methods that are made static, and the code in which there is none.
-use Rattle.std.proofs.Common.{◌≡◌, ◌⊎◌, inl, inr, ℕ, zero, suc, ◌+◌, Bool, true, false, true≢false, List, [], ◌∷◌, map, Option, Some, None, refl, sym, ap, ◌∙◌, subst, arith}
-use Rattle.std.specs.Prelude.{◌&&◌, ◌||◌, cond, is_some, nat_eq, not, slice_get, slice_index_or}
-use Rattle.std.specs.List.{list_all, list_any}
-use Rattle.lemmas.proofs.Bools.{and_left, and_right, clash, or_cases, or_left, not_true}
+use Rattle.std.proofs.Common.{◌≡◌, ℕ, zero, suc, ◌+◌, Bool, true, false, true≢false, List, [], ◌∷◌, map, Option, Some, None, refl, sym, ap, ◌∙◌, arith}
+use Rattle.std.specs.Prelude.{◌&&◌, ◌||◌, cond, nat_eq, not, slice_get, slice_index_or}
+use Rattle.std.specs.List.{list_any}
+use Rattle.lemmas.proofs.Bools.{and_left, and_right, clash, or_left}
 use Rattle.lemmas.proofs.Options.{none_some, some_same}
-use Rattle.insn_set.specs.declared.ops.InvokeKind.{InvokeKind}
 use Rattle.insn_set.specs.declared.form.Insn.{Insn}
 use Rattle.insn_set.specs.declared.form.Insn.TheVariants as insn
 use Rattle.insn_set.specs.declared.ops.InvokeKind.TheVariants as call
@@ -21,13 +20,13 @@ use Rattle.class_defs.specs.Finding.{by_entry, first_among, resolution_of, resol
 use Rattle.class_defs.specs.Members.{own_method}
 use Rattle.class_defs.proofs.Positions.{number_test}
 use Rattle.facts.specs.declared.facts.Facts.{Facts}
-use Rattle.static_protos.specs.Tables.{Tables, wanted, has_room}
+use Rattle.static_protos.specs.Tables.{wanted, has_room}
 use Rattle.loose_methods.specs.Candidates.{is_candidate, may_be_static}
-use Rattle.loose_methods.specs.Loose.{number_at, number_found, is_this, is_it, named_by, names_it, may_find, concerns, has_receiver, is_plain_call, allows, allows_by, all_allow, code_allows, methods_allow, classes_allow, calls_allow}
+use Rattle.loose_methods.specs.Loose.{is_this, is_it, named_by, names_it, may_find, concerns, has_receiver, is_plain_call, allows, allows_by, all_allow, code_allows, methods_allow, classes_allow, calls_allow}
 use Rattle.loose_methods.specs.Mentioned.{is_mentioned}
-use Rattle.staticise.specs.Judging.{is_loose, judged}
-use Rattle.staticise.specs.Loosened.{is_given, given_at, target_method, target_at, target_of, insn_loosened, body_loosened, code_loosened}
-use Rattle.staticise.specs.Called.{IsCall, AreKnown, IsUntouched}
+use Rattle.staticise.specs.Judging.{judged}
+use Rattle.staticise.specs.Loosened.{is_given, target_method, target_at, target_of, insn_loosened, code_loosened}
+use Rattle.staticise.specs.Called.{AreKnown, IsUntouched}
 use Rattle.staticise.proofs.Made.{made_of}
 
 -- ---- one call of all

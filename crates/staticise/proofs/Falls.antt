@@ -1,13 +1,11 @@
 -- Fewer methods have a receiver where some are made static.
-use Rattle.std.proofs.Common.{◌≡◌, ◌⊎◌, inl, inr, ℕ, zero, suc, ◌+◌, ◌<◌, ◌≤◌, Bool, true, false, true≢false, List, [], ◌∷◌, map, length, Option, Some, None, refl, sym, ap, ◌∙◌, subst, arith}
+use Rattle.std.proofs.Common.{◌≡◌, ℕ, zero, suc, ◌<◌, ◌≤◌, Bool, true, false, List, [], ◌∷◌, map, Option, Some, None, refl, sym, ap, ◌∙◌, subst, arith}
 use Rattle.class_defs.specs.Members.{string_is}
-use Rattle.std.specs.Prelude.{◌&&◌, ◌||◌, ◌==◌, codes, not, cond, is_some, slice_get, slice_set, slice_index_or, replicate, count_by, sum_by, if◌then◌else◌}
-use Rattle.std.specs.List.Sorted.{IsPermutation}
+use Rattle.std.specs.Prelude.{◌&&◌, ◌||◌, ◌==◌, codes, not, cond, is_some, slice_get, count_by, sum_by}
 use Rattle.std.proofs.lemmas.List.Sorted.{sum_by-IsPermutation}
 use Rattle.std.proofs.lemmas.List.Sums.{sum_by-cons}
 use Rattle.std.proofs.lemmas.Nat.{and_or_self}
-use Rattle.lemmas.proofs.Bools.{and_left, and_right, and_both, clash, not_true}
-use Rattle.lemmas.proofs.Lists.{got_short}
+use Rattle.lemmas.proofs.Bools.{and_left, and_right}
 use Rattle.lemmas.proofs.Options.{some_same}
 use Rattle.program_model.specs.MemberRules.{is_static, is_direct}
 use Rattle.program_model.specs.declared.body.Body.{Body}
@@ -18,7 +16,6 @@ use Rattle.program_model.specs.declared.pools.Proto.{Proto}
 use Rattle.program_model.specs.declared.program.Class.{Class}
 use Rattle.program_model.specs.declared.program.Method.{Method}
 use Rattle.program_model.specs.declared.program.Program.{Program}
-use Rattle.class_defs.proofs.Positions.{number_of}
 use Rattle.facts.specs.declared.facts.Facts.{Facts}
 use Rattle.static_protos.specs.Tables.{Tables, wanted, has_room}
 use Rattle.loose_methods.specs.Candidates.{is_plain_class, takes_receiver, is_kept, is_candidate, may_be_static}
@@ -26,9 +23,8 @@ use Rattle.staticise.specs.Judging.{is_loose, judged}
 use Rattle.staticise.specs.Left.{has_receiver_word, class_receivers, receivers_in}
 use Rattle.loose_methods.specs.Loose.{is_alone, calls_allow}
 use Rattle.loose_methods.specs.Mentioned.{is_mentioned}
-use Rattle.staticise.specs.Loosened.{is_given, given_at, self_loosened, method_loosened, code_loosened, flags_loosened, marks_loosened, count_given, IsLoosenedClass, AreEach, IsLoosenedBy}
+use Rattle.staticise.specs.Loosened.{is_given, method_loosened, code_loosened, flags_loosened, marks_loosened, count_given, IsLoosenedClass, AreEach, IsLoosenedBy}
 use Rattle.staticise.proofs.Made.{made_of}
-use Rattle.loose_methods.proofs.Marks.{same_or}
 
 -- ---- one method
 

@@ -1,8 +1,7 @@
 -- All loose methods, one after another.
-use Rattle.std.proofs.Common.{◌≡◌, ◌⊎◌, inl, inr, ℕ, zero, suc, ◌+◌, ◌<◌, ◌≤◌, Bool, true, false, true≢false, nat_eq, List, [], ◌∷◌, length, replicate, Option, Some, None, refl, sym, ap, ◌∙◌, subst, arith}
-use Rattle.std.specs.Prelude.{◌&&◌, not, cond, is_some, slice_get, slice_set, slice_index_or, count_by, if◌then◌else◌}
+use Rattle.std.proofs.Common.{◌≡◌, ℕ, zero, suc, ◌+◌, ◌<◌, Bool, true, false, List, [], ◌∷◌, length, replicate, Option, Some, None, refl, sym, ap, ◌∙◌, subst, arith}
+use Rattle.std.specs.Prelude.{◌&&◌, cond, is_some, slice_get, slice_set, count_by, if◌then◌else◌}
 use Rattle.std.proofs.lemmas.List.Sums.{sum_by-cons}
-use Rattle.lemmas.proofs.Bools.{and_left, and_right, clash}
 use Rattle.lemmas.proofs.Lists.{got_short}
 use Rattle.lemmas.proofs.Options.{some_same}
 use Rattle.program_model.specs.declared.pass.Outside.{Outside}
@@ -15,7 +14,7 @@ use Rattle.facts.specs.declared.facts.Facts.{Facts}
 use Rattle.static_protos.specs.Tables.{Tables, tables_of, wanted, has_room, with_new}
 use Rattle.loose_methods.specs.Candidates.{may_be_static}
 use Rattle.staticise.specs.Judging.{is_loose, is_loose_by, is_loose_named, is_loose_at, behind_proto, behind_entry, behind_method, behind_methods, behind_classes, judged}
-use Rattle.static_protos.specs.Growing.{room_with, room_by, room_named, room_entry, room_for, grown_method, grown_methods, grown_classes}
+use Rattle.static_protos.specs.Growing.{room_by, room_entry, grown_method, grown_methods, grown_classes}
 use Rattle.staticise.specs.Left.{NoneLeft}
 use Rattle.staticise.specs.Loosened.{count_given}
 use Rattle.loose_methods.specs.Marking.{is_on}

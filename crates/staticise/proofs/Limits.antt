@@ -9,7 +9,7 @@ use Rattle.program_model.specs.declared.program.Method.{Method}
 use Rattle.program_model.specs.declared.program.Program.{Program}
 use Rattle.facts.specs.declared.facts.Facts.{Facts}
 use Rattle.static_protos.specs.Growing.{AreSound}
-use Rattle.static_protos.specs.Tables.{Tables, tables_of, wanted, has_room, with_new}
+use Rattle.static_protos.specs.Tables.{Tables, tables_of, wanted, has_room}
 use Rattle.static_protos.proofs.Soundly.{first_sound, new_sound}
 use Rattle.loose_methods.specs.Candidates.{may_be_static}
 use Rattle.staticise.specs.Judging.{behind_method, behind_methods, behind_classes, judged}

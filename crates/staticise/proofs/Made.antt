@@ -1,10 +1,8 @@
 -- Each method that is made static was loose behind the tables of its turn, and its new proto stands in the tables.
-use Rattle.std.proofs.Common.{◌≡◌, ◌⊎◌, inl, inr, ℕ, zero, suc, ◌+◌, ◌<◌, Bool, true, false, true≢false, List, [], ◌∷◌, Option, Some, None, refl, sym, ap, ◌∙◌, subst, arith}
+use Rattle.std.proofs.Common.{◌≡◌, ◌⊎◌, inl, inr, ℕ, zero, suc, ◌+◌, Bool, true, false, true≢false, List, [], ◌∷◌, Option, Some, None, refl, sym, ap, ◌∙◌, subst, arith}
 use Rattle.std.specs.Prelude.{is_some, length, replicate, slice_get, slice_set, if◌then◌else◌}
 use Rattle.lemmas.proofs.Options.{none_some, some_same}
 use Rattle.program_model.specs.declared.pass.Outside.{Outside}
-use Rattle.program_model.specs.declared.pools.MethodName.{MethodName}
-use Rattle.program_model.specs.declared.pools.Proto.{Proto}
 use Rattle.program_model.specs.declared.program.Class.{Class}
 use Rattle.program_model.specs.declared.program.Method.{Method}
 use Rattle.program_model.specs.declared.program.Program.{Program}
@@ -12,7 +10,7 @@ use Rattle.facts.specs.declared.facts.Facts.{Facts}
 use Rattle.static_protos.specs.Tables.{Tables, tables_of, wanted, with_new, place_or, proto_at}
 use Rattle.static_protos.specs.Growing.{AreBehind}
 use Rattle.static_protos.proofs.Behind.{IsGiven, behind_itself, behind_then, behind_new, proto_given, given_stays}
-use Rattle.staticise.specs.Judging.{is_loose, behind_method, behind_methods, behind_classes, judged}
+use Rattle.staticise.specs.Judging.{behind_method, behind_methods, behind_classes, judged}
 use Rattle.staticise.specs.Loosened.{given_at, is_given}
 use Rattle.staticise.specs.Made.{WasLoose, IsMade, AreMade}
 use Rattle.staticise.proofs.Judged.{Step, Stays, Gives, step}

@@ -1,7 +1,6 @@
 -- What the pass answers, by what was planned and written.
-use Rattle.std.proofs.Common.{◌≡◌, ℕ, zero, suc, true≢false, nat_eq, ◌+◌, ◌<◌, ◌≤◌, Bool, true, false, List, [], ◌++◌, Option, Some, None, refl, sym, ap, ◌∙◌, subst, arith}
-use Rattle.std.specs.Prelude.{count_by, is_some, length, min, replicate, if◌then◌else◌}
-use Rattle.program_model.specs.declared.pass.Changed.{Changed}
+use Rattle.std.proofs.Common.{◌≡◌, ℕ, zero, suc, true≢false, nat_eq, ◌+◌, ◌<◌, ◌≤◌, Bool, true, false, List, [], ◌++◌, Some, None, refl, sym, ap, ◌∙◌, subst, arith}
+use Rattle.std.specs.Prelude.{count_by, is_some, length, min, if◌then◌else◌}
 use Rattle.program_model.specs.declared.pass.Origin.{Origin}
 use Rattle.program_model.specs.declared.pass.Outside.{Outside}
 use Rattle.program_model.specs.declared.program.Program.{Program}

@@ -7,7 +7,7 @@ use Rattle.program_model.specs.declared.program.Program.{Program}
 use Rattle.program_model.specs.declared.pass.Outside.{Outside}
 use Rattle.program_model.specs.MemberRules.{is_static}
 use Rattle.facts.specs.declared.facts.Facts.{Facts}
-use Rattle.static_protos.specs.Tables.{Tables, tables_of}
+use Rattle.static_protos.specs.Tables.{tables_of}
 use Rattle.staticise.specs.Judging.{is_loose_at}
 
 -- Nothing loose is left: no method of the program is loose, with nothing made static in front of it.

@@ -1,5 +1,5 @@
 -- The order of the methods of a class, and what method numbers resolve to.
-use Rattle.std.specs.Prelude.{◌≡◌, ◌<◌, ◌≤◌, ◌^◌, ◌+◌, ℕ, true, nat_eq, All, count_by, if◌then◌else◌, length, List, Option, None, Some, slice_get, slice_index_or}
+use Rattle.std.specs.Prelude.{◌≡◌, ◌<◌, ◌≤◌, ◌^◌, ◌+◌, ℕ, true, nat_eq, All, count_by, if◌then◌else◌, length, List, Option, None, slice_index_or}
 use Rattle.std.specs.List.{list_all}
 use Rattle.program_model.specs.declared.program.Method.{Method}
 use Rattle.program_model.specs.declared.program.Program.{Program}

@@ -1,9 +1,6 @@
 -- What is found before anything is written.
-use Rattle.std.specs.Prelude.{◌≡◌, ◌<◌, ℕ, List, Bool, Option, None, Some, length, slice_get}
+use Rattle.std.specs.Prelude.{◌≡◌, ◌<◌, List, Bool, Option, None, Some}
 use Rattle.program_model.specs.declared.pass.Outside.{Outside}
-use Rattle.program_model.specs.declared.pools.MethodName.{MethodName}
-use Rattle.program_model.specs.declared.program.Class.{Class}
-use Rattle.program_model.specs.declared.program.Method.{Method}
 use Rattle.program_model.specs.declared.program.Program.{Program}
 use Rattle.facts.specs.declared.facts.Facts.{Facts}
 use Rattle.static_protos.specs.declared.growth.Growth.{Growth}

@@ -1,4 +1,4 @@
-use Rattle.std.proofs.Common.{◌≡◌, ◌∙◌, ap, arith, length}
+use Rattle.std.proofs.Common.{◌≡◌, ◌∙◌, ap, arith}
 use Rattle.staticise.specs.Loosened.{target_of}
 use Rattle.staticise.proofs.Few.{few_methods}
 use Rattle.staticise.proofs.Targeted.{all_targeted, none_targeted, one_targeted}

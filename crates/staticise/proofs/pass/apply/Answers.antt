@@ -1,7 +1,7 @@
 use Rattle.std.proofs.Common.{◌∙◌, ap, subst}
 use Rattle.std.specs.Prelude.{count_by, is_some}
 use Rattle.staticise.specs.Planned.{IsPlanned}
-use Rattle.staticise.proofs.Whole.{none_staticised, nothing_left, some_changes, some_falls, some_staticised}
+use Rattle.staticise.proofs.Whole.{none_staticised, nothing_left, some_changes, some_falls, some_none, some_staticised}
 use Rattle.staticise.proofs.pass.apply.Goals as goal
 
 pub returns-in_ok-write-in-Some-clause-staticised : goal.returns-in_ok-write-in-Some-clause-staticised
@@ -11,7 +11,7 @@ returns-in_ok-write-in-Some-clause-staticised c = λ wf res.
     let o = c.args.outside.now in
     let admitted = c.args.admitted.now.methods.items in
     let planned = subst (IsPlanned p facts o admitted) c.in-Some.is (c.in_ok-planned.ensures.planned wf res) in
-    some_staticised p facts o admitted c.in-Some.growth c.write.new.program c.count_given-count.result _ planned (c.count_given-count.ensures ∙ ap (count_by is_some) c.as_slice.ensures.value) c.new-origins.ensures (c.in_ok-write.ensures _ wf res planned.0)
+    some_staticised p facts o admitted c.in-Some.growth c.write.new.program c.count_given-count.result _ planned (c.count_given-count.ensures ∙ ap (count_by is_some) c.as_slice.ensures.value) c.new-origins.ensures (c.in_ok-write-in-Some.ensures _ wf res planned.0)
 
 pub returns-in_ok-write-in-Some-clause-none_left : goal.returns-in_ok-write-in-Some-clause-none_left
 returns-in_ok-write-in-Some-clause-none_left c = λ wf res none.
@@ -29,7 +29,7 @@ returns-in_ok-write-in-Some-clause-changes c = λ wf res.
     let o = c.args.outside.now in
     let admitted = c.args.admitted.now.methods.items in
     let planned = subst (IsPlanned p facts o admitted) c.in-Some.is (c.in_ok-planned.ensures.planned wf res) in
-    some_changes p facts o admitted c.in-Some.growth c.write.new.program c.count_given-count.result _ planned (c.count_given-count.ensures ∙ ap (count_by is_some) c.as_slice.ensures.value) c.new-origins.ensures (c.in_ok-write.ensures _ wf res planned.0)
+    some_changes p facts o admitted c.in-Some.growth c.write.new.program c.count_given-count.result _ planned (c.count_given-count.ensures ∙ ap (count_by is_some) c.as_slice.ensures.value) c.new-origins.ensures (c.in_ok-write-in-Some.ensures _ wf res planned.0)
 
 pub returns-in_ok-write-in-Some-clause-falls : goal.returns-in_ok-write-in-Some-clause-falls
 returns-in_ok-write-in-Some-clause-falls c = λ wf res.
@@ -38,7 +38,7 @@ returns-in_ok-write-in-Some-clause-falls c = λ wf res.
     let o = c.args.outside.now in
     let admitted = c.args.admitted.now.methods.items in
     let planned = subst (IsPlanned p facts o admitted) c.in-Some.is (c.in_ok-planned.ensures.planned wf res) in
-    some_falls p facts o admitted c.in-Some.growth c.write.new.program c.count_given-count.result _ planned (c.count_given-count.ensures ∙ ap (count_by is_some) c.as_slice.ensures.value) c.new-origins.ensures (c.in_ok-write.ensures _ wf res planned.0)
+    some_falls p facts o admitted c.in-Some.growth c.write.new.program c.count_given-count.result _ planned (c.count_given-count.ensures ∙ ap (count_by is_some) c.as_slice.ensures.value) c.new-origins.ensures (c.in_ok-write-in-Some.ensures _ wf res planned.0)
 
 pub returns-in-None-clause-staticised : goal.returns-in-None-clause-staticised
 returns-in-None-clause-staticised c = λ wf res.

@@ -1,4 +1,4 @@
-use Rattle.std.proofs.Common.{◌≡◌, ◌∙◌, ap, subst, sym}
+use Rattle.std.proofs.Common.{◌∙◌, ap, subst, sym}
 use Rattle.program_model.specs.declared.program.Program.{Program}
 use Rattle.staticise.specs.Loosened.{AreEach, IsLoosenedClass}
 use Rattle.staticise.specs.Ordering.{AreTargets}

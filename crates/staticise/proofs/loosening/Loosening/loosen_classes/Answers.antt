@@ -1,4 +1,4 @@
-use Rattle.std.proofs.Common.{refl, sym, ap, ◌∙◌, Some, arith}
+use Rattle.std.proofs.Common.{refl, sym, ◌∙◌, arith}
 use Rattle.std.proofs.lemmas.Option.{slice_get-get_or}
 use Rattle.staticise.specs.Loosened.{IsLoosenedClass}
 use Rattle.staticise.proofs.Edited.{one_edited, each_edited, none_edited}

@@ -102,7 +102,7 @@ module _ (given target : ℕ → Option ℕ) (p q : Program) (w : is_well_formed
   typed_now = subst IsTyped (sym now) (ordered_typed order static tells static_once same
       (known_typed (named p) (outer_of p o) (tables_of p).methods loose given_so tabled regular upright parameters (defines_none (named p) object_type (no_object p w))))
 
-  defines_now : defines (named q) ≡ defines (named p)
+  pub defines_now : defines (named q) ≡ defines (named p)
   defines_now = ap defines now ∙ (defines_same order static ∙ defines_same (made_static (named p) loose) (named p))
 
   module _ (not_null : MethodKey → ℕ → ℕ → Type 0) (knows : KnowsReceivers (named p) loose not_null)

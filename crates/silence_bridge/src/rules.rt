@@ -29,14 +29,15 @@ ghost use Rattle.rounds_bridge.specs.Owed.{IsSound};
 ghost use Rattle.static_kept.specs.Staying.{StaysAlong, StaysAlongInlined};
 ghost use Rattle.silence_bridge.specs.Admitted.{admitted_in};
 
-/// What `optimise` leaves of a well-formed program for any rules shows what the program shows without its silent calls in
-/// the methods that were admitted, and is sound, where the hierarchy was built of the program, the verifier has a typing of each
-/// method, and the table of shut methods holds what it says, as it does where no method is shut. What the rounds begin with is, by
-/// names, the program without these calls. Each class and member that is left follows from what the outside keeps, unless the rules
-/// forbid removal. Facts that are known leave nothing to write in the admitted methods, no call in them to name another method, no method to be static, and no call and no division that does nothing, or there is a reason why none was written. Nothing is left
-/// in them that a squeeze takes out or that is dead; and unless the program names a method of a wide type, no read of theirs is stale, and their registers are packed. A method that wasn't
-/// admitted keeps its code, also where it becomes static, and no body has more registers than before. The premises are what `Hierarchy::build`,
-/// `verify_all` and `optimise` say where they accept.
+/// What `optimise` leaves of a well-formed program for any rules shows what the program shows without its silent calls in the methods that
+/// were admitted, and is sound, where the hierarchy was built of the program, the verifier has a typing of each method, and the table of
+/// shut methods holds what it says, as it does where no method is shut. What the rounds begin with is, by names, the program without these
+/// calls. Each class and member that is left follows from what the outside keeps, unless the rules forbid removal. Facts that are known
+/// leave nothing to write in the admitted methods, no call in them to name another method, no method to be static, and no call and no
+/// division that does nothing, or there is a reason why none was written. Nothing is left in them that a squeeze takes out or that is dead;
+/// and unless the program names a method of a wide type, no read of theirs is stale, and their registers are packed. A method that wasn't
+/// admitted keeps its code, also where it becomes static, and no body has more registers than before. The premises are what
+/// `Hierarchy::build`, `verify_all` and `optimise` say where they accept.
 pub fn all_rules_law()
     ensures silenced { (p r : Program) (origins : List (List Origin)) (h : Hierarchy) (o : Outside) (advisers spared rounds : ℕ) (before after : List Bool)
         → is_well_formed p ≡ true → IsResolved p h → IsAcyclic p → NoSplit p

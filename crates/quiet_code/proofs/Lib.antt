@@ -1,5 +1,6 @@
 mod Few
 mod Found
+mod Known
 mod Dropped
 mod Plans
 mod Lighter

@@ -1,6 +1,6 @@
-//! Which calls do nothing.
+//! What calls of a method number find.
 
-ghost use Rattle.std.specs.Prelude.{◌≡◌, ◌<◌, true, Some, length, slice_get};
+ghost use Rattle.std.specs.Prelude.{◌≡◌, ◌<◌, Some, length, slice_get};
 ghost use Rattle.std.specs.List.{list_any};
 ghost use Rattle.std.specs.Option.{option_copied};
 ghost use Rattle.program_model.specs.declared.pools.MethodName.{MethodName};
@@ -10,17 +10,12 @@ ghost use Rattle.hierarchy.specs.Shapes.{IsResolved};
 ghost use Rattle.receivers.specs.Receiving.{interface_at, overrides, is_overridden, AreShort};
 ghost use Rattle.quiet_methods.specs.Forms.{starts_quietly};
 ghost use Rattle.quiet_methods.specs.Quiet.{is_on};
-ghost use Rattle.quiet_code.specs.Calls.{is_init, is_constructor, is_called_so, is_quiet_at, is_quiet_target, is_quiet_found, is_quiet_named, is_quiet_for_all, is_quiet_under, is_quiet_virtual, is_no_null, holds_object, has_object, is_idle_call};
-ghost use Rattle.quiet_code.specs.Quiet.{is_direct_call};
+ghost use Rattle.quiet_code.specs.Calls.{is_init, is_constructor, is_called_so, is_quiet_at, is_quiet_target, is_quiet_found, is_quiet_named, is_quiet_for_all, is_quiet_under, is_quiet_virtual};
 
-use dom_frame::Frame;
-use domains::Nullness;
 use hierarchy::Hierarchy;
-use insn_set::InvokeKind;
 use program_model::{Flags, Method, MethodAt, MethodName, Program};
-use seq::Words;
 
-/// What the search for idle calls asks: the program, the hierarchy of its classes, and which methods are quiet, by number.
+/// What is asked of calls: the program, the hierarchy of its classes, and which methods are quiet, by number.
 #[derive(Clone, Copy)]
 pub(crate) struct Search<'a> {
     pub(crate) program: &'a Program,
@@ -119,7 +114,7 @@ impl Search<'_> {
     }
 
     /// Whether what a static or direct call of a method number finds does nothing.
-    fn is_quiet_named(&self, to_static: bool, method: u32) -> bool
+    pub(crate) fn is_quiet_named(&self, to_static: bool, method: u32) -> bool
         ensures { let p = self.now.program.now in IsResolved p self.now.hierarchy.now
             → result ≡ is_quiet_named p self.now.quiet.now to_static method (slice_get p.methods method) }
     {
@@ -222,69 +217,13 @@ impl Search<'_> {
     }
 
     /// Whether what a virtual call of a method number finds does nothing.
-    fn is_quiet_virtual(&self, method: u32) -> bool
+    pub(crate) fn is_quiet_virtual(&self, method: u32) -> bool
         ensures { let p = self.now.program.now in IsResolved p self.now.hierarchy.now
             → result ≡ is_quiet_virtual p self.now.quiet.now (slice_get p.methods method) }
     {
         match self.program.methods.as_slice().get(method as usize) {
             Some(name) => self.is_quiet_under(name, self.hierarchy.key_of_method(method)),
             None => false,
-        }
-    }
-}
-
-/// Whether what is no null has this nullness.
-fn is_no_null(nullness: Nullness) -> bool
-    ensures { result ≡ is_no_null nullness }
-{
-    match nullness {
-        Nullness::Bottom | Nullness::NotNull => true,
-        Nullness::Null | Nullness::Any => false,
-    }
-}
-
-/// Whether a register isn't null, or no run comes to the position.
-fn holds_object(frame: Option<&Frame>, register: u16) -> bool
-    ensures { result ≡ holds_object (option_copied frame.entry) register }
-{
-    match frame {
-        Some(frame) => is_no_null(frame.get(u32::from(register)).nullness()),
-        None => true,
-    }
-}
-
-/// Whether the first of a call's registers isn't null, or no run comes to the position.
-fn has_object(frame: Option<&Frame>, args: &[u16]) -> bool
-    ensures { result ≡ has_object (option_copied frame.entry) args.now }
-{
-    match args {
-        [] => false,
-        [register, ..] => holds_object(frame, *register),
-    }
-}
-
-impl Search<'_> {
-    /// Whether a call does nothing, where these registers are known.
-    pub(crate) fn is_idle_call(
-        &self,
-        frame: Option<&Frame>,
-        kind: InvokeKind,
-        method: u32,
-        args: &Words,
-    ) -> bool
-        ensures may { result ≡ true → is_direct_call kind ≡ true }
-        ensures is { let p = self.now.program.now in IsResolved p self.now.hierarchy.now
-            → result ≡ is_idle_call p self.now.quiet.now (option_copied frame.entry) kind method args.now }
-    {
-        match kind {
-            InvokeKind::Static => self.is_quiet_named(true, method),
-            InvokeKind::Direct => {
-                has_object(frame, args.as_slice()) && self.is_quiet_named(false, method)
-            }
-            InvokeKind::Virtual => {
-                has_object(frame, args.as_slice()) && self.is_quiet_virtual(method)
-            }
-            InvokeKind::Super | InvokeKind::Interface => false,
         }
     }
 }

@@ -7,7 +7,8 @@
 //! (Dalvik bytecode, "binop"). Both become nops, which a later pass takes out. A call of a constructor stays, because its
 //! object would stay uninitialised.
 //!
-//! Which methods are quiet the pass asks of `quiet_methods`, by the registers that the facts know at each position.
+//! Which methods are quiet the pass asks of `quiet_methods`, by the registers that the facts know at each position. What calls
+//! of a method number find is told once for all of them, before any body is looked at.
 //!
 //! [`apply`] ensures that just the calls and divisions become nops that do nothing by these facts, that all else stays, and that
 //! none is left where nothing changed (`specs/Calls.antt`, `Idle`, `Quieted`, by number). Whether the facts are right is not said
@@ -17,5 +18,6 @@
 mod calls;
 mod divisions;
 mod pass;
+mod told;
 
 pub use pass::apply;

@@ -1,6 +1,6 @@
 //! The pass.
 
-ghost use Rattle.std.specs.Prelude.{⊤, ◌≡◌, ◌+◌, ◌<◌, ◌^◌, ◌++◌, true, length, slice_get, IfOk, OnOk};
+ghost use Rattle.std.specs.Prelude.{◌≡◌, ◌+◌, ◌<◌, ◌^◌, ◌++◌, true, length, slice_get, IfOk, OnOk};
 ghost use Rattle.std.specs.List.{list_any};
 ghost use Rattle.insn_set.specs.declared.form.Insn.TheVariants as forms;
 ghost use Rattle.program_model.specs.ProgramRules.{is_well_formed};
@@ -11,9 +11,11 @@ ghost use Rattle.thin_pass.specs.Weights.{weight_of};
 ghost use Rattle.quiet_code.specs.Quiet.{is_direct_call, may_go, AreDropped, nop_if};
 ghost use Rattle.quiet_code.specs.Idle.{is_division, is_small, takes_result, does_nothing, does_nothing_at, LiveIn};
 ghost use Rattle.quiet_code.specs.Quieted.{nops_upto, NopsWell, IsQuietPlan, IsQuieted};
+ghost use Rattle.quiet_code.specs.Told.{AreTold, IsAsked};
 
 use crate::calls::Search;
 use crate::divisions::{Division, is_idle_division};
+use crate::told::{Idle, is_idle_call};
 use facts::Facts;
 use hierarchy::Hierarchy;
 use insn_set::{Insn, InvokeKind};
@@ -24,10 +26,11 @@ use rewrite_pass::{Edit, Rewriting, plan_program, write_plan};
 use seq::{Seq, Words};
 use std::alloc::{AllocError, Global};
 
-/// What the pass asks.
+/// What the pass asks: the program and its hierarchy, which calls of each method number do nothing, and the facts.
 #[derive(Clone, Copy)]
 struct Dropping<'a> {
     search: Search<'a>,
+    idles: &'a [Idle],
     facts: &'a Facts,
 }
 
@@ -72,12 +75,14 @@ fn add_nop(quiet: bool, position: u32, edits: &mut Vec<Edit>) -> Result<(), Allo
 impl Dropping<'_> {
     /// Whether a call at a position does nothing.
     fn is_idle_call(&self, code: &Code<'_>, position: u32, call: Call, args: &Words) -> bool
+        requires { IsAsked self.now }
         ensures may { result ≡ true → is_direct_call call.kind ≡ true }
         ensures is { let s = self.now.search in IsResolved s.program.now s.hierarchy.now
             → result ≡ does_nothing s.program.now s.quiet.now (frame_at self.now.facts.now.frames.items code.now.method position) code.now.live.now code.now.body.now position (forms.Invoke call.kind call.method args.now) }
     {
         !takes_result(code.body.insns.as_slice(), position as usize + 1)
-            && self.search.is_idle_call(
+            && is_idle_call(
+                self.idles,
                 self.facts.at(code.method, position),
                 call.kind,
                 call.method,
@@ -93,7 +98,8 @@ impl Dropping<'_> {
         position: u32,
         insn: &Insn,
     ) -> Result<bool, AllocError>
-        requires { length code.now.body.now.insns < 2 ^ 32 }
+        requires asked { IsAsked self.now }
+        requires short { length code.now.body.now.insns < 2 ^ 32 }
         ensures may { IfOk result (λ idle. idle ≡ true → may_go insn.now ≡ true) }
         ensures is { let s = self.now.search in IsResolved s.program.now s.hierarchy.now
             → IfOk result (λ idle. idle ≡ does_nothing s.program.now s.quiet.now (frame_at self.now.facts.now.frames.items code.now.method position) code.now.live.now code.now.body.now position insn.now) }
@@ -121,7 +127,8 @@ impl Dropping<'_> {
 
     /// The nops that are written over the instructions of a body.
     fn nops(&self, alloc: Global, code: &Code<'_>) -> Result<Vec<Edit>, AllocError>
-        requires { length code.now.body.now.insns < 2 ^ 32 }
+        requires asked { IsAsked self.now }
+        requires short { length code.now.body.now.insns < 2 ^ 32 }
         ensures dropped { IfOk result (λ v. AreDropped code.now.body.now v.items) }
         ensures nops { let s = self.now.search in IsResolved s.program.now s.hierarchy.now
             → IfOk result (λ v. v.items ≡ nops_upto (λ n. does_nothing_at s.program.now s.quiet.now (frame_at self.now.facts.now.frames.items code.now.method) code.now.live.now code.now.body.now n (slice_get code.now.body.now.insns n)) (length code.now.body.now.insns)) }
@@ -176,7 +183,7 @@ fn is_small(body: &Body) -> bool
 }
 
 impl Rewriting for Dropping<'_> {
-    ghost ready = { λ s. ⊤ };
+    ghost ready = { IsAsked };
 
     ghost writes = { λ s at m b es. NopsWell s.search.program.now s.search.hierarchy.now s.search.quiet.now s.facts.now.frames.items m b es };
 
@@ -211,12 +218,15 @@ fn plan_with<'a>(
 ) -> Result<Seq<Seq<Seq<Edit>>>, AllocError>
     ensures { IfOk result (IsPlan (λ at m b es. NopsWell program.now hierarchy.now quiet.now facts.now.frames.items m b es) admitted.now.methods.items program.now.classes) }
 {
+    let search = Search {
+        program,
+        hierarchy,
+        quiet,
+    };
+    let idles = search.idles(alloc)?;
     let pass = Dropping {
-        search: Search {
-            program,
-            hierarchy,
-            quiet,
-        },
+        search,
+        idles: idles.as_slice(),
         facts,
     };
     plan_program(alloc, program, &pass, admitted)

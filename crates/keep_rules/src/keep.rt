@@ -62,7 +62,7 @@ fn both(one: bool, other: bool) -> bool
 }
 
 /// Whether the rule matches the class, where `under` says whether it stands below what the rule asks for.
-fn class_matches(
+pub fn class_matches(
     rule: &ClassRule,
     program: &Program,
     class: &Class,
@@ -294,7 +294,7 @@ fn keep_matching(
 }
 
 /// Whether the class at a place is one of those below what is asked for, if anything is.
-fn is_under(under: Option<&[bool]>, place: u32) -> bool
+pub fn is_under(under: Option<&[bool]>, place: u32) -> bool
     ensures { result ≡ under_test under.entry place }
 {
     match under {

@@ -197,7 +197,7 @@ fn matches_by_row(named: Named, text: &[u16], pieces: &[Piece], row: &mut [bool]
 
 /// Whether the pieces match the whole text, in time of the product of their lengths at most. `row` is room to work in.
 #[tactic(auto, using(crate::proofs::GlobLemmas::none_ends, crate::proofs::GlobLemmas::stars_lone))]
-fn matches_pieces(
+pub fn matches_pieces(
     named: Named,
     text: &[u16],
     pieces: &[Piece],

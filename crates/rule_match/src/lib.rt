@@ -4,4 +4,4 @@
 
 mod glob;
 
-pub use glob::{is_plain, is_star, matches};
+pub use glob::{is_plain, is_star, matches, matches_pieces};

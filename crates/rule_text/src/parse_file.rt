@@ -211,7 +211,7 @@ fn read_setting(alloc: Global, tokens: &[Token<'_>], at: &mut usize) -> Result<E
 }
 
 /// Whether a rule begins with this token.
-fn begins_rule(word: &[u8]) -> bool
+pub fn begins_rule(word: &[u8]) -> bool
     ensures { result ≡ begins_rule word.now }
 {
     if word == b"-assumenosideeffects".as_slice() {
@@ -239,7 +239,7 @@ fn read_keep_kind(tokens: &[Token<'_>], at: &mut usize) -> Option<KeepKind>
 }
 
 /// A rule or an option.
-fn read_entry(alloc: Global, tokens: &[Token<'_>], at: &mut usize) -> Result<Entry, Halt>
+pub fn read_entry(alloc: Global, tokens: &[Token<'_>], at: &mut usize) -> Result<Entry, Halt>
     requires { at.old < length tokens.now }
     ensures moves { at.old ≤ at.new }
     ensures inside { at.new ≤ length tokens.now }

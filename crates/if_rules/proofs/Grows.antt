@@ -1,6 +1,6 @@
 -- Instances one behind the other.
-use Rattle.std.proofs.Common.{◌≡◌, ◌⊎◌, inl, inr, ◌<◌, ◌≤◌, ◌+◌, ℕ, zero, suc, Bool, true, false, List, [], ◌∷◌, ◌++◌, map, length, Some, None, Contains, slice_get, refl, sym, ap, subst, ◌∙◌, eq-or-lt_of_le, arith}
-use Rattle.std.specs.List.{flat_map}
+use Rattle.std.proofs.Common.{◌≡◌, ◌⊎◌, inl, inr, ◌<◌, ◌≤◌, ◌+◌, ℕ, zero, suc, Bool, true, false, ◌||◌, List, [], ◌∷◌, ◌++◌, map, length, Some, None, Contains, slice_get, refl, sym, ap, subst, ◌∙◌, eq-or-lt_of_le, arith}
+use Rattle.std.specs.List.{flat_map, list_any}
 use Rattle.std.proofs.lemmas.List.Elements.{Contains-append_left, Contains-append_right, Contains-append_cases, Contains-push, Contains-push_cases}
 use Rattle.std.proofs.lemmas.Option.{slice_get_within}
 use Rattle.dalvik_defs.specs.Naming.{field_at, method_at, named, named_class, named_field, named_method}
@@ -47,6 +47,15 @@ pub says_text : (read : ReadIf) (r : IfRule) (x : Texts) → IsIfOf read r → w
 says_text read r x of =
     ap (λ ss. words_bytes ss x (lists_of read.words.items)) of.slots ∙ ap (words_bytes (slots r.condition) x) of.words ∙ mapped (λ ps. 32 ∷ parts_bytes (slots r.condition) x ps) parts_of r.words
 
+any_mapped : {A B : Type 0} (f : B → Bool) (g : A → B) (xs : List A) → list_any f (map g xs) ≡ list_any (λ x. f (g x)) xs
+any_mapped f g [] = refl
+any_mapped f g (x ∷ xs) = ap (λ b. f (g x) || b) (any_mapped f g xs)
+
+pub says_uses : (read : ReadIf) (r : IfRule) → IsIfOf read r → list_any (λ ps. list_any (names_line read.slots.items) ps) (lists_of read.words.items) ≡ uses_line r
+says_uses read r of =
+    ap (λ ss. list_any (λ ps. list_any (names_line ss) ps) (lists_of read.words.items)) of.slots ∙ ap (list_any (λ ps. list_any (names_line (slots r.condition)) ps)) of.words
+    ∙ any_mapped (λ ps. list_any (names_line (slots r.condition)) ps) parts_of r.words
+
 -- ---- what an instance may ask for
 
 abbrev place_of : Choice → ℕ
@@ -68,11 +77,10 @@ method_text p r class line k m _ _ is at (OfEach uses) e = cc
 method_text p r class line k m _ _ is at (OfMethod other j n uses lines there fits) e =
     let same_place : j ≡ k = ap place_of e in
     let same_method : n ≡ m = same_some n m (sym there ∙ ap (slice_get class.methods) same_place ∙ at) in
-    let same : other ≡ line = same_line other line (sym lines ∙ is) in
-    (
+    let same : other ≡ line = same_line other line (sym lines ∙ is) in (
       ap (λ l. instance_text r (record { name = names_of p r.condition class; line = method_texts l.what (method_at p n.name).name (method_at p n.name).signature })) same
-      ∙ ap (λ m. instance_text r (record { name = names_of p r.condition class; line = method_texts line.what (method_at p m.name).name (method_at p m.name).signature })) same_method,
-      sym (ap (λ l. matches_method l (named_method p n)) same ∙ ap (λ m. matches_method line (named_method p m)) same_method) ∙ fits
+          ∙ ap (λ m. instance_text r (record { name = names_of p r.condition class; line = method_texts line.what (method_at p m.name).name (method_at p m.name).signature })) same_method,
+      sym (ap (λ l. matches_method l (named_method p n)) same ∙ ap (λ m. matches_method line (named_method p m)) same_method) ∙ fits,
     )
 method_text p r class line k m _ _ is at (OfField other j f uses lines there fits) e = cc
 
@@ -83,11 +91,10 @@ field_text p r class line k f _ _ is at (OfMethod other j n uses lines there fit
 field_text p r class line k f _ _ is at (OfField other j n uses lines there fits) e =
     let same_place : j ≡ k = ap place_of e in
     let same_field : n ≡ f = same_some n f (sym there ∙ ap (slice_get class.fields) same_place ∙ at) in
-    let same : other ≡ line = same_line other line (sym lines ∙ is) in
-    (
+    let same : other ≡ line = same_line other line (sym lines ∙ is) in (
       ap (λ l. instance_text r (record { name = names_of p r.condition class; line = field_texts l.what (field_at p n.name).name (field_at p n.name).kind })) same
-      ∙ ap (λ f. instance_text r (record { name = names_of p r.condition class; line = field_texts line.what (field_at p f.name).name (field_at p f.name).kind })) same_field,
-      sym (ap (λ l. matches_field l (named_field p n)) same ∙ ap (λ f. matches_field line (named_field p f)) same_field) ∙ fits
+          ∙ ap (λ f. instance_text r (record { name = names_of p r.condition class; line = field_texts line.what (field_at p f.name).name (field_at p f.name).kind })) same_field,
+      sym (ap (λ l. matches_field l (named_field p n)) same ∙ ap (λ f. matches_field line (named_field p f)) same_field) ∙ fits,
     )
 
 no_method : (p : Program) (r : IfRule) (class : Class) (k : ℕ) (d : Choice) (t : List ℕ) → slice_get class.methods k ≡ None → Could p r class d t → d ≡ choice.Method k → ⊥
@@ -164,9 +171,9 @@ pub each_grew : (p : Program) (rs : List IfRule) (read : ReadIf) (number place :
     → PushesOne number place choice.Each (words_bytes read.slots.items x (lists_of read.words.items)) old new → Grew p rs (OfChoice number place choice.Each) old new
 each_grew p rs read number place class x old new g uses names line one =
     let text : words_bytes read.slots.items x (lists_of read.words.items) ≡ instance_text g.rule (record { name = names_of p g.rule.condition class; line = [] }) =
-        says_text read g.rule x g.related ∙ ap (λ ns. instance_text g.rule (record { name = ns; line = x.line })) names ∙ ap (λ ls. instance_text g.rule (record { name = names_of p g.rule.condition class; line = ls })) line in
+    says_text read g.rule x g.related ∙ ap (λ ns. instance_text g.rule (record { name = ns; line = x.line })) names ∙ ap (λ ls. instance_text g.rule (record { name = names_of p g.rule.condition class; line = ls })) line in
     grew_one p rs read number place class choice.Each (instance_text g.rule (record { name = names_of p g.rule.condition class; line = [] })) old new g (OfEach uses) (λ d t could e. each_text p g.rule class d t could e)
-        (subst (λ t. PushesOne number place choice.Each t old new) text one)
+    (subst (λ t. PushesOne number place choice.Each t old new) text one)
 
 -- that of a method
 pub method_grew : (p : Program) (rs : List IfRule) (read : ReadIf) (number place : ℕ) (class : Class) (line : MemberRule) (k : ℕ) (m : OwnMethod) (x : Texts) (old new : List Instance) (g : IsGiven p rs read number place class) → uses_line g.rule ≡ true
@@ -175,9 +182,9 @@ pub method_grew : (p : Program) (rs : List IfRule) (read : ReadIf) (number place
 method_grew p rs read number place class line k m x old new g uses lines at fits names texts one =
     let full : List ℕ = instance_text g.rule (record { name = names_of p g.rule.condition class; line = method_texts line.what (method_at p m.name).name (method_at p m.name).signature }) in
     let text : words_bytes read.slots.items x (lists_of read.words.items) ≡ full =
-        says_text read g.rule x g.related ∙ ap (λ ns. instance_text g.rule (record { name = ns; line = x.line })) names ∙ ap (λ ls. instance_text g.rule (record { name = names_of p g.rule.condition class; line = ls })) texts in
+    says_text read g.rule x g.related ∙ ap (λ ns. instance_text g.rule (record { name = ns; line = x.line })) names ∙ ap (λ ls. instance_text g.rule (record { name = names_of p g.rule.condition class; line = ls })) texts in
     grew_one p rs read number place class (choice.Method k) full old new g (OfMethod line k m uses lines at fits) (λ d t could e. (method_text p g.rule class line k m d t lines at could e).0)
-        (subst (λ t. PushesOne number place (choice.Method k) t old new) text one)
+    (subst (λ t. PushesOne number place (choice.Method k) t old new) text one)
 
 -- that of a field
 pub field_grew : (p : Program) (rs : List IfRule) (read : ReadIf) (number place : ℕ) (class : Class) (line : MemberRule) (k : ℕ) (f : OwnField) (x : Texts) (old new : List Instance) (g : IsGiven p rs read number place class) → uses_line g.rule ≡ true
@@ -186,9 +193,9 @@ pub field_grew : (p : Program) (rs : List IfRule) (read : ReadIf) (number place 
 field_grew p rs read number place class line k f x old new g uses lines at fits names texts one =
     let full : List ℕ = instance_text g.rule (record { name = names_of p g.rule.condition class; line = field_texts line.what (field_at p f.name).name (field_at p f.name).kind }) in
     let text : words_bytes read.slots.items x (lists_of read.words.items) ≡ full =
-        says_text read g.rule x g.related ∙ ap (λ ns. instance_text g.rule (record { name = ns; line = x.line })) names ∙ ap (λ ls. instance_text g.rule (record { name = names_of p g.rule.condition class; line = ls })) texts in
+    says_text read g.rule x g.related ∙ ap (λ ns. instance_text g.rule (record { name = ns; line = x.line })) names ∙ ap (λ ls. instance_text g.rule (record { name = names_of p g.rule.condition class; line = ls })) texts in
     grew_one p rs read number place class (choice.Field k) full old new g (OfField line k f uses lines at fits) (λ d t could e. (field_text p g.rule class line k f d t lines at could e).0)
-        (subst (λ t. PushesOne number place (choice.Field k) t old new) text one)
+    (subst (λ t. PushesOne number place (choice.Field k) t old new) text one)
 
 -- ---- none
 
@@ -260,15 +267,15 @@ one_of_methods number place past n k m c e f is (inr less) = inl (e, f, (m, less
 pub methods_more : (p : Program) (rs : List IfRule) (number place past : ℕ) (old mid new : List Instance) → Grew p rs (OfMethods number place past) old mid → Grew p rs (OfChoice number place (choice.Method past)) mid new → Grew p rs (OfMethods number place (past + 1)) old new
 methods_more p rs number place past old mid new before one = grew_both p rs (OfMethods number place (past + 1)) (OfMethods number place past) (OfChoice number place (choice.Method past)) old mid new
     (λ n k c t pair is could.
-      let less : is.2.0 < past + 1 = is.2.1 in
-      let most : is.2.0 ≤ past = omega (arith, less) in
-      one_of_methods number place past n k is.2.0 c is.0 is.1 is.2.2 (eq-or-lt_of_le most)) before one
+    let less : is.2.0 < past + 1 = is.2.1 in
+    let most : is.2.0 ≤ past = omega (arith, less) in
+    one_of_methods number place past n k is.2.0 c is.0 is.1 is.2.2 (eq-or-lt_of_le most)) before one
 
 pub methods_all : (p : Program) (rs : List IfRule) (number place past all : ℕ) (old new : List Instance) → all ≤ past → Grew p rs (OfMethods number place past) old new → Grew p rs (OfMethods number place all) old new
 methods_all p rs number place past all old new end grew = grew_as p rs (OfMethods number place all) (OfMethods number place past) old new
     (λ n k c t pair is could.
-      let less : is.2.0 < all = is.2.1 in
-      (is.0, is.1, (is.2.0, omega (arith, less, end), is.2.2))) grew
+    let less : is.2.0 < all = is.2.1 in
+    (is.0, is.1, (is.2.0, omega (arith, less, end), is.2.2))) grew
 
 pub fields_none : (p : Program) (rs : List IfRule) (number place : ℕ) (old : List Instance) → Grew p rs (OfFields number place 0) old old
 fields_none p rs number place old = grew_none p rs (OfFields number place 0) old (λ n k c is. let less : is.2.0 < 0 = is.2.1 in absurd (omega (arith, less)))
@@ -280,15 +287,15 @@ one_of_fields number place past n k m c e f is (inr less) = inl (e, f, (m, less,
 pub fields_more : (p : Program) (rs : List IfRule) (number place past : ℕ) (old mid new : List Instance) → Grew p rs (OfFields number place past) old mid → Grew p rs (OfChoice number place (choice.Field past)) mid new → Grew p rs (OfFields number place (past + 1)) old new
 fields_more p rs number place past old mid new before one = grew_both p rs (OfFields number place (past + 1)) (OfFields number place past) (OfChoice number place (choice.Field past)) old mid new
     (λ n k c t pair is could.
-      let less : is.2.0 < past + 1 = is.2.1 in
-      let most : is.2.0 ≤ past = omega (arith, less) in
-      one_of_fields number place past n k is.2.0 c is.0 is.1 is.2.2 (eq-or-lt_of_le most)) before one
+    let less : is.2.0 < past + 1 = is.2.1 in
+    let most : is.2.0 ≤ past = omega (arith, less) in
+    one_of_fields number place past n k is.2.0 c is.0 is.1 is.2.2 (eq-or-lt_of_le most)) before one
 
 pub fields_all : (p : Program) (rs : List IfRule) (number place past all : ℕ) (old new : List Instance) → all ≤ past → Grew p rs (OfFields number place past) old new → Grew p rs (OfFields number place all) old new
 fields_all p rs number place past all old new end grew = grew_as p rs (OfFields number place all) (OfFields number place past) old new
     (λ n k c t pair is could.
-      let less : is.2.0 < all = is.2.1 in
-      (is.0, is.1, (is.2.0, omega (arith, less, end), is.2.2))) grew
+    let less : is.2.0 < all = is.2.1 in
+    (is.0, is.1, (is.2.0, omega (arith, less, end), is.2.2))) grew
 
 -- ---- a class
 
@@ -396,9 +403,9 @@ one_of_rules past n k c (inr less) = inl less
 pub rules_more : (p : Program) (rs : List IfRule) (past : ℕ) (old mid new : List Instance) → Grew p rs (OfRules past) old mid → Grew p rs (OfRule past) mid new → Grew p rs (OfRules (past + 1)) old new
 rules_more p rs past old mid new before one = grew_both p rs (OfRules (past + 1)) (OfRules past) (OfRule past) old mid new
     (λ n k c t pair is could.
-      let less : n < past + 1 = is in
-      let most : n ≤ past = omega (arith, less) in
-      one_of_rules past n k c (eq-or-lt_of_le most)) before one
+    let less : n < past + 1 = is in
+    let most : n ≤ past = omega (arith, less) in
+    one_of_rules past n k c (eq-or-lt_of_le most)) before one
 
 new_sound : (p : Program) (rs : List IfRule) (i : Instance) → Contains [] i ⊎ IsInstance p rs i → IsInstance p rs i
 new_sound p rs i (inl never) = let less : never.0 < 0 = never.1 in absurd (omega (arith, less))

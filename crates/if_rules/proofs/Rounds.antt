@@ -208,8 +208,8 @@ instance_holds : (p : Program) (s : LiveSet) (rs : List IfRule) (i : Instance) �
 instance_holds p s rs i is there =
     let inside : holds_in p s is.pair.rule is.pair.class i.choice ≡ true = sym (holds_is p s rs i is.pair.rule is.pair.class is.pair.is_rule is.pair.is_class) ∙ there in
     holds_by p s is.pair.rule is.pair.class i.choice i.text.items is.could
-        (record { inside = contains_at p.classes i.class is.pair.class is.pair.is_class; live = and_left (is_on s.classes.items is.pair.class.name) (are_live p s is.pair.rule is.pair.class i.choice) inside; fits = is.pair.fits })
-        (and_right (is_on s.classes.items is.pair.class.name) (are_live p s is.pair.rule is.pair.class i.choice) inside)
+    (record { inside = contains_at p.classes i.class is.pair.class is.pair.is_class; live = and_left (is_on s.classes.items is.pair.class.name) (are_live p s is.pair.rule is.pair.class i.choice) inside; fits = is.pair.fits })
+    (and_right (is_on s.classes.items is.pair.class.name) (are_live p s is.pair.rule is.pair.class i.choice) inside)
 
 -- ---- an instance of a rule that holds
 

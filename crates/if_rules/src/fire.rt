@@ -25,6 +25,7 @@ use std::alloc::{AllocError, Global};
 const TOO_LONG: usize = 4_294_967_296;
 
 /// The rules that the text of an instance spells, none where it spells none. A text too long to be read counts as want of memory.
+#[tactic(auto, using(crate::proofs::Rounds::spells_read, crate::proofs::Rounds::spells_none))]
 fn spelled(alloc: Global, text: &[u8]) -> Result<Vec<Entry>, AllocError>
     ensures { IfOk result (λ rules. AddsText text.now [] rules.items) }
 {
@@ -39,6 +40,7 @@ fn spelled(alloc: Global, text: &[u8]) -> Result<Vec<Entry>, AllocError>
 }
 
 /// Adds the rules of an instance.
+#[tactic(auto, using(crate::proofs::Rounds::adds_behind))]
 fn add(alloc: Global, instance: &Instance, entries: &mut Vec<Entry>) -> Result<(), AllocError>
     ensures { OnOk result (AddsText instance.now.text.items entries.old.items entries.new.items) }
 {
@@ -188,6 +190,7 @@ fn settle(
 /// What the rules keep of the program, by number: the table of the rules without a condition, and of the instances of those with one that hold
 /// where something is live by such a table. Without a rule that has a condition it is the table of the rules. Where it is answered, the rules
 /// of the instances stand behind those without a condition. The only error is want of memory.
+#[tactic(auto, using(crate::proofs::Tables::without))]
 pub fn outside_of(
     alloc: Global,
     rules: &mut IfRules,

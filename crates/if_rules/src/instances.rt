@@ -22,7 +22,7 @@ use crate::texts::{class_texts, descriptor, field_texts, method_texts};
 use hierarchy::Hierarchy;
 use if_text::IfRule;
 use keep_rules::{field_fits, method_fits};
-use program_model::{Class, Program};
+use program_model::{Class, Field, Method, Program};
 use rule_text::MemberRule;
 use std::alloc::{AllocError, Global};
 
@@ -102,68 +102,61 @@ fn push_each(
     ensures { (rs : List Meant) (g : IsGiven program.now rs at.now.rule.now at.now.number at.now.class class.now) → uses_line g.rule ≡ false
         → OnOk result (Grew program.now rs (OfChoice at.now.number at.now.class choice.Each) out.old.items out.new.items) }
 {
-    let texts = Texts {
-        name: names_at(alloc, at, program, class, row)?,
-        line: Vec::new(alloc),
-    };
+    let name = names_at(alloc, at, program, class, row)?;
+    let own = Vec::new(alloc);
+    let texts = Texts { name, line: own };
     push_instance(alloc, at, Choice::Each, &texts, out)
 }
 
-/// Adds the instance of a method of the class, if the line matches it.
+/// Adds the instance of a method at a place of the class, if the line matches it.
 fn push_method(
     alloc: Global,
     at: &Place<'_>,
     line: &MemberRule,
     program: &Program,
     class: &Class,
+    method: &Method,
     place: usize,
     row: &mut Vec<bool>,
     out: &mut Vec<Instance>,
 ) -> Result<(), AllocError>
     ensures { (rs : List Meant) (g : IsGiven program.now rs at.now.rule.now at.now.number at.now.class class.now) (m : meant.MemberRule) → has_names program.now class.now ≡ true
-        → uses_line g.rule ≡ true → lines_of g.rule.condition ≡ m ∷ [] → IsMemberOf line.now m
+        → uses_line g.rule ≡ true → lines_of g.rule.condition ≡ m ∷ [] → IsMemberOf line.now m → slice_get class.now.methods place ≡ Some method.now
         → OnOk result (Grew program.now rs (OfChoice at.now.number at.now.class (choice.Method place)) out.old.items out.new.items) }
 {
-    let Some(method) = class.methods.as_slice().get(place) else {
-        return Ok(());
-    };
     let fits = method_fits(line, program, method, row)?;
     if !fits {
         return Ok(());
     }
-    let texts = Texts {
-        name: names_at(alloc, at, program, class, row)?,
-        line: method_texts(alloc, &line.what, program, method.name, row)?,
-    };
+    let name = names_at(alloc, at, program, class, row)?;
+    let own = method_texts(alloc, &line.what, program, method.name, row)?;
+    let texts = Texts { name, line: own };
     push_instance(alloc, at, Choice::Method(place), &texts, out)
 }
 
-/// Adds the instance of a field of the class, if the line matches it.
+/// Adds the instance of a field at a place of the class, if the line matches it.
 fn push_field(
     alloc: Global,
     at: &Place<'_>,
     line: &MemberRule,
     program: &Program,
     class: &Class,
+    field: &Field,
     place: usize,
     row: &mut Vec<bool>,
     out: &mut Vec<Instance>,
 ) -> Result<(), AllocError>
     ensures { (rs : List Meant) (g : IsGiven program.now rs at.now.rule.now at.now.number at.now.class class.now) (m : meant.MemberRule) → has_names program.now class.now ≡ true
-        → uses_line g.rule ≡ true → lines_of g.rule.condition ≡ m ∷ [] → IsMemberOf line.now m
+        → uses_line g.rule ≡ true → lines_of g.rule.condition ≡ m ∷ [] → IsMemberOf line.now m → slice_get class.now.fields place ≡ Some field.now
         → OnOk result (Grew program.now rs (OfChoice at.now.number at.now.class (choice.Field place)) out.old.items out.new.items) }
 {
-    let Some(field) = class.fields.as_slice().get(place) else {
-        return Ok(());
-    };
     let fits = field_fits(line, program, field, row)?;
     if !fits {
         return Ok(());
     }
-    let texts = Texts {
-        name: names_at(alloc, at, program, class, row)?,
-        line: field_texts(alloc, &line.what, program, field.name, row)?,
-    };
+    let name = names_at(alloc, at, program, class, row)?;
+    let own = field_texts(alloc, &line.what, program, field.name, row)?;
+    let texts = Texts { name, line: own };
     push_instance(alloc, at, Choice::Field(place), &texts, out)
 }
 
@@ -181,8 +174,10 @@ fn push_methods(
         → uses_line g.rule ≡ true → lines_of g.rule.condition ≡ m ∷ [] → IsMemberOf line.now m
         → OnOk result (Grew program.now rs (OfMethods at.now.number at.now.class (length class.now.methods)) out.old.items out.new.items) }
 {
-    for place in 0..class.methods.len() {
-        push_method(alloc, at, line, program, class, place, row, out)?;
+    let methods = class.methods.as_slice();
+    for place in 0..methods.len() {
+        let method = &methods[place];
+        push_method(alloc, at, line, program, class, method, place, row, out)?;
     }
     Ok(())
 }
@@ -201,8 +196,10 @@ fn push_fields(
         → uses_line g.rule ≡ true → lines_of g.rule.condition ≡ m ∷ [] → IsMemberOf line.now m
         → OnOk result (Grew program.now rs (OfFields at.now.number at.now.class (length class.now.fields)) out.old.items out.new.items) }
 {
-    for place in 0..class.fields.len() {
-        push_field(alloc, at, line, program, class, place, row, out)?;
+    let fields = class.fields.as_slice();
+    for place in 0..fields.len() {
+        let field = &fields[place];
+        push_field(alloc, at, line, program, class, field, place, row, out)?;
     }
     Ok(())
 }

@@ -3,8 +3,8 @@ use Rattle.if_rules.specs.Lists.{lists_of}
 use Rattle.if_rules.specs.Matched.{glob_texts}
 use Rattle.if_rules.proofs.globs.glob_texts.Given as goal
 
-abbrev pub invariant-loop-left-rest : goal.invariant-loop-left-rest
-invariant-loop-left-rest l = lists_of l.out.items ++ glob_texts l.fn.named l.left l.rest ≡ lists_of l.fn.out.items ++ glob_texts l.fn.named l.fn.pieces l.fn.text
+abbrev pub invariant-loop-left : goal.invariant-loop-left
+invariant-loop-left l = lists_of l.out.items ++ glob_texts l.fn.named l.left l.rest ≡ lists_of l.fn.out.items ++ glob_texts l.fn.named l.fn.pieces l.fn.text
 
-abbrev pub decreases-loop-left-rest : goal.decreases-loop-left-rest
-decreases-loop-left-rest l = length l.left
+abbrev pub decreases-loop-left : goal.decreases-loop-left
+decreases-loop-left l = length l.left

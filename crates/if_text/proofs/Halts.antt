@@ -1,5 +1,5 @@
 -- Where reading a rule with a condition halts.
-use Rattle.std.proofs.Common.{◌≡◌, ◌<◌, ◌≤◌, ◌-◌, ℕ, zero, suc, Bool, true, false, ◌&&◌, ◌||◌, List, [], ◌∷◌, map, drop, length, Vec, refl, sym, ap, subst, ◌∙◌, arith, length-drop}
+use Rattle.std.proofs.Common.{◌≡◌, ◌<◌, ◌≤◌, ◌-◌, ℕ, zero, suc, Bool, true, false, ◌&&◌, ◌||◌, List, [], ◌∷◌, map, drop, length, Vec, Option, Some, None, is_some, refl, sym, ap, subst, ◌∙◌, arith, length-drop}
 use Rattle.std.specs.List.{list_all, list_any}
 use Rattle.std.specs.declared.alloc.Global.{Global}
 use Rattle.std.proofs.lemmas.List.{length-map}
@@ -9,10 +9,13 @@ use Rattle.rule_text.specs.Reads.{Reads}
 use Rattle.rule_text.specs.Refusals.{IsRefused, EndsWhole}
 use Rattle.rule_text.specs.Related.{IsClassOf}
 use Rattle.rule_text.specs.Rules.{ClassRule}
-use Rattle.rule_text.specs.Spelling.{word_eq, begins_option, begins_rule, is_class_rule, class_rule_words}
+use Rattle.rule_text.specs.Spelling.{word_eq, keep_word, begins_option, begins_rule, is_class_rule, class_rule_words}
 use Rattle.rule_text.specs.Steps.{AtSyntax, BeginOtherwise, first_word, words_at}
 use Rattle.rule_text.specs.Tokens.{Word}
+use Rattle.rule_text.specs.Words.{IsNameOf}
 use Rattle.rule_text.specs.declared.rules.ClassRule.{ClassRule as ReadClass}
+use Rattle.rule_text.specs.declared.rules.KeepKind.{KeepKind}
+use Rattle.rule_text.specs.declared.rules.KeepKind.TheVariants as keep
 use Rattle.rule_text.specs.declared.stop.Halt.{Halt}
 use Rattle.rule_text.specs.declared.stop.Halt.TheVariants as halt
 use Rattle.rule_text.specs.declared.stop.Stop.{Stop}
@@ -50,6 +53,33 @@ keep_known w is none =
     let known : is_known w ≡ true = or_right _ (is_keep w) _ is in
     let no : true ≡ false = sym known ∙ none in
     cc
+
+keep_is : (kind : KeepKind) → is_keep (keep_word kind) ≡ true
+keep_is keep.Keep = refl
+keep_is keep.ClassMembers = refl
+keep_is keep.ClassesWithMembers = refl
+keep_is keep.Names = refl
+keep_is keep.ClassMemberNames = refl
+keep_is keep.ClassesWithMemberNames = refl
+
+no_keep : (w : Word) → ((kind : KeepKind) → keep_word kind ≡ w → ⊥) → (kind : KeepKind) → word_eq w (keep_word kind) ≡ false
+no_keep w none kind = other_word w (keep_word kind) (word_eq w (keep_word kind)) refl (λ e. none kind (sym e))
+
+-- a keep option has its name
+pub keep_found : (w : Word) (found : Option KeepKind) → IsNameOf keep_word w found → is_some found ≡ is_keep w
+keep_found w (Some kind) named = sym (subst (λ w. is_keep w ≡ true) named (keep_is kind))
+keep_found w None named = sym (rw (
+  no_keep w named keep.Keep,
+  no_keep w named keep.ClassMembers,
+  no_keep w named keep.ClassesWithMembers,
+  no_keep w named keep.Names,
+  no_keep w named keep.ClassMemberNames,
+  no_keep w named keep.ClassesWithMemberNames,
+) refl)
+
+-- where no keep option stands
+pub no_option : (tokens hidden : List Lexed) (ss : List Source) (at : ℕ) (w : Word) (b : Bool) → w ≡ first_word (words_at hidden at) → b ≡ is_keep w → b ≡ false → HaltsKept tokens hidden ss at at (halt.Inside stop.Syntax)
+no_option tokens hidden ss at w b is says none = NoOption at (sym (says ∙ ap is_keep is) ∙ none)
 
 -- where the keep rule is refused
 pub entry_halts : (tokens hidden : List Lexed) (ss : List Source) (at next : ℕ) (h : Halt) → is_keep (first_word (words_at hidden at)) ≡ true → HaltsBefore hidden at next h → HaltsKept tokens hidden ss at next h

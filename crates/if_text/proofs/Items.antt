@@ -32,7 +32,7 @@ use Rattle.if_text.specs.Faults.{AreMasked, is_if_at, IsConditionTo, IsKeptTo, I
 use Rattle.if_text.specs.Items.{IfRule, Item, Plain, If, if_word, item_words, IsKeepRule, are_good, IsIfRule, IsItem, AreItems, count_items, SpellsItems, plain_of, ifs_of}
 use Rattle.if_text.specs.Parts.{masked}
 use Rattle.if_text.specs.Readings.{AreRead, IsIfOf, IsIfReading}
-use Rattle.if_text.specs.Steps.{ReadsIf, ReadsTo, ReadsCounted, AddsItem}
+use Rattle.if_text.specs.Steps.{ReadsIf, ReadsTo, ReadsCounted, ReadsFew, AddsItem}
 use Rattle.if_text.specs.declared.rules.IfRule.{IfRule as ReadIf}
 use Rattle.if_text.specs.declared.rules.IfRules.{IfRules}
 
@@ -244,6 +244,11 @@ reads_none tokens hidden at rules begin plain ifs = record {
   read = record { plain = subst (λ rs. AreEntriesOf rs []) (sym plain) tt; ifs = subst (λ rs. AreEach IsIfOf rs []) (sym ifs) tt };
 }
 
+pub reads_few : (tokens hidden : List Lexed) (at count : ℕ) (rules : IfRules) → ReadsCounted tokens hidden at rules count → length tokens ≤ at → at ≤ length tokens → count ≤ 4096 → ReadsFew tokens hidden (length tokens) rules
+reads_few tokens hidden at count rules c past inside few =
+    let same : at ≡ length tokens = omega (arith, past, inside) in
+    subst (λ n. ReadsFew tokens hidden n rules) same (record { reads = c.reads; few = subst (λ n. n ≤ 4096) (sym c.counted) few })
+
 -- ---- a whole text
 
 pub whole_text : (text : List ℕ) (tokens : Tokens) (hidden : List Lexed) (rules : IfRules) → IsUtf8 text → AreTokensOf text tokens → AreMasked tokens.items.items hidden
@@ -259,6 +264,12 @@ whole_text text tokens hidden rules characters are m reads few = record {
   };
   read = reads.read;
 }
+
+pub whole_by : (text : List ℕ) (tokens : Tokens) (hidden ts hs : List Lexed) (rules : IfRules) → ts ≡ tokens.items.items → hs ≡ hidden → IsUtf8 text → AreTokensOf text tokens → AreMasked tokens.items.items hidden
+    → ReadsFew ts hs (length ts) rules → IsIfReading text rules
+whole_by text tokens hidden ts hs rules one two characters are m few =
+    let here : ReadsFew tokens.items.items hidden (length tokens.items.items) rules = subst (λ hs. ReadsFew tokens.items.items hs (length tokens.items.items) rules) two (subst (λ ts. ReadsFew ts hs (length ts) rules) one few) in
+    whole_text text tokens hidden rules characters are m here.reads here.few
 
 -- ---- a text without conditions
 

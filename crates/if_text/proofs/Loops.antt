@@ -2,13 +2,18 @@
 use Rattle.std.proofs.Common.{◌≡◌, ◌≤◌, ◌+◌, ◌-◌, ℕ, zero, suc, List, [], ◌∷◌, ◌++◌, length, refl, sym, ap, subst, ◌∙◌, arith, length-append}
 use Rattle.std.specs.List.{flat_map}
 use Rattle.std.proofs.lemmas.List.{append-nil, append_assoc}
-use Rattle.rule_text.specs.Related.{AreEach, IsTypeOf}
+use Rattle.rule_text.specs.Related.{AreEach, IsTypeOf, IsPatternOf, AreArgumentsOf, IsWhatOf, OfField, OfMethod}
+use Rattle.rule_text.specs.Rules.{Arguments, What}
 use Rattle.rule_text.specs.Tokens.{Word}
+use Rattle.rule_text.specs.declared.pattern.NamePattern.{NamePattern}
+use Rattle.rule_text.specs.declared.rules.Arguments.{Arguments as ReadArguments}
 use Rattle.rule_text.specs.declared.rules.TypePattern.{TypePattern}
+use Rattle.rule_text.specs.declared.rules.What.{What as ReadWhat}
+use Rattle.rule_text.specs.declared.rules.What.TheVariants as what
 use Rattle.if_text.specs.Slots.{Adds}
-use Rattle.if_text.specs.Wildcards.{numbered, type_wilds, types_wilds}
+use Rattle.if_text.specs.Wildcards.{numbered, name_wilds, type_wilds, types_wilds, argument_wilds, what_wilds, blanks, name_slots}
 use Rattle.if_text.specs.declared.slots.Source.{Source}
-use Rattle.if_text.specs.declared.slots.Source.TheVariants.{Line}
+use Rattle.if_text.specs.declared.slots.Source.TheVariants.{Name, Line}
 
 -- what is left to add is what belongs to the rest
 pub record Left {R S X : Type 0} (P : R → S → Type 0) (f : S → List X) (rest : List R) (out init : List X) (ss : List S) : Type 0 where
@@ -82,6 +87,43 @@ pub adds_one : (start n place : ℕ) (old out new : List Source) → Adds start 
 adds_one start n place old out new before at is =
     let long : start ≤ length out = adds_long start n old out before in
     adds_all start n 1 old out new before (record { is = is ∙ ap (λ k. out ++ Line k ∷ []) at; begun = long })
+
+pub adds_next : (start n : ℕ) (old out new : List Source) → Adds start n old out → new ≡ out ++ Line (length out - start) ∷ [] → Adds start (n + 1) old new
+adds_next start n old out new before is = adds_one start n (length out - start) old out new before refl is
+
+pub adds_three : (start a b c : ℕ) (old mid new : List Source) → Adds start (a + b) old mid → Adds start c mid new → Adds start (a + (b + c)) old new
+adds_three start a b c old mid new one two =
+    let e : (a + b) + c ≡ a + (b + c) = omega arith in
+    subst (λ n. Adds start n old new) e (adds_all start (a + b) c old mid new one two)
+
+-- one more of the class's name
+pub names_more : (n : ℕ) (old out new : List Source) → out ≡ old ++ numbered (λ i. Name i) 0 n → new ≡ out ++ Name n ∷ [] → new ≡ old ++ numbered (λ i. Name i) 0 (n + 1)
+names_more n old out new before is =
+    let e : n ≡ 0 + n = omega arith in
+    is ∙ ap (λ xs. xs ++ Name n ∷ []) before ∙ append_assoc old (numbered (λ i. Name i) 0 n) (Name n ∷ []) ∙ ap (λ k. old ++ (numbered (λ i. Name i) 0 n ++ Name k ∷ [])) e ∙ ap (λ xs. old ++ xs) (sym (numbered_more (λ i. Name i) 0 n))
+
+-- where there is not one name alone
+pub many_names : (names : List NamePattern) (ws : List Word) → (length names ≡ 1 → ⊥) → AreEach IsPatternOf names ws → flat_map (λ w. blanks (name_wilds w)) ws ≡ name_slots ws
+many_names names [] many are = refl
+many_names [] (w ∷ []) many are = absurd are
+many_names (n ∷ []) (w ∷ []) many are = absurd (many refl)
+many_names (n ∷ m ∷ names) (w ∷ []) many are = absurd are.1
+many_names names (w ∷ v ∷ ws) many are = refl
+
+-- what a line names, by its kind
+pub what_field : (P : ℕ → Type 0) (x : ReadWhat) (t : TypePattern) (p : NamePattern) (w : What) → x ≡ what.Field t p → IsWhatOf x w → ((k n : Word) → IsTypeOf t k → IsPatternOf p n → P (type_wilds k + name_wilds n)) → P (what_wilds w)
+what_field P x t p w e is says = by t p w (subst (λ x. IsWhatOf x w) e is) says
+  where
+    by : (t : TypePattern) (p : NamePattern) (w : What) → IsWhatOf (what.Field t p) w → ((k n : Word) → IsTypeOf t k → IsPatternOf p n → P (type_wilds k + name_wilds n)) → P (what_wilds w)
+    by _ _ _ (OfField t p k n of is) says = says k n of is
+
+pub what_method : (P : ℕ → Type 0) (x : ReadWhat) (t : TypePattern) (p : NamePattern) (read : ReadArguments) (w : What) → x ≡ what.Method t p read → IsWhatOf x w
+    → ((k n : Word) (a : Arguments) → IsTypeOf t k → IsPatternOf p n → AreArgumentsOf read a → P (type_wilds k + (name_wilds n + argument_wilds a))) → P (what_wilds w)
+what_method P x t p read w e is says = by t p read w (subst (λ x. IsWhatOf x w) e is) says
+  where
+    by : (t : TypePattern) (p : NamePattern) (read : ReadArguments) (w : What) → IsWhatOf (what.Method t p read) w
+        → ((k n : Word) (a : Arguments) → IsTypeOf t k → IsPatternOf p n → AreArgumentsOf read a → P (type_wilds k + (name_wilds n + argument_wilds a))) → P (what_wilds w)
+    by _ _ _ _ (OfMethod t p read k n a of is are) says = says k n a of is are
 
 -- the types of arguments that are left
 pub record LeftTypes (start : ℕ) (rest : List TypePattern) (out init : List Source) (ws : List Word) : Type 0 where

@@ -198,8 +198,9 @@ fn read_items(
 {
     let mut count: u32 = 0;
     while *at < tokens.len() {
-        count = count_item(word_at(tokens, *at), count)?;
+        let more = count_item(word_at(tokens, *at), count)?;
         read_item(alloc, tokens, hidden, at, rules)?;
+        count = more;
     }
     Ok(())
 }

@@ -1,6 +1,6 @@
 //! The wildcards of a class specification.
 
-ghost use Rattle.std.specs.Prelude.{◌≡◌, ◌+◌, ◌≤◌, ◌++◌, ℕ, List, [], true, false, not, length, IfOk, OnOk};
+ghost use Rattle.std.specs.Prelude.{◌≡◌, ◌+◌, ◌≤◌, ◌++◌, ℕ, List, Option, [], true, false, not, length, IfOk, OnOk};
 ghost use Rattle.std.specs.List.{flat_map};
 ghost use Rattle.rule_text.specs.Rules as meant;
 ghost use Rattle.rule_text.specs.Tokens.{Word};
@@ -120,10 +120,11 @@ fn push_names(out: &mut Vec<Source>, count: usize) -> Result<(), AllocError>
 }
 
 /// Adds slots of wildcards of what a line names, behind those that begin at `start`.
-#[tactic(auto, using(crate::proofs::Loops::adds_none, crate::proofs::Loops::adds_one, crate::proofs::Loops::adds_long))]
+#[tactic(auto, using(crate::proofs::Loops::adds_none, crate::proofs::Loops::adds_next, crate::proofs::Loops::adds_long))]
 fn push_lines(out: &mut Vec<Source>, start: usize, count: usize) -> Result<(), AllocError>
     requires { start ≤ length out.old.items }
-    ensures { OnOk result (Adds start count out.old.items out.new.items) }
+    ensures long { OnOk result (start ≤ length out.new.items) }
+    ensures adds { OnOk result (Adds start count out.old.items out.new.items) }
 {
     for _ in 0..count {
         let place = out.len() - start;
@@ -209,7 +210,8 @@ fn push_above(out: &mut Vec<Source>, above: &Option<Above>) -> Result<(), AllocE
 /// Adds the slots of a name in a line.
 fn push_line_name(out: &mut Vec<Source>, start: usize, name: &NamePattern) -> Result<(), AllocError>
     requires { start ≤ length out.old.items }
-    ensures { (w : Word) → IsPatternOf name.now w → OnOk result (Adds start (name_wilds w) out.old.items out.new.items) }
+    ensures long { OnOk result (start ≤ length out.new.items) }
+    ensures adds { (w : Word) → IsPatternOf name.now w → OnOk result (Adds start (name_wilds w) out.old.items out.new.items) }
 {
     push_lines(out, start, name_wilds(name))
 }
@@ -217,7 +219,8 @@ fn push_line_name(out: &mut Vec<Source>, start: usize, name: &NamePattern) -> Re
 /// Adds the slots of a type in a line.
 fn push_line_type(out: &mut Vec<Source>, start: usize, kind: &TypePattern) -> Result<(), AllocError>
     requires { start ≤ length out.old.items }
-    ensures { (w : Word) → IsTypeOf kind.now w → OnOk result (Adds start (type_wilds w) out.old.items out.new.items) }
+    ensures long { OnOk result (start ≤ length out.new.items) }
+    ensures adds { (w : Word) → IsTypeOf kind.now w → OnOk result (Adds start (type_wilds w) out.old.items out.new.items) }
 {
     push_lines(out, start, type_wilds(kind))
 }
@@ -230,7 +233,8 @@ fn push_line_types(
     kinds: &[TypePattern],
 ) -> Result<(), AllocError>
     requires { start ≤ length out.old.items }
-    ensures { (ws : List Word) → AreEach IsTypeOf kinds.now ws → OnOk result (Adds start (types_wilds ws) out.old.items out.new.items) }
+    ensures long { OnOk result (start ≤ length out.new.items) }
+    ensures adds { (ws : List Word) → AreEach IsTypeOf kinds.now ws → OnOk result (Adds start (types_wilds ws) out.old.items out.new.items) }
 {
     let mut rest = kinds;
     while let [kind, behind @ ..] = rest {
@@ -247,7 +251,8 @@ fn push_arguments(
     arguments: &Arguments,
 ) -> Result<(), AllocError>
     requires { start ≤ length out.old.items }
-    ensures { (a : meant.Arguments) → AreArgumentsOf arguments.now a → OnOk result (Adds start (argument_wilds a) out.old.items out.new.items) }
+    ensures long { OnOk result (start ≤ length out.new.items) }
+    ensures adds { (a : meant.Arguments) → AreArgumentsOf arguments.now a → OnOk result (Adds start (argument_wilds a) out.old.items out.new.items) }
 {
     match arguments {
         Arguments::Any => Ok(()),
@@ -264,7 +269,8 @@ fn push_field(
     name: &NamePattern,
 ) -> Result<(), AllocError>
     requires { start ≤ length out.old.items }
-    ensures { (k w : Word) → IsTypeOf kind.now k → IsPatternOf name.now w → OnOk result (Adds start (type_wilds k + name_wilds w) out.old.items out.new.items) }
+    ensures long { OnOk result (start ≤ length out.new.items) }
+    ensures adds { (k w : Word) → IsTypeOf kind.now k → IsPatternOf name.now w → OnOk result (Adds start (type_wilds k + name_wilds w) out.old.items out.new.items) }
 {
     push_line_type(out, start, kind)?;
     push_line_name(out, start, name)
@@ -280,7 +286,8 @@ fn push_method(
     arguments: &Arguments,
 ) -> Result<(), AllocError>
     requires { start ≤ length out.old.items }
-    ensures { (k w : Word) (a : meant.Arguments) → IsTypeOf kind.now k → IsPatternOf name.now w → AreArgumentsOf arguments.now a
+    ensures long { OnOk result (start ≤ length out.new.items) }
+    ensures adds { (k w : Word) (a : meant.Arguments) → IsTypeOf kind.now k → IsPatternOf name.now w → AreArgumentsOf arguments.now a
         → OnOk result (Adds start (type_wilds k + (name_wilds w + argument_wilds a)) out.old.items out.new.items) }
 {
     push_field(out, start, kind, name)?;
@@ -290,7 +297,8 @@ fn push_method(
 /// Adds the slots of what a line names.
 fn push_what(out: &mut Vec<Source>, start: usize, what: &What) -> Result<(), AllocError>
     requires { start ≤ length out.old.items }
-    ensures { (w : meant.What) → IsWhatOf what.now w → OnOk result (Adds start (what_wilds w) out.old.items out.new.items) }
+    ensures long { OnOk result (start ≤ length out.new.items) }
+    ensures adds { (w : meant.What) → IsWhatOf what.now w → OnOk result (Adds start (what_wilds w) out.old.items out.new.items) }
 {
     match what {
         What::All | What::Fields | What::Methods => Ok(()),

@@ -14,7 +14,9 @@ use Rattle.rule_text.specs.declared.rules.Entry.{Entry as ReadEntry}
 use Rattle.rule_text.specs.declared.token.Token.{Token as Lexed}
 use Rattle.if_text.specs.Faults.{IsKeptTo}
 use Rattle.if_text.specs.Parts.{parts_of}
-use Rattle.if_text.specs.Steps.{good_words, ReadsKept, IsBadAt}
+use Rattle.rule_text.specs.declared.stop.Halt.TheVariants as halt
+use Rattle.rule_text.specs.declared.stop.Stop.TheVariants as stop
+use Rattle.if_text.specs.Steps.{good_words, ReadsKept, IsBadAt, Bad, HaltsKept}
 use Rattle.if_text.specs.Wildcards.{is_good_in}
 use Rattle.if_text.specs.declared.parts.Part.{Part}
 use Rattle.if_text.specs.declared.slots.Source.{Source}
@@ -148,3 +150,22 @@ bad_read tokens hidden ss at end k slice read one is le option reads whole found
       good = sym (good_same ss (take k read.items) (take k slice) (read_take k read.items slice found_as)) ∙ before;
       bad = ap (list_all (is_good_in ss)) (sym (t.parts p here)) ∙ there p here;
     }
+
+element_at : {X : Type 0} (k : ℕ) (xs : List X) → k < length xs → (x : X) × (x ≡ slice_index_or xs k x)
+element_at k [] inside = absurd (omega (arith, inside))
+element_at zero (x ∷ xs) inside = (x, refl)
+element_at (suc k) (x ∷ xs) inside = element_at k xs (omega (arith, inside))
+
+pub bad_halts : (tokens hidden : List Lexed) (ss : List Source) (at end k : ℕ) (slice : List Lexed) (read : Vec Parts Global) (one : ReadEntry) → slice ≡ take (end - at) (drop at tokens) → at ≤ end
+    → is_keep (first_word (words_at hidden at)) ≡ true → Reads IsEntryOf is_entry entry_words hidden at end one → EndsWhole Between hidden at end → ReadAs read.items slice
+    → list_all (good_parts ss) (take k read.items) ≡ true → k < length read.items → ((p : Parts) → k < length read.items → p ≡ slice_index_or read.items k p → good_parts ss p ≡ false) → HaltsKept tokens hidden ss at (at + k) (halt.Inside stop.Syntax)
+bad_halts tokens hidden ss at end k slice read one is le option reads whole found_as before inside there =
+    let here = element_at k read.items inside in
+    Bad at (at + k) (bad_read tokens hidden ss at end k slice read one is le option reads whole found_as before inside (λ p e. there p inside e) here.0 here.1)
+
+-- the place of the word is inside
+pub bad_inside : (tokens : List Lexed) (at end k : ℕ) (slice : List Lexed) (read : List Parts) → slice ≡ take (end - at) (drop at tokens) → at ≤ end → end ≤ length tokens → ReadAs read slice → k < length read → at + k ≤ length tokens
+bad_inside tokens at end k slice read is le most found_as inside =
+    let long : length read ≡ length slice = read_long read slice found_as in
+    let size : length slice ≤ end - at = subst (λ xs. length xs ≤ end - at) (sym is) (take_short (end - at) (drop at tokens)) in
+    omega (arith, le, most, inside, long, size)

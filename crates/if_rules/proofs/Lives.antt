@@ -1,5 +1,5 @@
 -- Loops that ask for some live member, or for each line.
-use Rattle.std.proofs.Common.{◌≡◌, Bool, true, false, ◌&&◌, ◌||◌, List, [], ◌∷◌, refl, sym, ap, subst, ◌∙◌}
+use Rattle.std.proofs.Common.{◌≡◌, ℕ, zero, suc, Bool, true, false, ◌&&◌, ◌||◌, List, [], ◌∷◌, Some, None, slice_get, refl, sym, ap, subst, ◌∙◌}
 use Rattle.std.specs.List.{list_all, list_any}
 use Rattle.class_defs.proofs.WellFormed.{and_left, and_right}
 use Rattle.rule_text.specs.Related.{AreEach}
@@ -59,3 +59,28 @@ end_by P t ss (s ∷ left) are is = absurd are
 
 pub all_end : {R S : Type 0} (P : R → S → Type 0) (t : S → Bool) (now : List R) (ss : List S) → now ≡ [] → AllLeft P t now ss → true ≡ list_all t ss
 all_end P t now ss none l = end_by P t ss l.left (subst (λ (rs : List _). AreEach P rs l.left) none l.are) l.is
+
+-- ---- what belongs to the one at a place
+
+pub record EachThere {R S : Type 0} (P : R → S → Type 0) (ss : List S) (k : ℕ) (r : R) : Type 0 where
+  pub one : S
+  pub is : slice_get ss k ≡ Some one
+  pub related : P r one
+
+same_some : {X : Type 0} (x y : X) → Some x ≡ Some y → x ≡ y
+same_some x y e = cc
+
+pub each_there : {R S : Type 0} (P : R → S → Type 0) (rs : List R) (ss : List S) (k : ℕ) (r : R) → AreEach P rs ss → slice_get rs k ≡ Some r → EachThere P ss k r
+each_there P [] ss k r are is = cc
+each_there P (x ∷ rs) [] k r are is = absurd are
+each_there P (x ∷ rs) (s ∷ ss) zero r are is = record { one = s; is = refl; related = subst (λ y. P y s) (same_some x r is) are.0 }
+each_there P (x ∷ rs) (s ∷ ss) (suc k) r are is =
+    let more : EachThere P ss k r = each_there P rs ss k r are.1 is in
+    record { one = more.one; is = more.is; related = more.related }
+
+pub each_past : {R S : Type 0} (P : R → S → Type 0) (rs : List R) (ss : List S) (k : ℕ) → AreEach P rs ss → slice_get rs k ≡ None → slice_get ss k ≡ None
+each_past P [] [] k are is = refl
+each_past P [] (s ∷ ss) k are is = absurd are
+each_past P (x ∷ rs) [] k are is = absurd are
+each_past P (x ∷ rs) (s ∷ ss) zero are is = cc
+each_past P (x ∷ rs) (s ∷ ss) (suc k) are is = each_past P rs ss k are.1 is

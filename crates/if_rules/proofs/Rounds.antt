@@ -198,10 +198,19 @@ holds_by p s r class _ _ (CouldField line k f uses lines there fits) live are = 
   says = refl;
 }
 
-holds_is : (p : Program) (s : LiveSet) (rs : List IfRule) (i : Instance) (r : IfRule) (class : Class) → slice_get rs i.rule ≡ Some r → slice_get p.classes i.class ≡ Some class → holds p s rs i ≡ holds_in p s r class i.choice
+pub holds_is : (p : Program) (s : LiveSet) (rs : List IfRule) (i : Instance) (r : IfRule) (class : Class) → slice_get rs i.rule ≡ Some r → slice_get p.classes i.class ≡ Some class → holds p s rs i ≡ holds_in p s r class i.choice
 holds_is p s rs i r class is at =
     ap (λ o. elim o as (λ o. Bool) [ Some r ↦ elim (slice_get p.classes i.class) [ Some class ↦ holds_in p s r class i.choice | None ↦ false ] | None ↦ false ]) is
     ∙ ap (λ o. elim o as (λ o. Bool) [ Some class ↦ holds_in p s r class i.choice | None ↦ false ]) at
+
+pub holds_no_rule : (p : Program) (s : LiveSet) (rs : List IfRule) (i : Instance) → slice_get rs i.rule ≡ None → false ≡ holds p s rs i
+holds_no_rule p s rs i none = sym (ap (λ o. elim o as (λ o. Bool) [ Some r ↦ elim (slice_get p.classes i.class) [ Some class ↦ holds_in p s r class i.choice | None ↦ false ] | None ↦ false ]) none)
+
+pub holds_no_class : (p : Program) (s : LiveSet) (rs : List IfRule) (i : Instance) (r : IfRule) → slice_get rs i.rule ≡ Some r → slice_get p.classes i.class ≡ None → false ≡ holds p s rs i
+holds_no_class p s rs i r is none = sym (
+    ap (λ o. elim o as (λ o. Bool) [ Some r ↦ elim (slice_get p.classes i.class) [ Some class ↦ holds_in p s r class i.choice | None ↦ false ] | None ↦ false ]) is
+    ∙ ap (λ o. elim o as (λ o. Bool) [ Some class ↦ holds_in p s r class i.choice | None ↦ false ]) none
+    )
 
 -- the rule of an instance that holds does so
 instance_holds : (p : Program) (s : LiveSet) (rs : List IfRule) (i : Instance) → (is : IsInstance p rs i) → holds p s rs i ≡ true → HoldsSo p s is.pair.rule i.text.items

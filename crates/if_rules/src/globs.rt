@@ -1,6 +1,6 @@
 //! What the wildcards of a name matched.
 
-ghost use Rattle.std.specs.Prelude.{◌≡◌, ◌≤◌, ◌++◌, List, map, take, drop, length, IfOk, OnOk};
+ghost use Rattle.std.specs.Prelude.{◌≡◌, ◌≤◌, ◌++◌, List, if◌then◌else◌, map, take, drop, length, IfOk, OnOk};
 ghost use Rattle.rule_text.specs.Glob.{read_of, begins_pair, matches_of};
 ghost use Rattle.rule_text.specs.Related.{IsPatternOf};
 ghost use Rattle.rule_text.specs.Tokens.{Word};

@@ -265,12 +265,6 @@ whole_text text tokens hidden rules characters are m reads few = record {
   read = reads.read;
 }
 
-pub whole_by : (text : List ℕ) (tokens : Tokens) (hidden ts hs : List Lexed) (rules : IfRules) → ts ≡ tokens.items.items → hs ≡ hidden → IsUtf8 text → AreTokensOf text tokens → AreMasked tokens.items.items hidden
-    → ReadsFew ts hs (length ts) rules → IsIfReading text rules
-whole_by text tokens hidden ts hs rules one two characters are m few =
-    let here : ReadsFew tokens.items.items hidden (length tokens.items.items) rules = subst (λ hs. ReadsFew tokens.items.items hs (length tokens.items.items) rules) two (subst (λ ts. ReadsFew ts hs (length ts) rules) one few) in
-    whole_text text tokens hidden rules characters are m here.reads here.few
-
 -- ---- a text without conditions
 
 abbrev plains : List Entry → List Item

@@ -1,6 +1,7 @@
 -- Instances one behind the other.
-use Rattle.std.proofs.Common.{◌≡◌, ◌⊎◌, inl, inr, ◌<◌, ◌≤◌, ◌+◌, ℕ, zero, suc, Bool, true, false, ◌||◌, List, [], ◌∷◌, ◌++◌, map, length, Some, None, Contains, slice_get, refl, sym, ap, subst, ◌∙◌, eq-or-lt_of_le, arith}
+use Rattle.std.proofs.Common.{◌≡◌, ◌⊎◌, inl, inr, ◌<◌, ◌≤◌, ◌+◌, ℕ, zero, suc, Bool, true, false, ◌||◌, List, [], ◌∷◌, ◌++◌, map, length, Vec, Option, Some, None, Contains, slice_get, refl, sym, ap, subst, ◌∙◌, eq-or-lt_of_le, arith}
 use Rattle.std.specs.List.{flat_map, list_any}
+use Rattle.std.specs.declared.alloc.Global.{Global}
 use Rattle.std.proofs.lemmas.List.Elements.{Contains-append_left, Contains-append_right, Contains-append_cases, Contains-push, Contains-push_cases}
 use Rattle.std.proofs.lemmas.Option.{slice_get_within}
 use Rattle.dalvik_defs.specs.Naming.{field_at, method_at, named, named_class, named_field, named_method}
@@ -10,7 +11,10 @@ use Rattle.program_model.specs.declared.program.Method.{Method as OwnMethod}
 use Rattle.program_model.specs.declared.program.Program.{Program}
 use Rattle.rule_defs.specs.Kept.{lines_of, matches_class}
 use Rattle.rule_defs.specs.Members.{matches_field, matches_method}
-use Rattle.rule_text.specs.Rules.{MemberRule}
+use Rattle.rule_text.specs.Related.{AreBoth, AreMembersOf, IsMemberOf}
+use Rattle.rule_text.specs.Rules.{MemberRule, ClassRule}
+use Rattle.rule_text.specs.declared.rules.MemberRule.{MemberRule as ReadMember}
+use Rattle.keep_rules.proofs.EachLemmas.{each_length}
 use Rattle.if_text.specs.Items.{IfRule}
 use Rattle.if_text.specs.Parts.{parts_of}
 use Rattle.if_text.specs.Readings.{IsIfOf}
@@ -318,6 +322,16 @@ pub class_none : (p : Program) (rs : List IfRule) (read : ReadIf) (number place 
     → Grew p rs (OfPlace number place) old old
 class_none p rs read number place class old g uses none =
     grew_no p rs read number place class (OfPlace number place) old g (λ n k d is. (is.0, is.1)) (λ n k d t is could. no_line p g.rule class d t uses none could)
+
+-- a condition of which not one line alone was read has none alone
+pub more_lines : (read : Option (Vec ReadMember Global)) (v : Vec ReadMember Global) (k : ClassRule) (m : MemberRule) → read ≡ Some v → (length v.items ≡ 1 → ⊥) → AreBoth AreMembersOf read k.members → lines_of k ≡ m ∷ [] → ⊥
+more_lines read v k m is many are lines = by k.members refl (subst (λ r. AreBoth AreMembersOf r k.members) is are)
+  where
+    by : (ms : Option (List MemberRule)) → k.members ≡ ms → AreBoth AreMembersOf (Some v) ms → ⊥
+    by None e are = absurd are
+    by (Some ms) e are =
+        let same : ms ≡ m ∷ [] = sym (ap (λ o. elim o as (λ o. List MemberRule) [ Some ms ↦ ms | None ↦ [] ]) e) ∙ lines in
+        many (each_length IsMemberOf v.items ms are ∙ ap length same)
 
 -- the class at a place
 pub given : (p : Program) (rs : List IfRule) (read : ReadIf) (number place : ℕ) (class : Class) (r : IfRule) → slice_get rs number ≡ Some r → IsIfOf read r → IsMatchedAt p r.condition place → slice_get p.classes place ≡ Some class → IsGiven p rs read number place class

@@ -268,8 +268,11 @@ pub fn class_texts(
     ensures { (ws : List Word) → AreEach IsPatternOf names.now ws → IfOk result (λ out. lists_of out.items ≡ class_texts ws descriptor.now) }
 {
     let mut out = Vec::new(alloc);
-    if let [name] = names {
-        name_texts(alloc, name, Named::Class, inside(descriptor), row, &mut out)?;
+    match names {
+        [name] => {
+            name_texts(alloc, name, Named::Class, inside(descriptor), row, &mut out)?;
+            Ok(out)
+        }
+        _ => Ok(out),
     }
-    Ok(out)
 }

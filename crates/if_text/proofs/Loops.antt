@@ -1,19 +1,28 @@
 -- Loops over lists of which each is one of each, and slots of a line.
-use Rattle.std.proofs.Common.{◌≡◌, ◌≤◌, ◌+◌, ◌-◌, ℕ, zero, suc, List, [], ◌∷◌, ◌++◌, length, refl, sym, ap, subst, ◌∙◌, arith, length-append}
+use Rattle.std.proofs.Common.{◌≡◌, ◌<◌, ◌≤◌, ◌+◌, ◌-◌, ℕ, zero, suc, List, [], ◌∷◌, ◌++◌, take, drop, get_or, length, Vec, Option, Some, None, refl, sym, ap, subst, ◌∙◌, arith, length-append}
 use Rattle.std.specs.List.{flat_map}
-use Rattle.std.proofs.lemmas.List.{append-nil, append_assoc}
-use Rattle.rule_text.specs.Related.{AreEach, IsTypeOf, IsPatternOf, AreArgumentsOf, IsWhatOf, OfField, OfMethod}
-use Rattle.rule_text.specs.Rules.{Arguments, What}
+use Rattle.std.specs.declared.alloc.Global.{Global}
+use Rattle.std.proofs.lemmas.List.{append-nil, append_assoc, take_all}
+use Rattle.rule_text.specs.Related.{AreEach, AreBoth, AreMembersOf, IsMemberOf, IsTypeOf, IsPatternOf, AreArgumentsOf, IsWhatOf, OfField, OfMethod}
+use Rattle.rule_text.specs.Rules.{Arguments, What, MemberRule}
 use Rattle.rule_text.specs.Tokens.{Word}
 use Rattle.rule_text.specs.declared.pattern.NamePattern.{NamePattern}
 use Rattle.rule_text.specs.declared.rules.Arguments.{Arguments as ReadArguments}
+use Rattle.rule_text.specs.declared.rules.MemberRule.{MemberRule as ReadMember}
 use Rattle.rule_text.specs.declared.rules.TypePattern.{TypePattern}
 use Rattle.rule_text.specs.declared.rules.What.{What as ReadWhat}
 use Rattle.rule_text.specs.declared.rules.What.TheVariants as what
 use Rattle.if_text.specs.Slots.{Adds}
-use Rattle.if_text.specs.Wildcards.{numbered, name_wilds, type_wilds, types_wilds, argument_wilds, what_wilds, blanks, name_slots}
+use Rattle.if_text.specs.Wildcards.{numbered, name_wilds, type_wilds, types_wilds, argument_wilds, what_wilds, blanks, name_slots, lines_slots, members_slots}
 use Rattle.if_text.specs.declared.slots.Source.{Source}
 use Rattle.if_text.specs.declared.slots.Source.TheVariants.{Name, Line}
+
+-- the first of a list, and what is behind it
+pub split_first : {X : Type 0} (xs : List X) (x : X) → 0 < length xs → x ≡ get_or xs 0 x → xs ≡ x ∷ take (length xs - 1) (drop 1 xs)
+split_first [] x some is = absurd (omega (arith, some))
+split_first (y ∷ ys) x some is =
+    let e : length (y ∷ ys) - 1 ≡ length ys = omega arith in
+    ap (λ z. z ∷ ys) (sym is) ∙ ap (λ zs. x ∷ zs) (sym (ap (λ k. take k ys) e ∙ take_all (length ys) ys (omega arith)))
 
 -- what is left to add is what belongs to the rest
 pub record Left {R S X : Type 0} (P : R → S → Type 0) (f : S → List X) (rest : List R) (out init : List X) (ss : List S) : Type 0 where
@@ -109,6 +118,20 @@ many_names [] (w ∷ []) many are = absurd are
 many_names (n ∷ []) (w ∷ []) many are = absurd (many refl)
 many_names (n ∷ m ∷ names) (w ∷ []) many are = absurd are.1
 many_names names (w ∷ v ∷ ws) many are = refl
+
+-- where there is not one line alone
+pub many_lines : (read : Option (Vec ReadMember Global)) (v : Vec ReadMember Global) (ms : Option (List MemberRule)) → read ≡ Some v → (length v.items ≡ 1 → ⊥) → AreBoth AreMembersOf read ms → members_slots ms ≡ []
+many_lines read v ms is many are = by ms (subst (λ r. AreBoth AreMembersOf r ms) is are)
+  where
+    lines : (rs : List ReadMember) (ms : List MemberRule) → (length rs ≡ 1 → ⊥) → AreEach IsMemberOf rs ms → lines_slots ms ≡ []
+    lines rs [] many are = refl
+    lines [] (m ∷ []) many are = absurd are
+    lines (r ∷ []) (m ∷ []) many are = absurd (many refl)
+    lines (r ∷ q ∷ rs) (m ∷ []) many are = absurd are.1
+    lines rs (m ∷ k ∷ ms) many are = refl
+    by : (ms : Option (List MemberRule)) → AreBoth AreMembersOf (Some v) ms → members_slots ms ≡ []
+    by None are = absurd are
+    by (Some ms) are = lines v.items ms many are
 
 -- what a line names, by its kind
 pub what_field : (P : ℕ → Type 0) (x : ReadWhat) (t : TypePattern) (p : NamePattern) (w : What) → x ≡ what.Field t p → IsWhatOf x w → ((k n : Word) → IsTypeOf t k → IsPatternOf p n → P (type_wilds k + name_wilds n)) → P (what_wilds w)

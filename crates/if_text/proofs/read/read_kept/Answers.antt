@@ -1,4 +1,4 @@
-use Rattle.std.proofs.Common.{◌≡◌, ◌<◌, ◌≤◌, ◌-◌, ◌∙◌, ℕ, List, true, map, take, drop, length, slice_index_or, Vec, false, refl, sym, ap, subst, rules}
+use Rattle.std.proofs.Common.{◌≡◌, ◌<◌, ◌≤◌, ◌-◌, ◌∙◌, ℕ, List, true, map, take, drop, length, slice_index_or, Vec, false, refl, sym, ap, subst, arith, rules}
 use Rattle.std.specs.List.{list_all}
 use Rattle.std.specs.declared.alloc.Global.{Global}
 use Rattle.std.proofs.lemmas.List.{take_all}
@@ -12,6 +12,7 @@ use Rattle.if_text.specs.Parts.{parts_of}
 use Rattle.if_text.specs.Wildcards.{is_good_in}
 use Rattle.if_text.specs.declared.parts.Part.{Part}
 use Rattle.if_text.proofs.Halts.{no_option}
+use Rattle.if_text.proofs.Items.{same_length}
 use Rattle.if_text.proofs.Kept.{bad_halts, bad_inside, kept_read}
 use Rattle.if_text.proofs.read.read_kept.Goals as goal
 
@@ -23,7 +24,8 @@ returns-then-bad-len-clause-inside c =
     let le : c.args.at.now ≤ c.read_entry.new.at = search rules in
     let found : map (λ parts. parts.items) c.in_ok-words.words.items ≡ map (λ t. parts_of t.word.now) (take (c.read_entry.new.at - c.args.at.now) (drop c.args.at.now c.args.tokens.now)) = search rules in
     let inside : c.first_bad-bad.result < length c.in_ok-words.words.items = search rules in
-    bad_inside c.args.tokens.now c.args.at.now c.read_entry.new.at c.first_bad-bad.result _ c.in_ok-words.words.items refl le (search rules) found inside
+    let most : c.read_entry.new.at ≤ length c.args.tokens.now = omega (arith, c.read_entry.ensures.inside, same_length c.args.tokens.now c.args.hidden.now c.requires.masked) in
+    bad_inside c.args.tokens.now c.args.at.now c.read_entry.new.at c.first_bad-bad.result _ c.in_ok-words.words.items refl le most found inside
 
 pub returns-then-bad-len-clause-halt : goal.returns-then-bad-len-clause-halt
 returns-then-bad-len-clause-halt c =

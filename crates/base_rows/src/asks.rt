@@ -2,7 +2,7 @@
 
 use crate::{code, domains_asked, flows, lines, maps_asked, texts};
 use command_line::{USAGE, read_words};
-use row_text::{Page, Trouble};
+use row_text::{Page, Trouble, told};
 use std::alloc::Global;
 
 /// What the words between brackets spell, of which two blanks have an empty one between them.
@@ -23,7 +23,7 @@ fn words(alloc: Global, line: &str) -> Result<String, Trouble> {
 fn no_words(alloc: Global) -> Result<String, Trouble> {
     let words = Vec::new(alloc);
     let command = read_words(alloc, words.as_slice())?;
-    Ok(format!(in alloc; "{command:?}")?)
+    told(format!(in alloc; "{command:?}"))
 }
 
 /// The answer to a line about a program.
@@ -55,7 +55,7 @@ pub fn answer(alloc: Global, page: &Page, line: &str) -> Result<String, Trouble>
     match first {
         "words" => words(alloc, line),
         "no-words" => no_words(alloc),
-        "usage" => Ok(format!(in alloc; "{USAGE:?}")?),
+        "usage" => told(format!(in alloc; "{USAGE:?}")),
         "insn" => code::insn(alloc, line),
         "domain" => domains_asked::answer(alloc, second, third, fourth),
         "map" => maps_asked::answer(alloc, second, third, fourth),

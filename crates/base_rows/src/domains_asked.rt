@@ -2,7 +2,7 @@
 
 use domains::{ClassSet, Interval, Nullness, Value, Word};
 use lattice_core::{Domain, Env, Flat, Lattice, Lifted, Pair};
-use row_text::{Trouble, numbers};
+use row_text::{Trouble, numbers, told};
 use std::alloc::{AllocError, Global};
 
 /// Whether a join and a widening are above both values, and a copy and the least value at or below the first.
@@ -95,16 +95,16 @@ pub fn answer(alloc: Global, name: &str, a: &str, b: &str) -> Result<String, Tro
     let value = match name {
         "above" => {
             let is_above = are_above(alloc, a)?;
-            return Ok(format!(in alloc; "{is_above}")?);
+            return told(format!(in alloc; "{is_above}"));
         }
         "classes" => return classes(alloc, a),
         "bound-classes" => {
             let count = bound(low, high).classes().map_or(0, |list| list.len());
-            return Ok(format!(in alloc; "{count} classes")?);
+            return told(format!(in alloc; "{count} classes"));
         }
         "wide" => {
             let known = Value::wide(u64::from(number)).known_wide();
-            return Ok(format!(in alloc; "{known:?}")?);
+            return told(format!(in alloc; "{known:?}"));
         }
         "widened" => {
             let widened = Interval::between(0, low).widen(alloc, &Interval::between(0, high))?;
@@ -119,5 +119,5 @@ pub fn answer(alloc: Global, name: &str, a: &str, b: &str) -> Result<String, Tro
         "null" => Value::of(Word::Any, Interval::full(), Nullness::Null, ClassSet::any()),
         _ => return Err(Trouble::Words),
     };
-    Ok(known(alloc, &value)?)
+    told(known(alloc, &value))
 }

@@ -2,7 +2,7 @@
 
 use crate::code::first_body;
 use flow_cfg::{blocks, successors, weak_order};
-use row_text::{Texts, Trouble, list_of, number};
+use row_text::{Texts, Trouble, list_of, number, told};
 use std::alloc::Global;
 
 /// The edge `FROM>TO`.
@@ -21,9 +21,9 @@ pub fn order(alloc: Global, nodes: &str, list: &str) -> Result<String, Trouble> 
     let mut texts = Texts::new(alloc);
     for part in &weak_order(alloc, nodes, edges.as_slice(), 0)? {
         let (node, end) = (part.node, part.end);
-        texts.add(format!(in alloc; "{node}..{end}")?.as_str())?;
+        texts.add_made(format!(in alloc; "{node}..{end}"));
     }
-    Ok(texts.said(alloc)?)
+    told(texts.said(alloc))
 }
 
 /// Where a position of the first method goes on.
@@ -34,7 +34,7 @@ pub fn successors_at(alloc: Global, text: &str, position: &str) -> Result<String
         return Err(Trouble::Words);
     }
     let found = successors(alloc, &body, position)?;
-    Ok(list_of(alloc, found.as_slice())?)
+    told(list_of(alloc, found.as_slice()))
 }
 
 /// The first positions of the blocks of the first method.
@@ -44,5 +44,5 @@ pub fn firsts(alloc: Global, text: &str) -> Result<String, Trouble> {
         return Err(Trouble::Words);
     }
     let found = blocks(alloc, &body)?;
-    Ok(list_of(alloc, found.firsts.as_slice())?)
+    told(list_of(alloc, found.firsts.as_slice()))
 }

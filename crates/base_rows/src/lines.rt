@@ -5,7 +5,7 @@ ghost use Rattle.std.specs.List.{AllByRecursion};
 ghost use Rattle.line_tables.specs.Text.{AscendsFrom};
 
 use line_tables::{read_lines, write_lines};
-use row_text::{Trouble, bytes, digits_of, list_of, number, numbers};
+use row_text::{Trouble, bytes, digits_of, list_of, number, numbers, told};
 use std::alloc::Global;
 
 /// Whether the starts ascend strictly from one on.
@@ -44,7 +44,7 @@ pub fn write(
         return Err(Trouble::Words);
     }
     write_lines(&mut out, lines.as_slice(), starts.as_slice(), parameters)?;
-    Ok(digits_of(alloc, out.as_slice())?)
+    told(digits_of(alloc, out.as_slice()))
 }
 
 /// The lines that bytes from the second one on give to starts, and how many opcodes are read, of at most so many.

@@ -2,7 +2,7 @@
 
 use lattice_core::Flat;
 use pat_map::PatMap;
-use row_text::{Trouble, numbers};
+use row_text::{Trouble, numbers, told};
 use std::alloc::{AllocError, Global};
 
 /// A map of these keys, each with its place among them.
@@ -45,5 +45,5 @@ pub fn answer(alloc: Global, a: &str, b: &str, keys: &str) -> Result<String, Tro
     let joined = first.union_with(alloc, &second)?;
     let is_above = first.leq_with(&joined) && second.leq_with(&joined);
     let values = values_at(alloc, &joined, numbers(alloc, keys)?.as_slice())?;
-    Ok(format!(in alloc; "{values:?}, above {is_above}")?)
+    told(format!(in alloc; "{values:?}, above {is_above}"))
 }

@@ -5,7 +5,7 @@ use dex_base::{
     read_uleb, split_descriptor, write_sleb, write_text, write_u16, write_u32, write_uleb,
 };
 use program_text::units_of;
-use row_text::{Trouble, bytes, digits_of, number, place};
+use row_text::{Trouble, bytes, digits_of, number, place, told};
 use std::alloc::{AllocError, Global};
 
 /// A fault as it is said.
@@ -44,7 +44,7 @@ fn written_number(alloc: Global, name: &str, number: i64) -> Result<String, Trou
         ("write-u16", _, _, Ok(number)) => write_u16(&mut out, number)?,
         _ => return Err(Trouble::Words),
     }
-    Ok(digits_of(alloc, out.as_slice())?)
+    told(digits_of(alloc, out.as_slice()))
 }
 
 /// A text of these units.

@@ -5,7 +5,7 @@ use code_write::write_body;
 use program_model::{Body, Program, Renumber};
 use program_text::{TextFault, assemble, body_text};
 use relax::{LayFault, lay_out};
-use row_text::{Trouble, bytes, digits_of, list_of, number};
+use row_text::{Trouble, bytes, digits_of, list_of, number, told};
 use std::alloc::Global;
 
 /// What a line has of a code item.
@@ -73,7 +73,7 @@ fn code_in(alloc: Global, line: &str) -> Result<Spelled, Trouble> {
 fn fault_text(alloc: Global, fault: CodeFault) -> Result<String, Trouble> {
     match fault {
         CodeFault::NoMemory => Err(Trouble::NoMemory),
-        fault => Ok(format!(in alloc; "{fault:?}")?),
+        fault => told(format!(in alloc; "{fault:?}")),
     }
 }
 
@@ -89,7 +89,7 @@ pub fn read(alloc: Global, line: &str) -> Result<String, Trouble> {
             let program = program_of(alloc, "class LA; extends LA;\nmethod m()V")?;
             let printed = body_text(alloc, &program, &body)?;
             let text = printed.trim_end();
-            Ok(format!(in alloc; "\n{text}")?)
+            told(format!(in alloc; "\n{text}"))
         }
         Err(fault) => fault_text(alloc, fault),
     }
@@ -103,7 +103,7 @@ pub fn starts(alloc: Global, line: &str) -> Result<String, Trouble> {
     }
     let (units, tries) = (spelled.units.as_slice(), spelled.tries.as_slice());
     match read_code(alloc, units, tries, &spelled.sizes) {
-        Ok((_, starts)) => Ok(list_of(alloc, starts.as_slice())?),
+        Ok((_, starts)) => told(list_of(alloc, starts.as_slice())),
         Err(fault) => fault_text(alloc, fault),
     }
 }
@@ -130,7 +130,7 @@ fn bytes_of(alloc: Global, body: &Body) -> Result<String, Trouble> {
     let code = write_body(alloc, body, &layout, &numbers)?;
     let outs = code.outs;
     let written = digits_of(alloc, code.bytes.as_slice())?;
-    Ok(format!(in alloc; "outs {outs}, {written}")?)
+    told(format!(in alloc; "outs {outs}, {written}"))
 }
 
 /// The bytes of the first method's code.

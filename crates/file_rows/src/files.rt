@@ -3,7 +3,7 @@
 use crate::bodies::program_of;
 use dex_read::{DexFault, read_dex};
 use dex_write::write_dex;
-use row_text::{Trouble, bytes, digits_of, list_of, numbers, place};
+use row_text::{Trouble, bytes, digits_of, list_of, numbers, place, told};
 use std::alloc::Global;
 
 /// How many bytes the file of a program has, its first eight bytes, and the bytes at these places.
@@ -16,7 +16,7 @@ pub fn written(alloc: Global, text: &str, places: &str) -> Result<String, Troubl
     let size = file.len();
     let magic = digits_of(alloc, file.get(..8).unwrap_or(&[]))?;
     let found = list_of(alloc, found.as_slice())?;
-    Ok(format!(in alloc; "{size} bytes, {magic}, {found}")?)
+    told(format!(in alloc; "{size} bytes, {magic}, {found}"))
 }
 
 /// The fault of a file of so many bytes that begins with some bytes, and has zeros behind them.
@@ -25,8 +25,8 @@ pub fn fault(alloc: Global, line: &str) -> Result<String, Trouble> {
     let mut file = bytes(alloc, digits)?;
     file.resize(place(size)?, 0)?;
     match read_dex(alloc, file.as_slice()) {
-        Ok(_) => Ok(String::from_str(alloc, "read")?),
+        Ok(_) => told(String::from_str(alloc, "read")),
         Err(DexFault::NoMemory) => Err(Trouble::NoMemory),
-        Err(fault) => Ok(format!(in alloc; "{fault:?}")?),
+        Err(fault) => told(format!(in alloc; "{fault:?}")),
     }
 }

@@ -1,14 +1,13 @@
 //! Programs that are well-formed and those that are not, and how large they are.
 
-use crate::matching::program_of;
 use dex_base::Text;
 use program_model::{Insn, Program, count_cells, well_formed};
 use program_text::units_of;
-use row_text::{Trouble, number, place};
+use row_text::{Trouble, number, place, told};
 use std::alloc::{AllocError, Global};
 
 /// A text with a line in place of another one.
-fn changed(alloc: Global, text: &str, old: &str, new: &str) -> Result<String, AllocError> {
+pub fn changed(alloc: Global, text: &str, old: &str, new: &str) -> Result<String, AllocError> {
     let mut out = String::new(alloc);
     for line in text.lines() {
         out.push_str(if line.trim() == old { new } else { line })?;
@@ -18,19 +17,13 @@ fn changed(alloc: Global, text: &str, old: &str, new: &str) -> Result<String, Al
 }
 
 /// Whether a program is well-formed.
-fn verdict(alloc: Global, program: &Program) -> Result<String, Trouble> {
+pub fn verdict(alloc: Global, program: &Program) -> Result<String, Trouble> {
     let verdict = if well_formed(program) {
         "well formed"
     } else {
         "ill formed"
     };
-    Ok(String::from_str(alloc, verdict)?)
-}
-
-/// Whether the program of a text is well-formed that has a line in place of another one.
-pub fn formed(alloc: Global, text: &str, old: &str, new: &str) -> Result<String, Trouble> {
-    let text = changed(alloc, text, old, new)?;
-    verdict(alloc, &program_of(alloc, text.as_str())?)
+    told(String::from_str(alloc, verdict))
 }
 
 /// Puts a number into an entry of the tables of types and protos.
@@ -88,37 +81,44 @@ fn put_in_class(program: &mut Program, table: &str, place: usize, number: u32) {
     }
 }
 
-/// Whether the program of a text is well-formed in which an entry of a table has another number: the line has the table,
-/// the place and the number, and for a string its text.
-pub fn formed_where(alloc: Global, text: &str, line: &str) -> Result<String, Trouble> {
+/// Puts a text in place of a string.
+fn put_string(
+    alloc: Global,
+    program: &mut Program,
+    place: usize,
+    word: &str,
+) -> Result<(), AllocError> {
+    let text = Text::from_vec(units_of(alloc, word)?);
+    if let Some(string) = program.strings.items.get_mut(place) {
+        *string = text;
+    }
+    Ok(())
+}
+
+/// Whether a program is well-formed in which an entry of a table has another number: the line has the table, the place and
+/// the number, and for a string its text.
+pub fn formed_where(alloc: Global, program: &mut Program, line: &str) -> Result<String, Trouble> {
     let mut words = line.split_whitespace();
     let table = words.next().ok_or(Trouble::Words)?;
     let at = place(words.next().ok_or(Trouble::Words)?)?;
     let last = words.next().ok_or(Trouble::Words)?;
-    let mut program = program_of(alloc, text)?;
     match table {
-        "string" => {
-            let text = Text::from_vec(units_of(alloc, last)?);
-            if let Some(string) = program.strings.items.get_mut(at) {
-                *string = text;
-            }
-        }
-        "type" | "shorty" | "parameter" => put_in_proto(&mut program, table, at, number(last)?),
-        "source" | "call" | "lines" => put_in_class(&mut program, table, at, number(last)?),
-        _ => put_in_member(&mut program, table, at, number(last)?),
+        "string" => put_string(alloc, program, at, last)?,
+        "type" | "shorty" | "parameter" => put_in_proto(program, table, at, number(last)?),
+        "source" | "call" | "lines" => put_in_class(program, table, at, number(last)?),
+        _ => put_in_member(program, table, at, number(last)?),
     }
-    verdict(alloc, &program)
+    verdict(alloc, program)
 }
 
 /// How many cells a program has.
-pub fn cells(alloc: Global, text: &str) -> Result<String, Trouble> {
-    let cells = count_cells(&program_of(alloc, text)?);
-    Ok(format!(in alloc; "{cells}")?)
+pub fn cells(alloc: Global, program: &Program) -> Result<String, Trouble> {
+    let cells = count_cells(program);
+    told(format!(in alloc; "{cells}"))
 }
 
 /// Whether a copy of a program is the same.
-pub fn copy(alloc: Global, text: &str) -> Result<String, Trouble> {
-    let program = program_of(alloc, text)?;
-    let is_same = program.clone()? == program;
-    Ok(format!(in alloc; "{is_same}")?)
+pub fn copy(alloc: Global, program: &Program) -> Result<String, Trouble> {
+    let is_same = program.clone()? == *program;
+    told(format!(in alloc; "{is_same}"))
 }

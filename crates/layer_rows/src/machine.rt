@@ -4,10 +4,10 @@ use crate::matching::program_of;
 use dalvik_defs::{Event, FloatOp, FloatRow, Floats, Shown};
 use dalvik_numbers::{FloatTable, binary, literal};
 use dex_base::Text;
-use program_model::{Insn, LiteralOp, count_cells};
+use program_model::{BinaryOp, Insn, LiteralOp, Program, count_cells};
 use program_text::{print, units_of};
 use redex_gen::generate;
-use row_text::{Trouble, lines_of, number};
+use row_text::{Trouble, lines_of, number, told};
 use script_text::{ScriptFault, read_script, write_events};
 use seq::Seq;
 use std::alloc::{AllocError, Global};
@@ -70,14 +70,26 @@ pub fn events(alloc: Global) -> Result<String, Trouble> {
     Ok(out)
 }
 
-/// The operation of an instruction.
-fn operation(alloc: Global, mnemonic: &str) -> Result<Insn, Trouble> {
+/// The first instruction of a program.
+fn first_insn(program: &Program) -> Option<&Insn> {
+    let class = program.classes.items.first()?;
+    let method = class.methods.items.first()?;
+    method.body.as_ref()?.insns.items.first()
+}
+
+/// The operation of an instruction with three registers.
+fn operation_of(program: &Program) -> Option<BinaryOp> {
+    match first_insn(program)? {
+        Insn::Binary { op, .. } => Some(*op),
+        _ => None,
+    }
+}
+
+/// The operation of a mnemonic.
+fn operation(alloc: Global, mnemonic: &str) -> Result<BinaryOp, Trouble> {
     let text = format!(in alloc; "class LA;\nmethod m()V\nregisters 1\n{mnemonic} v0 v0 v0")?;
     let program = program_of(alloc, text.as_str())?;
-    let class = program.classes.items.first().ok_or(Trouble::Words)?;
-    let method = class.methods.items.first().ok_or(Trouble::Words)?;
-    let body = method.body.as_ref().ok_or(Trouble::Words)?;
-    Ok(body.insns.items.first().ok_or(Trouble::Words)?.clone()?)
+    operation_of(&program).ok_or(Trouble::Words)
 }
 
 /// A table with two rows for the sum of the floats 1 and 2, which answer 7 and 8.
@@ -97,14 +109,11 @@ fn two_rows(alloc: Global) -> Result<FloatTable, AllocError> {
 /// What an operation on two numbers answers over that table.
 pub fn operator(alloc: Global, line: &str) -> Result<String, Trouble> {
     let mut words = line.split_whitespace();
-    let insn = operation(alloc, words.next().unwrap_or(""))?;
+    let op = operation(alloc, words.next().unwrap_or(""))?;
     let a = number(words.next().unwrap_or(""))?;
     let b = number(words.next().unwrap_or(""))?;
-    let Insn::Binary { op, .. } = insn else {
-        return Err(Trouble::Words);
-    };
     let answer = binary(&two_rows(alloc)?, op, u64::from(a), u64::from(b));
-    Ok(format!(in alloc; "{answer:?}")?)
+    told(format!(in alloc; "{answer:?}"))
 }
 
 /// What a literal answers from which a number is taken.
@@ -112,7 +121,15 @@ pub fn reversed(alloc: Global, line: &str) -> Result<String, Trouble> {
     let (a, value) = line.split_once(' ').ok_or(Trouble::Words)?;
     let value = i16::try_from(number(value)?).map_err(|_| Trouble::Words)?;
     let answer = literal(LiteralOp::RsubInt, number(a)?, value);
-    Ok(format!(in alloc; "{answer:?}")?)
+    told(format!(in alloc; "{answer:?}"))
+}
+
+/// The cells and the text of a program.
+fn workload_text(alloc: Global, program: &Program) -> Result<String, AllocError> {
+    let cells = count_cells(program);
+    let printed = print(alloc, program)?;
+    let text = printed.trim_end();
+    format!(in alloc; "{cells} cells\n{text}")
 }
 
 /// The cells and the text of the workload of so many classes.
@@ -121,9 +138,5 @@ pub fn workload(alloc: Global, word: &str) -> Result<String, Trouble> {
     if classes > 2000 {
         return Err(Trouble::Words);
     }
-    let program = generate(alloc, classes)?;
-    let cells = count_cells(&program);
-    let printed = print(alloc, &program)?;
-    let text = printed.trim_end();
-    Ok(format!(in alloc; "{cells} cells\n{text}")?)
+    told(workload_text(alloc, &generate(alloc, classes)?))
 }

@@ -5,9 +5,11 @@ use dex_pools::{
     Interner, PoolFault, Pools, read_annotations, read_pools, read_value, write_annotation,
     write_value,
 };
-use program_model::{Class, FieldName, Flags, MethodName, Program, Proto, Renumber, Version};
+use program_model::{
+    Class, EncValue, FieldName, Flags, Mark, MethodName, Program, Renumber, Version,
+};
 use program_text::units_of;
-use row_text::{Trouble, bytes, digits_of, list_of, number, numbers};
+use row_text::{Trouble, bytes, digits_of, list_of, number, numbers, told};
 use seq::Seq;
 use std::alloc::{AllocError, Global};
 
@@ -15,7 +17,7 @@ use std::alloc::{AllocError, Global};
 fn fault_text(alloc: Global, fault: PoolFault) -> Result<String, Trouble> {
     match fault {
         PoolFault::NoMemory => Err(Trouble::NoMemory),
-        fault => Ok(format!(in alloc; "{fault:?}")?),
+        fault => told(format!(in alloc; "{fault:?}")),
     }
 }
 
@@ -42,44 +44,68 @@ fn file(alloc: Global, tables: &str, words: &str, rest: &str) -> Result<Vec<u8>,
     Ok(out)
 }
 
+/// How many strings tables have, and what else.
+fn tables_text(alloc: Global, pools: &Pools) -> Result<String, AllocError> {
+    let (strings, types) = (pools.strings.len(), &pools.types);
+    let (protos, fields, methods) = (&pools.protos, &pools.fields, &pools.methods);
+    format!(in alloc; "{strings} strings, {types:?}, {protos:?}, {fields:?}, {methods:?}")
+}
+
 /// What is read of the tables of such a file.
-fn tables(alloc: Global, line: &str) -> Result<String, Trouble> {
+pub fn tables(alloc: Global, line: &str) -> Result<String, Trouble> {
     let mut pieces = line.split(' ');
     let sizes = pieces.next().unwrap_or("");
     let words = pieces.next().unwrap_or("");
     let file = file(alloc, sizes, words, pieces.next().unwrap_or(""))?;
-    let pools = match read_pools(alloc, file.as_slice()) {
-        Ok(pools) => pools,
-        Err(fault) => return fault_text(alloc, fault),
-    };
-    let (strings, types) = (pools.strings.len(), pools.types);
-    let (protos, fields, methods) = (pools.protos, pools.fields, pools.methods);
-    Ok(format!(in alloc; "{strings} strings, {types:?}, {protos:?}, {fields:?}, {methods:?}")?)
+    match read_pools(alloc, file.as_slice()) {
+        Ok(pools) => told(tables_text(alloc, &pools)),
+        Err(fault) => fault_text(alloc, fault),
+    }
+}
+
+/// Four strings.
+fn four_strings(alloc: Global) -> Result<Seq<Text>, AllocError> {
+    let mut strings = Seq::new(alloc);
+    for unit in [65, 66, 67, 68] {
+        strings.push(Text::from_units(alloc, &[unit])?)?;
+    }
+    Ok(strings)
+}
+
+/// Four fields.
+fn four_fields(alloc: Global) -> Result<Seq<FieldName>, AllocError> {
+    let mut fields = Seq::new(alloc);
+    for name in 0..4 {
+        fields.push(FieldName {
+            class: 0,
+            kind: 1,
+            name,
+        })?;
+    }
+    Ok(fields)
+}
+
+/// Four methods.
+fn four_methods(alloc: Global) -> Result<Seq<MethodName>, AllocError> {
+    let mut methods = Seq::new(alloc);
+    for name in 0..4 {
+        methods.push(MethodName {
+            class: 0,
+            proto: 0,
+            name,
+        })?;
+    }
+    Ok(methods)
 }
 
 /// Tables with four entries each.
 fn four_of_each(alloc: Global) -> Result<Pools, AllocError> {
-    let mut strings = Seq::new(alloc);
-    let mut types = Seq::new(alloc);
-    let mut fields = Seq::new(alloc);
-    let mut methods = Seq::new(alloc);
-    for (place, unit) in [(0, 65), (1, 66), (2, 67), (3, 68)] {
-        strings.push(Text::from_units(alloc, &[unit])?)?;
-        types.push(place)?;
-        fields.push(FieldName {
-            class: 0,
-            kind: 1,
-            name: place,
-        })?;
-        methods.push(MethodName {
-            class: 0,
-            proto: 0,
-            name: place,
-        })?;
-    }
+    let types = Vec::from_slice(alloc, &[0, 1, 2, 3])?;
+    let fields = four_fields(alloc)?;
+    let methods = four_methods(alloc)?;
     Ok(Pools {
-        strings,
-        types,
+        strings: four_strings(alloc)?,
+        types: Seq::of_vec(types),
         protos: Seq::new(alloc),
         fields,
         methods,
@@ -98,24 +124,40 @@ fn renumber(alloc: Global) -> Result<Renumber, AllocError> {
     })
 }
 
+/// How a value is written under other numbers.
+fn written_value(alloc: Global, value: &EncValue) -> Result<String, AllocError> {
+    let numbers = renumber(alloc)?;
+    let mut out = Vec::new(alloc);
+    write_value(&mut out, value, &numbers)?;
+    digits_of(alloc, out.as_slice())
+}
+
+/// A value that was read, where it ends, and how it is written under other numbers.
+fn value_text(alloc: Global, value: &EncValue, next: usize) -> Result<String, AllocError> {
+    if next > 100 {
+        return format!(in alloc; "up to {next}");
+    }
+    let written = written_value(alloc, value)?;
+    format!(in alloc; "{value:?} up to {next}, written {written}")
+}
+
 /// The value that bytes spell over these tables, where it ends, and how it is written under other numbers.
 fn value(alloc: Global, bytes: &[u8]) -> Result<String, Trouble> {
     let pools = four_of_each(alloc)?;
-    let (value, next) = match read_value(alloc, bytes, 0, &pools, 1000) {
-        Ok(read) => read,
-        Err(fault) => return fault_text(alloc, fault),
-    };
-    let mut out = Vec::new(alloc);
-    write_value(&mut out, &value, &renumber(alloc)?)?;
-    let written = digits_of(alloc, out.as_slice())?;
-    if next > 100 {
-        return Ok(format!(in alloc; "up to {next}")?);
+    match read_value(alloc, bytes, 0, &pools, 1000) {
+        Ok((value, next)) => told(value_text(alloc, &value, next)),
+        Err(fault) => fault_text(alloc, fault),
     }
-    Ok(format!(in alloc; "{value:?} up to {next}, written {written}")?)
+}
+
+/// The value that hexadecimal digits spell.
+pub fn value_of(alloc: Global, digits: &str) -> Result<String, Trouble> {
+    value(alloc, bytes(alloc, digits)?.as_slice())
 }
 
 /// So many arrays in one another, and null in the last.
-fn nested(alloc: Global, arrays: u32) -> Result<String, Trouble> {
+pub fn nested(alloc: Global, arrays: &str) -> Result<String, Trouble> {
+    let arrays = number(arrays)?;
     let mut bytes = Vec::new(alloc);
     for _ in 0..arrays {
         bytes.extend_from_slice(&[0x1c, 1])?;
@@ -124,35 +166,57 @@ fn nested(alloc: Global, arrays: u32) -> Result<String, Trouble> {
     value(alloc, bytes.as_slice())
 }
 
-/// The annotations of the set at the first byte, of at most so many entries, written under other numbers.
-fn marks(alloc: Global, line: &str) -> Result<String, Trouble> {
-    let (digits, most) = line.split_once(' ').ok_or(Trouble::Words)?;
-    let bytes = bytes(alloc, digits)?;
-    let pools = four_of_each(alloc)?;
-    let marks = match read_annotations(alloc, bytes.as_slice(), 0, &pools, number(most)?) {
-        Ok(marks) => marks,
-        Err(fault) => return fault_text(alloc, fault),
-    };
+/// How annotations are written under other numbers.
+fn written_marks(alloc: Global, marks: &[Mark]) -> Result<String, AllocError> {
+    let numbers = renumber(alloc)?;
     let mut out = Vec::new(alloc);
-    for mark in &marks {
-        write_annotation(&mut out, mark, &renumber(alloc)?)?;
+    for mark in marks {
+        write_annotation(&mut out, mark, &numbers)?;
     }
-    let count = marks.len();
-    let written = digits_of(alloc, out.as_slice())?;
-    Ok(format!(in alloc; "{count}, written {written}")?)
+    digits_of(alloc, out.as_slice())
 }
 
-/// A program whose strings are these words, each of them a type, and whose only class is the first of them, under the
-/// second.
-fn class_of(alloc: Global, words: &str) -> Result<Program, AllocError> {
+/// How many annotations there are, and how they are written under other numbers.
+fn marks_text(alloc: Global, marks: &[Mark]) -> Result<String, AllocError> {
+    let count = marks.len();
+    let written = written_marks(alloc, marks)?;
+    format!(in alloc; "{count}, written {written}")
+}
+
+/// The annotations of the set at the first byte, of at most so many entries, written under other numbers.
+pub fn marks(alloc: Global, line: &str) -> Result<String, Trouble> {
+    let (digits, most) = line.split_once(' ').ok_or(Trouble::Words)?;
+    let most = number(most)?;
+    let bytes = bytes(alloc, digits)?;
+    let pools = four_of_each(alloc)?;
+    match read_annotations(alloc, bytes.as_slice(), 0, &pools, most) {
+        Ok(marks) => told(marks_text(alloc, marks.as_slice())),
+        Err(fault) => fault_text(alloc, fault),
+    }
+}
+
+/// These words as strings.
+fn strings_of(alloc: Global, words: &str) -> Result<Seq<Text>, AllocError> {
     let mut strings = Seq::new(alloc);
-    let mut types = Seq::new(alloc);
-    let mut place: u32 = 0;
     for word in words.split_whitespace() {
         strings.push(Text::from_vec(units_of(alloc, word)?))?;
-        types.push(place)?;
-        place = place.saturating_add(1);
     }
+    Ok(strings)
+}
+
+/// The numbers of so many entries.
+fn numbers_below(alloc: Global, count: usize) -> Result<Seq<u32>, AllocError> {
+    let mut numbers = Seq::new(alloc);
+    let mut number: u32 = 0;
+    for _ in 0..count {
+        numbers.push(number)?;
+        number = number.saturating_add(1);
+    }
+    Ok(numbers)
+}
+
+/// A class of the first type, under the second.
+fn one_class(alloc: Global) -> Result<Seq<Class>, AllocError> {
     let mut classes = Seq::new(alloc);
     classes.push(Class {
         name: 0,
@@ -164,35 +228,36 @@ fn class_of(alloc: Global, words: &str) -> Result<Program, AllocError> {
         fields: Seq::new(alloc),
         methods: Seq::new(alloc),
     })?;
-    let protos: Seq<Proto> = Seq::new(alloc);
+    Ok(classes)
+}
+
+/// A program whose strings are these words, each of them a type, and whose only class is the first of them, under the
+/// second.
+fn class_of(alloc: Global, words: &str) -> Result<Program, AllocError> {
+    let strings = strings_of(alloc, words)?;
+    let types = numbers_below(alloc, strings.len())?;
     Ok(Program {
         strings,
         types,
-        protos,
+        protos: Seq::new(alloc),
         fields: Seq::new(alloc),
         methods: Seq::new(alloc),
-        classes,
+        classes: one_class(alloc)?,
         version: Version::V035,
     })
 }
 
-/// The numbers that the used entries of such a program get, 4294967295 for one that is gone, and their order.
-fn used(alloc: Global, words: &str) -> Result<String, Trouble> {
-    let interner = Interner::collect(alloc, &class_of(alloc, words)?)?;
+/// The numbers that used entries get, 4294967295 for one that is gone, and their order.
+fn interner_text(alloc: Global, interner: &Interner) -> Result<String, AllocError> {
     let strings = list_of(alloc, interner.numbers().strings.as_slice())?;
     let types = list_of(alloc, interner.numbers().types.as_slice())?;
     let order = list_of(alloc, interner.order().types.as_slice())?;
-    Ok(format!(in alloc; "strings {strings}, types {types}, in the order {order}")?)
+    format!(in alloc; "strings {strings}, types {types}, in the order {order}")
 }
 
-/// The answer to a line on tables and values.
-pub fn answer(alloc: Global, first: &str, rest: &str) -> Result<String, Trouble> {
-    match first {
-        "tables" => tables(alloc, rest),
-        "value" => value(alloc, bytes(alloc, rest)?.as_slice()),
-        "nested" => nested(alloc, number(rest)?),
-        "annotations" => marks(alloc, rest),
-        "used" => used(alloc, rest),
-        _ => Err(Trouble::Words),
-    }
+/// The numbers that the used entries of such a program get, 4294967295 for one that is gone, and their order.
+pub fn used(alloc: Global, words: &str) -> Result<String, Trouble> {
+    let program = class_of(alloc, words)?;
+    let interner = Interner::collect(alloc, &program)?;
+    told(interner_text(alloc, &interner))
 }

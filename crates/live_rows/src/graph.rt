@@ -1,107 +1,113 @@
 //! What the classes of a program are to each other.
 
-use crate::names::{class_text, defined_text, method, place, tables_of};
+use crate::names::{class_text, defined_text, method, place};
 use hierarchy::{Hierarchy, HierarchyFault};
-use program_model::{MethodAt, Program};
+use program_model::Program;
 use program_text::method_text;
-use row_text::{Texts, Trouble};
-use std::alloc::{AllocError, Global};
+use row_text::{Texts, Trouble, told};
+use std::alloc::Global;
 
-/// Why the classes make no hierarchy, or `fine`.
-pub fn fault(alloc: Global, program: &Program) -> Result<String, AllocError> {
-    match Hierarchy::build(alloc, program) {
-        Ok(_) => String::from_str(alloc, "fine"),
-        Err(HierarchyFault::Cycle { class }) => {
+/// Why the classes make no hierarchy, which only a line that begins with `graph` asks.
+pub fn fault_text(
+    alloc: Global,
+    program: &Program,
+    fault: HierarchyFault,
+    first: &str,
+) -> Result<String, Trouble> {
+    match fault {
+        HierarchyFault::NoMemory => Err(Trouble::NoMemory),
+        _ if first != "graph" => Err(Trouble::Words),
+        HierarchyFault::Cycle { class } => {
             let text = class_text(alloc, program, class)?;
-            format!(in alloc; "cycle at {class} {text}")
+            told(format!(in alloc; "cycle at {class} {text}"))
         }
-        Err(HierarchyFault::Twice { class }) => {
+        HierarchyFault::Twice { class } => {
             let text = class_text(alloc, program, class)?;
-            format!(in alloc; "twice at {class} {text}")
+            told(format!(in alloc; "twice at {class} {text}"))
         }
-        Err(HierarchyFault::SplitOverride { class, method }) => {
+        HierarchyFault::SplitOverride { class, method } => {
             let text = method_text(alloc, program, method)?;
-            format!(in alloc; "split at {class} {text}")
+            told(format!(in alloc; "split at {class} {text}"))
         }
-        Err(HierarchyFault::NoMemory) => Err(AllocError),
     }
-}
-
-/// The places of the other classes under the one at a place.
-fn classes_under(alloc: Global, program: &Program, place: u32) -> Result<Vec<u32>, Trouble> {
-    let tables = tables_of(alloc, program)?;
-    Ok(tables.own_subclasses(alloc, place)?)
 }
 
 /// Adds the classes at these places.
-fn add_classes(
-    alloc: Global,
-    program: &Program,
-    places: &[u32],
-    texts: &mut Texts,
-) -> Result<(), AllocError> {
+fn add_classes(alloc: Global, program: &Program, places: &[u32], texts: &mut Texts) {
     for place in places {
-        texts.add(class_text(alloc, program, *place)?.as_str())?;
+        texts.add_made(class_text(alloc, program, *place));
     }
-    Ok(())
 }
 
 /// The other classes under a class, in file order.
-pub fn subclasses(alloc: Global, program: &Program, word: &str) -> Result<String, Trouble> {
+pub fn subclasses(
+    alloc: Global,
+    program: &Program,
+    tables: &Hierarchy,
+    word: &str,
+) -> Result<String, Trouble> {
     let place = place(alloc, program, word)?;
-    let under = classes_under(alloc, program, place)?;
+    let under = tables.own_subclasses(alloc, place)?;
     let mut texts = Texts::new(alloc);
-    add_classes(alloc, program, under.as_slice(), &mut texts)?;
-    Ok(texts.said(alloc)?)
+    add_classes(alloc, program, under.as_slice(), &mut texts);
+    told(texts.said(alloc))
 }
 
 /// Whether the one class is under the other.
 pub fn under(
     alloc: Global,
     program: &Program,
+    tables: &Hierarchy,
     lower: &str,
     upper: &str,
 ) -> Result<String, Trouble> {
     let lower = place(alloc, program, lower)?;
     let upper = place(alloc, program, upper)?;
-    let is_under = tables_of(alloc, program)?.is_under(lower, upper);
-    Ok(format!(in alloc; "{is_under}")?)
+    let is_under = tables.is_under(lower, upper);
+    told(format!(in alloc; "{is_under}"))
 }
 
 /// The method to which a name resolves.
-pub fn resolved(alloc: Global, program: &Program, word: &str) -> Result<String, Trouble> {
+pub fn resolved(
+    alloc: Global,
+    program: &Program,
+    tables: &Hierarchy,
+    word: &str,
+) -> Result<String, Trouble> {
     let number = method(alloc, program, word)?;
-    Ok(
-        match tables_of(alloc, program)?.resolve_method(program, number) {
-            Some(at) => defined_text(alloc, program, at)?,
-            None => String::from_str(alloc, "nothing")?,
-        },
-    )
-}
-
-/// Where the methods stand that override the one to which a number resolves.
-fn methods_over(alloc: Global, program: &Program, number: u32) -> Result<Vec<MethodAt>, Trouble> {
-    let tables = tables_of(alloc, program)?;
-    match tables.resolve_method(program, number) {
-        Some(at) => Ok(tables.overriders(alloc, program, at)?),
-        None => Err(Trouble::Words),
-    }
+    told(match tables.resolve_method(program, number) {
+        Some(at) => defined_text(alloc, program, at),
+        None => String::from_str(alloc, "nothing"),
+    })
 }
 
 /// The methods that override the one to which a name resolves.
-pub fn overriders(alloc: Global, program: &Program, word: &str) -> Result<String, Trouble> {
+pub fn overriders(
+    alloc: Global,
+    program: &Program,
+    tables: &Hierarchy,
+    word: &str,
+) -> Result<String, Trouble> {
     let number = method(alloc, program, word)?;
-    let over = methods_over(alloc, program, number)?;
+    let at = tables
+        .resolve_method(program, number)
+        .ok_or(Trouble::Words)?;
+    let over = tables.overriders(alloc, program, at)?;
     let mut texts = Texts::new(alloc);
     for one in &over {
-        texts.add(defined_text(alloc, program, *one)?.as_str())?;
+        texts.add_made(defined_text(alloc, program, *one));
     }
-    Ok(texts.said(alloc)?)
+    told(texts.said(alloc))
 }
 
 /// Whether nothing runs where a class is initialised.
-pub fn trivial(alloc: Global, program: &Program, word: &str) -> Result<String, Trouble> {
+pub fn trivial(
+    alloc: Global,
+    program: &Program,
+    tables: &Hierarchy,
+    word: &str,
+) -> Result<String, Trouble> {
     let class = place(alloc, program, word)?;
-    let is_trivial = tables_of(alloc, program)?.trivially_initialised(program, class);
-    Ok(format!(in alloc; "{is_trivial}")?)
+    let is_trivial = tables.trivially_initialised(program, class);
+    told(format!(in alloc; "{is_trivial}"))
 }

@@ -154,11 +154,24 @@ fn keep(
     }
 }
 
+/// Keeps what the words of a line behind its first say.
+fn keep_all(
+    alloc: Global,
+    program: &Program,
+    outside: &mut Outside,
+    line: &str,
+) -> Result<(), Trouble> {
+    for word in line.split_whitespace().skip(1) {
+        keep(alloc, program, outside, word)?;
+    }
+    Ok(())
+}
+
 /// What the words of a line behind its first keep.
 pub fn kept(alloc: Global, program: &Program, line: &str) -> Result<Outside, Trouble> {
     let mut outside = nothing(alloc);
-    for word in line.split_whitespace().skip(1) {
-        keep(alloc, program, &mut outside, word)?;
+    match keep_all(alloc, program, &mut outside, line) {
+        Ok(()) => Ok(outside),
+        Err(trouble) => Err(trouble),
     }
-    Ok(outside)
 }

@@ -1,14 +1,15 @@
 //! What is reached in a program and what is left of it.
 
 use crate::kept::kept;
-use crate::names::{defined_text, tables_of};
+use crate::names::defined_text;
 use call_graph::{Edge, LiveSet, callees, live_members};
+use hierarchy::Hierarchy;
 use pipeline::{Outcome, optimise};
 use program_model::{Changed, MethodAt, Outside, Program};
 use program_text::{field_text, method_text, print, type_text};
 use reach::{apply, close};
 use redex_outside::Panel;
-use row_text::{Texts, Trouble};
+use row_text::{Texts, Trouble, told};
 use std::alloc::{AllocError, Global};
 
 /// The numbers of the entries that are marked.
@@ -37,41 +38,23 @@ fn add_types(
         if made.get(*kind as usize).copied().unwrap_or(false) {
             text.push_str("!")?;
         }
-        texts.add(text.as_str())?;
+        texts.add(text.as_str());
     }
     Ok(())
 }
 
 /// Adds the fields with these numbers.
-fn add_fields(
-    alloc: Global,
-    program: &Program,
-    fields: &[u32],
-    texts: &mut Texts,
-) -> Result<(), AllocError> {
+fn add_fields(alloc: Global, program: &Program, fields: &[u32], texts: &mut Texts) {
     for field in fields {
-        texts.add(field_text(alloc, program, *field)?.as_str())?;
+        texts.add_made(field_text(alloc, program, *field));
     }
-    Ok(())
 }
 
 /// Adds the methods with these numbers.
-fn add_methods(
-    alloc: Global,
-    program: &Program,
-    methods: &[u32],
-    texts: &mut Texts,
-) -> Result<(), AllocError> {
+fn add_methods(alloc: Global, program: &Program, methods: &[u32], texts: &mut Texts) {
     for method in methods {
-        texts.add(method_text(alloc, program, *method)?.as_str())?;
+        texts.add_made(method_text(alloc, program, *method));
     }
-    Ok(())
-}
-
-/// The live members of a program. What they are is said where call_graph is; here only their names are printed.
-fn live_set(alloc: Global, program: &Program, outside: &Outside) -> Result<LiveSet, Trouble> {
-    let tables = tables_of(alloc, program)?;
-    Ok(live_members(alloc, program, &tables, outside)?)
 }
 
 /// Adds what is live: classes, fields and methods by number, with `!` behind a class of which objects are made.
@@ -82,111 +65,90 @@ fn add_live(
     texts: &mut Texts,
 ) -> Result<(), AllocError> {
     let types = marked(alloc, live.classes.as_slice())?;
-    add_types(
-        alloc,
-        program,
-        types.as_slice(),
-        live.made.as_slice(),
-        texts,
-    )?;
+    let made = live.made.as_slice();
+    add_types(alloc, program, types.as_slice(), made, texts)?;
     let fields = marked(alloc, live.fields.as_slice())?;
-    add_fields(alloc, program, fields.as_slice(), texts)?;
+    add_fields(alloc, program, fields.as_slice(), texts);
     let methods = marked(alloc, live.methods.as_slice())?;
-    add_methods(alloc, program, methods.as_slice(), texts)
-}
-
-/// What is live: classes, fields and methods by number, with `!` behind a class of which objects are made.
-pub fn live(alloc: Global, program: &Program, line: &str) -> Result<String, Trouble> {
-    let outside = kept(alloc, program, line)?;
-    let live = live_set(alloc, program, &outside)?;
-    let mut texts = Texts::new(alloc);
-    add_live(alloc, program, &live, &mut texts)?;
-    Ok(texts.said(alloc)?)
-}
-
-/// The calls of the first method of the first class.
-fn first_calls(alloc: Global, program: &Program, outside: &Outside) -> Result<Vec<Edge>, Trouble> {
-    let live = live_set(alloc, program, outside)?;
-    let tables = tables_of(alloc, program)?;
-    let first = MethodAt { class: 0, place: 0 };
-    Ok(callees(alloc, program, &tables, &live, first)?)
-}
-
-/// Adds calls, each target behind the position of its call.
-fn add_calls(
-    alloc: Global,
-    program: &Program,
-    calls: &[Edge],
-    texts: &mut Texts,
-) -> Result<(), AllocError> {
-    for edge in calls {
-        let position = edge.position;
-        let target = defined_text(alloc, program, edge.target)?;
-        texts.add(format!(in alloc; "{position}:{target}")?.as_str())?;
-    }
+    add_methods(alloc, program, methods.as_slice(), texts);
     Ok(())
 }
 
-/// What the first method of the first class may call, each behind the position of the call, where this is live.
-pub fn calls(alloc: Global, program: &Program, line: &str) -> Result<String, Trouble> {
-    let outside = kept(alloc, program, line)?;
-    let calls = first_calls(alloc, program, &outside)?;
+/// What is live: classes, fields and methods by number, with `!` behind a class of which objects are made.
+fn live(alloc: Global, program: &Program, live: &LiveSet) -> Result<String, AllocError> {
     let mut texts = Texts::new(alloc);
-    add_calls(alloc, program, calls.as_slice(), &mut texts)?;
-    Ok(texts.said(alloc)?)
+    add_live(alloc, program, live, &mut texts)?;
+    texts.said(alloc)
 }
 
-/// An outside with its conditions closed.
-fn closed_by(alloc: Global, program: &Program, outside: &Outside) -> Result<Outside, Trouble> {
-    let tables = tables_of(alloc, program)?;
-    Ok(close(alloc, program, &tables, outside)?)
+/// A call: the target behind the position.
+fn call_text(alloc: Global, program: &Program, edge: &Edge) -> Result<String, AllocError> {
+    let position = edge.position;
+    let target = defined_text(alloc, program, edge.target)?;
+    format!(in alloc; "{position}:{target}")
 }
 
-/// Adds what an outside keeps.
-fn add_kept(
+/// What the first method of the first class may call, each behind the position of the call, where this is live.
+fn calls(
     alloc: Global,
     program: &Program,
-    kept: &Outside,
-    texts: &mut Texts,
-) -> Result<(), AllocError> {
-    add_types(alloc, program, kept.classes.as_slice(), &[], texts)?;
-    add_fields(alloc, program, kept.fields.as_slice(), texts)?;
-    add_methods(alloc, program, kept.methods.as_slice(), texts)
+    tables: &Hierarchy,
+    live: &LiveSet,
+) -> Result<String, AllocError> {
+    let first = MethodAt { class: 0, place: 0 };
+    let calls = callees(alloc, program, tables, live, first)?;
+    let mut texts = Texts::new(alloc);
+    for edge in &calls {
+        texts.add_made(call_text(alloc, program, edge));
+    }
+    texts.said(alloc)
 }
 
-/// Adds what an outside forbids, and what it says is silent.
-fn add_forbidden(
+/// What is live, or what the first method may call. What the live members are is said where call_graph is; here only
+/// their names are printed.
+fn of_live(
     alloc: Global,
     program: &Program,
+    tables: &Hierarchy,
     outside: &Outside,
-    texts: &mut Texts,
-) -> Result<(), AllocError> {
-    if !outside.shrink {
-        texts.add("noshrink")?;
+    is_calls: bool,
+) -> Result<String, AllocError> {
+    let members = live_members(alloc, program, tables, outside)?;
+    if is_calls {
+        calls(alloc, program, tables, &members)
+    } else {
+        live(alloc, program, &members)
     }
-    if !outside.optimise {
-        texts.add("nooptimise")?;
+}
+
+/// What an outside keeps, what it forbids, and what it says is silent.
+fn outside_text(alloc: Global, program: &Program, kept: &Outside) -> Result<String, AllocError> {
+    let mut texts = Texts::new(alloc);
+    add_types(alloc, program, kept.classes.as_slice(), &[], &mut texts)?;
+    add_fields(alloc, program, kept.fields.as_slice(), &mut texts);
+    add_methods(alloc, program, kept.methods.as_slice(), &mut texts);
+    if !kept.shrink {
+        texts.add("noshrink");
     }
-    if !outside.silent.is_empty() {
-        texts.add("silent")?;
+    if !kept.optimise {
+        texts.add("nooptimise");
     }
-    add_methods(alloc, program, outside.silent.as_slice(), texts)
+    if !kept.silent.is_empty() {
+        texts.add("silent");
+    }
+    add_methods(alloc, program, kept.silent.as_slice(), &mut texts);
+    texts.said(alloc)
 }
 
 /// What is kept without conditions.
-pub fn closed(alloc: Global, program: &Program, line: &str) -> Result<String, Trouble> {
-    let outside = kept(alloc, program, line)?;
-    let closed = closed_by(alloc, program, &outside)?;
-    let mut texts = Texts::new(alloc);
-    add_kept(alloc, program, &closed, &mut texts)?;
-    add_forbidden(alloc, program, &closed, &mut texts)?;
-    Ok(texts.said(alloc)?)
-}
-
-/// What removal leaves.
-fn removed(alloc: Global, program: Program, outside: &Outside) -> Result<Changed, Trouble> {
-    let tables = tables_of(alloc, &program)?;
-    Ok(apply(alloc, program, &tables, outside)?)
+fn closed(
+    alloc: Global,
+    program: &Program,
+    tables: &Hierarchy,
+    outside: &Outside,
+) -> Result<String, AllocError> {
+    let closed = close(alloc, program, tables, outside)?;
+    outside_text(alloc, program, &closed)
 }
 
 /// How much changed, and the program that is left where it isn't the one before.
@@ -201,11 +163,43 @@ fn change_said(alloc: Global, before: &Program, changed: &Changed) -> Result<Str
 }
 
 /// How many classes and members go, and the program that is left.
-pub fn left(alloc: Global, program: Program, line: &str) -> Result<String, Trouble> {
-    let outside = kept(alloc, &program, line)?;
-    let before = program.clone()?;
-    let changed = removed(alloc, program, &outside)?;
-    Ok(change_said(alloc, &before, &changed)?)
+fn left(
+    alloc: Global,
+    program: &Program,
+    tables: &Hierarchy,
+    outside: &Outside,
+) -> Result<String, AllocError> {
+    let changed = apply(alloc, program.clone()?, tables, outside)?;
+    change_said(alloc, program, &changed)
+}
+
+/// What is reached, where these things are kept.
+fn of_kept(
+    alloc: Global,
+    program: &Program,
+    tables: &Hierarchy,
+    outside: &Outside,
+    first: &str,
+) -> Result<String, Trouble> {
+    told(match first {
+        "live" => of_live(alloc, program, tables, outside, false),
+        "calls" => of_live(alloc, program, tables, outside, true),
+        "closed" => closed(alloc, program, tables, outside),
+        "left" => left(alloc, program, tables, outside),
+        _ => return Err(Trouble::Words),
+    })
+}
+
+/// The answer to a line that keeps something and asks what is reached.
+pub fn reached(
+    alloc: Global,
+    program: &Program,
+    tables: &Hierarchy,
+    first: &str,
+    line: &str,
+) -> Result<String, Trouble> {
+    let outside = kept(alloc, program, line)?;
+    of_kept(alloc, program, tables, &outside, first)
 }
 
 /// What the optimisation leaves, with no adviser.
@@ -214,13 +208,23 @@ fn optimised(alloc: Global, program: Program, outside: &Outside) -> Result<Outco
     optimise(alloc, program, outside, &mut panel)
 }
 
-/// How many rounds the optimisation takes, what it removes, and how many methods are spared.
-pub fn rounds(alloc: Global, program: Program, line: &str) -> Result<String, Trouble> {
-    let outside = kept(alloc, &program, line)?;
-    let outcome = optimised(alloc, program, &outside)?;
+/// How many rounds the optimisation took, what it removed, and how many methods are spared.
+fn outcome_text(alloc: Global, outcome: &Outcome) -> Result<String, AllocError> {
     let (rounds, members) = (outcome.rounds, outcome.removed_members);
     let (insns, spared) = (outcome.removed_instructions, outcome.spared);
-    Ok(format!(in alloc;
+    format!(in alloc;
         "rounds {rounds}, members {members}, instructions {insns}, spared {spared}"
-    )?)
+    )
+}
+
+/// How many rounds the optimisation takes where these things are kept, what it removes, and how many methods are spared.
+fn rounds_of(alloc: Global, program: &Program, outside: &Outside) -> Result<String, AllocError> {
+    let outcome = optimised(alloc, program.clone()?, outside)?;
+    outcome_text(alloc, &outcome)
+}
+
+/// How many rounds the optimisation takes, what it removes, and how many methods are spared.
+pub fn rounds(alloc: Global, program: &Program, line: &str) -> Result<String, Trouble> {
+    let outside = kept(alloc, program, line)?;
+    told(rounds_of(alloc, program, &outside))
 }

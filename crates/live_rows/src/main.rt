@@ -16,16 +16,16 @@ mod names;
 
 use crate::asks::answer;
 use program_text::{TextFault, assemble};
-use row_text::{Page, Trouble, said};
+use row_text::{Page, Trouble, said, told};
 use std::alloc::Global;
 use std::io;
 
 /// The answer to a line that asks.
 fn answered(alloc: Global, page: &Page, line: &str) -> Result<String, Trouble> {
     match assemble(alloc, page.text()) {
-        Ok(program) => answer(alloc, program, line),
+        Ok(program) => answer(alloc, &program, line),
         Err(TextFault::NoMemory) => Err(Trouble::NoMemory),
-        Err(fault) => Ok(format!(in alloc; "{fault:?}")?),
+        Err(fault) => told(format!(in alloc; "{fault:?}")),
     }
 }
 

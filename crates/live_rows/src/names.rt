@@ -1,6 +1,5 @@
 //! What is named in a line, and lists of what is found.
 
-use hierarchy::{Hierarchy, HierarchyFault};
 use program_model::{MethodAt, Program};
 use program_text::{find_field, find_method, find_type, method_text, type_text};
 use row_text::Trouble;
@@ -49,14 +48,5 @@ pub fn defined_text(alloc: Global, program: &Program, at: MethodAt) -> Result<St
     match class.and_then(|class| class.methods.items.get(at.place as usize)) {
         Some(method) => method_text(alloc, program, method.name),
         None => String::from_str(alloc, "?"),
-    }
-}
-
-/// The class graph of a program.
-pub fn tables_of(alloc: Global, program: &Program) -> Result<Hierarchy, Trouble> {
-    match Hierarchy::build(alloc, program) {
-        Ok(tables) => Ok(tables),
-        Err(HierarchyFault::NoMemory) => Err(Trouble::NoMemory),
-        Err(_) => Err(Trouble::Words),
     }
 }

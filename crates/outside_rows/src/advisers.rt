@@ -3,7 +3,7 @@
 use dex_base::Text;
 use program_text::units_of;
 use redex_outside::{Adviser, Ask, BudgetAdviser, Key, Panel, PrefixAdviser};
-use row_text::{Texts, Trouble, number};
+use row_text::{Texts, Trouble, number, told};
 use std::alloc::{AllocError, Global};
 
 /// Whether the method `m()I` of two instructions of this class may be rewritten.
@@ -28,9 +28,9 @@ pub fn budget(alloc: Global, line: &str) -> Result<String, Trouble> {
     adviser.tell(alloc, Key::AtMost, number(words.next().unwrap_or(""))?, "")?;
     let mut texts = Texts::new(alloc);
     for class in words {
-        texts.add(word(adviser.weigh(&ask_about(alloc, class)?)))?;
+        texts.add(word(adviser.weigh(&ask_about(alloc, class)?)));
     }
-    Ok(texts.said(alloc)?)
+    told(texts.said(alloc))
 }
 
 /// What an adviser says of a class that spares what begins with `Lapp/` or with `L` and the character 10000.
@@ -40,7 +40,7 @@ pub fn prefixes(alloc: Global, class: &str) -> Result<String, Trouble> {
     adviser.tell(alloc, Key::Spare, 0, "L\u{10000}")?;
     adviser.tell(alloc, Key::AtMost, 0, "LA;")?;
     let is_yes = adviser.weigh(&ask_about(alloc, class)?);
-    Ok(String::from_str(alloc, word(is_yes))?)
+    told(String::from_str(alloc, word(is_yes)))
 }
 
 /// What a panel of an adviser that spares and one with a budget says of these classes, and what each adviser answered: the
@@ -55,11 +55,11 @@ pub fn panel(alloc: Global, line: &str) -> Result<String, Trouble> {
     panel.tell(alloc, Key::AtMost, number(words.next().unwrap_or(""))?, "")?;
     let mut texts = Texts::new(alloc);
     for class in words {
-        texts.add(word(panel.ask(alloc, &ask_about(alloc, class)?)?))?;
+        texts.add(word(panel.ask(alloc, &ask_about(alloc, class)?)?));
     }
-    texts.add("answers")?;
+    texts.add("answers");
     for answer in &panel.answers {
-        texts.add(word(*answer))?;
+        texts.add(word(*answer));
     }
-    Ok(texts.said(alloc)?)
+    told(texts.said(alloc))
 }

@@ -1,7 +1,7 @@
 //! The loops over what is opened.
 
 use redex_outside::{FetchFault, read_all, write_all};
-use row_text::{Trouble, digits_of, place};
+use row_text::{Trouble, digits_of, place, told};
 use std::alloc::{AllocError, Global};
 use std::io;
 use std::io::{ErrorKind, Read};
@@ -50,14 +50,14 @@ fn two(line: &str) -> Result<(usize, usize), Trouble> {
 pub fn read(alloc: Global, line: &str) -> Result<String, Trouble> {
     let (expected, limit) = two(line)?;
     let read = read_all(alloc, &mut b"input".as_slice(), expected, limit);
-    Ok(said(alloc, read, b"input")?)
+    told(said(alloc, read, b"input"))
 }
 
 /// What is read where the second read fails.
 pub fn broken(alloc: Global, line: &str) -> Result<String, Trouble> {
     let (expected, limit) = two(line)?;
     let read = read_all(alloc, &mut Breaking { given: false }, expected, limit);
-    Ok(said(alloc, read, &[7])?)
+    told(said(alloc, read, &[7]))
 }
 
 /// What is read of 100,000 bytes.
@@ -66,7 +66,7 @@ pub fn long(alloc: Global, line: &str) -> Result<String, Trouble> {
     let mut long = Vec::new(alloc);
     long.resize(100_000, 3)?;
     let read = read_all(alloc, &mut long.as_slice(), expected, limit);
-    Ok(said(alloc, read, long.as_slice())?)
+    told(said(alloc, read, long.as_slice()))
 }
 
 /// Whether a text is written into room for four bytes, and what is there then.
@@ -75,5 +75,5 @@ pub fn write(alloc: Global, text: &str) -> Result<String, Trouble> {
     let mut space = room.as_mut_slice();
     let is_written = write_all(&mut space, text.as_bytes()).is_ok();
     let found = digits_of(alloc, &room)?;
-    Ok(format!(in alloc; "{is_written}, {found}")?)
+    told(format!(in alloc; "{is_written}, {found}"))
 }

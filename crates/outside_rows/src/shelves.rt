@@ -4,7 +4,7 @@ use redex_outside::{
     Fail, FetchFault, FileShelf, MemoryNotes, MemoryShelf, NoteFault, Notes, PutFault, Shelf,
     StdNotes, SureShelf,
 };
-use row_text::{Texts, Trouble, place};
+use row_text::{Texts, Trouble, place, told};
 use std::alloc::{AllocError, Global};
 use std::rt::{Env, Files};
 use std::{env, fs};
@@ -81,13 +81,12 @@ pub fn memory(alloc: Global, line: &str) -> Result<String, Trouble> {
     shelf.add(alloc, "out", b"old")?;
     let mut texts = Texts::new(alloc);
     for word in words {
-        let text = match word.strip_prefix("held:") {
-            Some(name) => held(alloc, shelf.bytes(name))?,
-            None => call(alloc, &mut shelf, word)?,
-        };
-        texts.add(text.as_str())?;
+        match word.strip_prefix("held:") {
+            Some(name) => texts.add_made(held(alloc, shelf.bytes(name))),
+            None => texts.add(call(alloc, &mut shelf, word)?.as_str()),
+        }
     }
-    Ok(texts.said(alloc)?)
+    told(texts.said(alloc))
 }
 
 /// What a sure shelf answers; `add:NAME:TEXT` puts something on it.
@@ -99,12 +98,12 @@ pub fn sure(alloc: Global, line: &str) -> Result<String, Trouble> {
             let (name, text) = added.split_once(':').ok_or(Trouble::Words)?;
             shelf.add(alloc, name, text.as_bytes())?;
         } else if let Some(name) = word.strip_prefix("held:") {
-            texts.add(held(alloc, shelf.bytes(name))?.as_str())?;
+            texts.add_made(held(alloc, shelf.bytes(name)));
         } else {
-            texts.add(call(alloc, &mut shelf, word)?.as_str())?;
+            texts.add(call(alloc, &mut shelf, word)?.as_str());
         }
     }
-    Ok(texts.said(alloc)?)
+    told(texts.said(alloc))
 }
 
 /// The name of a file that isn't there yet, in the folder for such files.
@@ -114,7 +113,7 @@ fn new_file(rt: &(impl Files + Env + AllocGlobal)) -> Result<String, Trouble> {
     path.push("redex_outside_rows").map_err(|_| Trouble::Words)?;
     let name = path.to_str().ok_or(Trouble::Words)?;
     let _ = fs::remove_file(rt, name);
-    Ok(String::from_str(alloc, name)?)
+    told(String::from_str(alloc, name))
 }
 
 /// What a shelf of files answers, where `FILE` stands for a file that isn't there yet.
@@ -131,10 +130,10 @@ pub fn files(rt: &(impl Files + Env + AllocGlobal), line: &str) -> Result<String
             }
             None => call(alloc, &mut shelf, word)?,
         };
-        texts.add(answer.as_str())?;
+        texts.add(answer.as_str());
     }
     let _ = fs::remove_file(rt, name.as_str());
-    Ok(texts.said(alloc)?)
+    told(texts.said(alloc))
 }
 
 /// What is said of a note.
@@ -154,10 +153,10 @@ pub fn notes(alloc: Global, line: &str) -> Result<String, Trouble> {
     let mut notes = MemoryNotes::new(alloc, fails);
     let mut texts = Texts::new(alloc);
     for word in words {
-        texts.add(noted(alloc, notes.say(alloc, word.as_bytes()))?.as_str())?;
+        texts.add_made(noted(alloc, notes.say(alloc, word.as_bytes())));
     }
-    texts.add(quoted(alloc, notes.bytes())?.as_str())?;
-    Ok(texts.said(alloc)?)
+    texts.add_made(quoted(alloc, notes.bytes()));
+    told(texts.said(alloc))
 }
 
 /// Says a line on standard output.
@@ -165,5 +164,5 @@ pub fn standard(rt: &(impl Print + AllocGlobal), line: &str) -> Result<String, T
     let alloc = rt.alloc();
     let line = format!(in alloc; "{line}\n")?;
     let mut notes = StdNotes::new(rt);
-    Ok(noted(alloc, notes.say(alloc, line.as_bytes()))?)
+    told(noted(alloc, notes.say(alloc, line.as_bytes())))
 }

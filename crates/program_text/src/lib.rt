@@ -42,6 +42,7 @@ mod forms;
 mod names;
 mod operands;
 mod parts;
+mod printed;
 mod printer;
 mod reader;
 mod values;

@@ -25,6 +25,27 @@ fn list_of(alloc: Global, fail: Option<Fail>) -> Result<Vec<Fail>, AllocError> {
     Ok(fails)
 }
 
+/// The words of a line.
+fn words_of(alloc: Global, words: &str) -> Result<Vec<String>, AllocError> {
+    let mut list = Vec::new(alloc);
+    for word in words.split_whitespace() {
+        list.push(String::from_str(alloc, word)?)?;
+    }
+    Ok(list)
+}
+
+/// The status with which a run ended, and what it said, in whole lines.
+fn told_text(alloc: Global, status: u8, said: &[u8]) -> Result<String, AllocError> {
+    let mut told = format!(in alloc; "ends with {status}\n")?;
+    for byte in said {
+        told.push(char::from(*byte))?;
+    }
+    if !told.ends_with('\n') {
+        told.push_str(" without an end\n")?;
+    }
+    Ok(told)
+}
+
 impl Desk {
     /// An empty desk.
     pub fn new(alloc: Global) -> Desk {
@@ -46,8 +67,8 @@ impl Desk {
     }
 
     /// What the shelf holds under a name, the empty list where that is nothing.
-    pub fn held(&self, name: &str) -> Result<Vec<u8>, AllocError> {
-        Vec::from_slice(self.alloc, self.shelf.bytes(name).unwrap_or(b""))
+    pub fn held(&self, name: &str) -> &[u8] {
+        self.shelf.bytes(name).unwrap_or(b"")
     }
 
     /// Puts bytes under a name.
@@ -57,7 +78,7 @@ impl Desk {
 
     /// Adds a line to what a name holds.
     pub fn add_line(&mut self, name: &str, line: &str) -> Result<(), AllocError> {
-        let mut text = self.held(name)?;
+        let mut text = Vec::from_slice(self.alloc, self.held(name))?;
         if self.shelf.bytes(name).is_some() {
             text.push(b'\n')?;
         }
@@ -65,8 +86,8 @@ impl Desk {
         self.put(name, text.as_slice())
     }
 
-    /// Runs these words, and answers the status and what was said, in whole lines.
-    fn run_words(&mut self, words: &[String]) -> Result<String, AllocError> {
+    /// The advisers of a run.
+    fn advisers(&self) -> Result<Vec<Box<dyn Adviser>>, AllocError> {
         let alloc = self.alloc;
         let mut advisers: Vec<Box<dyn Adviser>> = Vec::new(alloc);
         if self.is_forgetful {
@@ -74,35 +95,38 @@ impl Desk {
         }
         advisers.push(Box::new(alloc, PrefixAdviser::new(alloc))?)?;
         advisers.push(Box::new(alloc, BudgetAdviser::new())?)?;
+        Ok(advisers)
+    }
+
+    /// Runs these words, and answers the status and what was said, in whole lines.
+    fn run_words(&mut self, words: &[String]) -> Result<String, AllocError> {
+        let alloc = self.alloc;
         let mut notes = MemoryNotes::new(alloc, list_of(alloc, self.saying)?);
+        let advisers = self.advisers()?;
         let status = run(alloc, words, &mut self.shelf, &mut notes, advisers).code();
-        let mut told = format!(in alloc; "ends with {status}\n")?;
-        for byte in notes.bytes() {
-            told.push(char::from(*byte))?;
+        told_text(alloc, status, notes.bytes())
+    }
+
+    /// What the output holds, nothing where that is what it held before.
+    fn out_text(&self, before: &[u8]) -> Result<String, AllocError> {
+        let after = self.held("out");
+        if after == before {
+            Ok(String::new(self.alloc))
+        } else if after == self.held("in") {
+            String::from_str(self.alloc, "out is in\n")
+        } else {
+            text_of(self.alloc, after)
         }
-        if !told.ends_with('\n') {
-            told.push_str(" without an end\n")?;
-        }
-        Ok(told)
     }
 
     /// Runs these words, and answers the status, what was said, and what the output holds where that has changed.
     pub fn run(&mut self, words: &str) -> Result<String, AllocError> {
-        let alloc = self.alloc;
-        let mut list = Vec::new(alloc);
-        for word in words.split_whitespace() {
-            list.push(String::from_str(alloc, word)?)?;
-        }
-        let before = self.held("out")?;
-        let mut told = self.run_words(&list)?;
+        let list = words_of(self.alloc, words)?;
+        let before = Vec::from_slice(self.alloc, self.held("out"))?;
+        let mut told = self.run_words(list.as_slice())?;
         self.saying = None;
         self.is_forgetful = false;
-        let after = self.held("out")?;
-        if after != before && after == self.held("in")? {
-            told.push_str("out is in\n")?;
-        } else if after != before {
-            told.push_str(text_of(alloc, after.as_slice())?.as_str())?;
-        }
-        String::from_str(alloc, told.strip_suffix('\n').unwrap_or(""))
+        told.push_str(self.out_text(before.as_slice())?.as_str())?;
+        String::from_str(self.alloc, told.strip_suffix('\n').unwrap_or(""))
     }
 }

@@ -29,28 +29,34 @@ fn fail_of(line: &str) -> Result<Fail, Trouble> {
 fn shown(alloc: Global, desk: &Desk, line: &str) -> Result<String, Trouble> {
     let (name, places) = two(line)?;
     let (from, to) = two(places)?;
-    let held = desk.held(name)?;
-    let shown = held.get(place(from)?..place(to)?).ok_or(Trouble::Words)?;
-    Ok(digits_of(alloc, shown)?)
+    let held = desk.held(name).get(place(from)?..place(to)?);
+    Ok(digits_of(alloc, held.ok_or(Trouble::Words)?)?)
+}
+
+/// A file with bytes over those from a place on.
+fn over(alloc: Global, file: &[u8], line: &str) -> Result<Vec<u8>, Trouble> {
+    let (at, words) = two(line)?;
+    let at = place(at)?;
+    let over = raw(alloc, words)?;
+    Ok(changed(alloc, file, at, over.as_slice())?)
+}
+
+/// A file changed as a word says.
+fn changed_by(alloc: Global, file: &[u8], first: &str, rest: &str) -> Result<Vec<u8>, Trouble> {
+    match first {
+        "cut" => {
+            let front = file.get(..place(rest)?).ok_or(Trouble::Words)?;
+            Ok(Vec::from_slice(alloc, front)?)
+        }
+        "over" => over(alloc, file, rest),
+        "sum" => Ok(summed(alloc, file)?),
+        _ => Err(Trouble::Words),
+    }
 }
 
 /// Changes the file as a word says.
 fn change(alloc: Global, desk: &mut Desk, first: &str, rest: &str) -> Result<(), Trouble> {
-    let file = desk.held("in")?;
-    let file = match first {
-        "cut" => Vec::from_slice(alloc, file.get(..place(rest)?).ok_or(Trouble::Words)?)?,
-        "over" => {
-            let (at, over) = two(rest)?;
-            changed(
-                alloc,
-                file.as_slice(),
-                place(at)?,
-                raw(alloc, over)?.as_slice(),
-            )?
-        }
-        "sum" => summed(alloc, file.as_slice())?,
-        _ => return Err(Trouble::Words),
-    };
+    let file = changed_by(alloc, desk.held("in"), first, rest)?;
     Ok(desk.put("in", file.as_slice())?)
 }
 

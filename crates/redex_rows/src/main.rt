@@ -29,7 +29,29 @@ mod many;
 use crate::desk::Desk;
 use crate::lines::answer;
 use row_text::{Page, said};
+use std::alloc::{AllocError, Global};
 use std::io;
+
+/// What is written for a line: the line, with its answer behind it where it asks something, and nothing for one of a
+/// program.
+fn written(
+    alloc: Global,
+    page: &mut Page,
+    desk: &mut Desk,
+    line: &str,
+) -> Result<Option<String>, AllocError> {
+    if !page.takes(line)? {
+        if page.is_in_program() {
+            return Ok(None);
+        }
+        return Ok(Some(String::from_str(alloc, line)?));
+    }
+    match answer(alloc, desk, page.text(), line) {
+        Ok(None) => Ok(Some(String::from_str(alloc, line)?)),
+        Ok(Some(text)) => Ok(Some(said(alloc, line, Ok(text))?)),
+        Err(trouble) => Ok(Some(said(alloc, line, Err(trouble))?)),
+    }
+}
 
 fn main(rt: HostRuntime) -> io::Result<()> {
     let alloc = rt.alloc();
@@ -37,16 +59,8 @@ fn main(rt: HostRuntime) -> io::Result<()> {
     let mut desk = Desk::new(alloc);
     for line in rt.lines(alloc) {
         let line = line?;
-        if !page.takes(line.as_str())? {
-            if !page.is_in_program() {
-                rt.println(line)?;
-            }
-        } else {
-            match answer(alloc, &mut desk, page.text(), line.as_str()) {
-                Ok(None) => rt.println(line)?,
-                Ok(Some(text)) => rt.println(said(alloc, line.as_str(), Ok(text))?)?,
-                Err(trouble) => rt.println(said(alloc, line.as_str(), Err(trouble))?)?,
-            }
+        if let Some(text) = written(alloc, &mut page, &mut desk, line.as_str())? {
+            rt.println(text)?;
         }
     }
     Ok(())

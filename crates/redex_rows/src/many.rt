@@ -7,7 +7,7 @@ use std::alloc::{AllocError, Global};
 /// What a run answers on each shorter beginning of the file, said once for all lengths, one behind the other, for which it is
 /// the same.
 pub fn each_cut(alloc: Global, desk: &mut Desk, words: &str) -> Result<String, AllocError> {
-    let file = desk.held("in")?;
+    let file = Vec::from_slice(alloc, desk.held("in"))?;
     let mut told = String::new(alloc);
     let mut last = String::new(alloc);
     for length in 0..file.len() {
@@ -32,7 +32,7 @@ fn is_harmless(answer: &str) -> bool {
 
 /// How many runs are harmless of those on the file with one bit turned and its checksum made right.
 pub fn each_turn(alloc: Global, desk: &mut Desk, words: &str) -> Result<String, AllocError> {
-    let file = desk.held("in")?;
+    let file = Vec::from_slice(alloc, desk.held("in"))?;
     let mut harmless: u32 = 0;
     let mut all: u32 = 0;
     for (at, byte) in file.iter().enumerate().skip(32) {

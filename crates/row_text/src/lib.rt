@@ -9,4 +9,4 @@ mod texts;
 
 pub use page::{Page, said};
 pub use pieces::{Trouble, bytes, digits_of, lines_of, number, numbers, place};
-pub use texts::{Texts, list_of};
+pub use texts::{Texts, list_of, told};

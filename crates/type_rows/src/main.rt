@@ -7,10 +7,25 @@
 use hierarchy::Hierarchy;
 use program_model::{Program, well_formed};
 use program_text::{TextFault, assemble, method_text};
-use row_text::{Page, Trouble, said};
+use row_text::{Page, Trouble, said, told};
 use std::alloc::{AllocError, Global};
 use std::io;
 use verify::{TypeFault, verify_all};
+
+/// Where a body is refused.
+fn fault_text(alloc: Global, program: &Program, fault: TypeFault) -> Result<String, AllocError> {
+    match fault {
+        TypeFault::NoMemory => Err(AllocError),
+        TypeFault::IllTyped {
+            method,
+            position,
+            register,
+        } => {
+            let method = method_text(alloc, program, method)?;
+            format!(in alloc; "{method} at {position}, register {register}")
+        }
+    }
+}
 
 /// What the verifier says of a program.
 fn verdict(alloc: Global, program: &Program) -> Result<String, AllocError> {
@@ -22,26 +37,16 @@ fn verdict(alloc: Global, program: &Program) -> Result<String, AllocError> {
     };
     match verify_all(alloc, program, &hierarchy) {
         Ok(()) => String::from_str(alloc, "typed"),
-        Err(TypeFault::NoMemory) => Err(AllocError),
-        Err(
-            TypeFault::IllTyped {
-                method,
-                position,
-                register,
-            },
-        ) => {
-            let method = method_text(alloc, program, method)?;
-            format!(in alloc; "{method} at {position}, register {register}")
-        }
+        Err(fault) => fault_text(alloc, program, fault),
     }
 }
 
 /// The answer to a line that asks.
 fn answered(alloc: Global, page: &Page) -> Result<String, Trouble> {
     match assemble(alloc, page.text()) {
-        Ok(program) => Ok(verdict(alloc, &program)?),
+        Ok(program) => told(verdict(alloc, &program)),
         Err(TextFault::NoMemory) => Err(Trouble::NoMemory),
-        Err(fault) => Ok(format!(in alloc; "{fault:?}")?),
+        Err(fault) => told(format!(in alloc; "{fault:?}")),
     }
 }
 

@@ -31,37 +31,6 @@ pub struct ProtoOf {
     pub words: u16,
 }
 
-/// The units of a word, in which a backslash and four hexadecimal digits are one.
-pub fn units_of(alloc: Global, word: &str) -> Result<Vec<u16>, AllocError> {
-    let mut units = Vec::new(alloc);
-    let mut unit: u16 = 0;
-    let mut digits: u8 = 0;
-    for byte in word.as_bytes() {
-        if digits > 0 {
-            unit = unit.wrapping_mul(16).wrapping_add(digit(*byte));
-            digits -= 1;
-        } else if *byte == b'\\' {
-            unit = 0;
-            digits = 4;
-        } else {
-            unit = u16::from(*byte);
-        }
-        if digits == 0 {
-            units.push(unit)?;
-        }
-    }
-    Ok(units)
-}
-
-/// What a hexadecimal digit stands for, 0 for other bytes.
-fn digit(byte: u8) -> u16 {
-    match byte {
-        b'0'..=b'9' => u16::from(byte - b'0'),
-        b'a'..=b'f' => u16::from(byte - b'a') + 10,
-        _ => 0,
-    }
-}
-
 /// How a type stands in a shorty.
 fn short_unit(descriptor: &[u16]) -> u16 {
     match descriptor.first() {
@@ -131,7 +100,7 @@ impl Names {
     }
 
     /// Remembers whether memory ran out.
-    pub fn note(&mut self, is_lost: bool) {
+    fn note(&mut self, is_lost: bool) {
         self.lacks_memory = self.lacks_memory || is_lost;
     }
 

@@ -1,15 +1,14 @@
 //! Writes programs as text.
 
+use crate::answer::Answer;
 use crate::forms::spelled;
 use crate::parts::parts_of;
-use crate::printed::Printed;
 use crate::values::push_flags;
 use program_model::{
     Body, Class, EncValue, Field, Flags, Insn, Mark, Method, Program, Region, Version,
 };
-use std::alloc::{AllocError, Global};
 
-fn push_string(out: &mut Printed, program: &Program, string: u32) {
+fn push_string(out: &mut Answer, program: &Program, string: u32) {
     let Some(text) = program.strings.items.get(string as usize) else {
         out.say("?");
         return;
@@ -19,88 +18,71 @@ fn push_string(out: &mut Printed, program: &Program, string: u32) {
     }
 }
 
-fn push_type(out: &mut Printed, program: &Program, kind: u32) {
+/// Adds the text of a type number, `?` where there is none.
+pub fn say_type(out: &mut Answer, program: &Program, kind: u32) {
     let string = program.types.items.get(kind as usize).copied();
     push_string(out, program, string.unwrap_or(u32::MAX));
 }
 
+/// Adds the text `CLASS->NAME:TYPE` of a field number, `?` where there is none.
+pub fn say_field(out: &mut Answer, program: &Program, field: u32) {
+    push_field(out, program, field, false);
+}
+
 /// Adds `CLASS->NAME:TYPE`, without the class and with a blank in place of the colon where the class is said already.
-fn push_field(out: &mut Printed, program: &Program, field: u32, is_own: bool) {
+fn push_field(out: &mut Answer, program: &Program, field: u32, is_own: bool) {
     let Some(name) = program.fields.items.get(field as usize) else {
         out.say("?");
         return;
     };
     if !is_own {
-        push_type(out, program, name.class);
+        say_type(out, program, name.class);
         out.say("->");
     }
     push_string(out, program, name.name);
     out.say(if is_own { " " } else { ":" });
-    push_type(out, program, name.kind);
+    say_type(out, program, name.kind);
 }
 
 /// Adds the parameters and the result of a proto.
-fn push_proto(out: &mut Printed, program: &Program, proto: u32) {
+fn push_proto(out: &mut Answer, program: &Program, proto: u32) {
     let Some(proto) = program.protos.items.get(proto as usize) else {
         out.say("?");
         return;
     };
     out.say("(");
     for kind in proto.parameters.as_slice() {
-        push_type(out, program, *kind);
+        say_type(out, program, *kind);
     }
     out.say(")");
-    push_type(out, program, proto.result);
+    say_type(out, program, proto.result);
+}
+
+/// Adds the text `CLASS->NAME(PARAMETERS)RESULT` of a method number, `?` where there is none.
+pub fn say_method(out: &mut Answer, program: &Program, method: u32) {
+    push_method(out, program, method, false);
 }
 
 /// Adds `CLASS->NAME(PARAMETERS)RESULT`, or what is behind the arrow where the class is said already.
-fn push_method(out: &mut Printed, program: &Program, method: u32, is_own: bool) {
+fn push_method(out: &mut Answer, program: &Program, method: u32, is_own: bool) {
     let Some(name) = program.methods.items.get(method as usize) else {
         out.say("?");
         return;
     };
     if !is_own {
-        push_type(out, program, name.class);
+        say_type(out, program, name.class);
         out.say("->");
     }
     push_string(out, program, name.name);
     push_proto(out, program, name.proto);
 }
 
-/// The text of a string number, `?` where there is none.
-pub fn string_text(alloc: Global, program: &Program, string: u32) -> Result<String, AllocError> {
-    let mut out = Printed::new(alloc);
-    push_string(&mut out, program, string);
-    out.all()
-}
-
-/// The text of a type number, `?` where there is none.
-pub fn type_text(alloc: Global, program: &Program, kind: u32) -> Result<String, AllocError> {
-    let mut out = Printed::new(alloc);
-    push_type(&mut out, program, kind);
-    out.all()
-}
-
-/// The text `CLASS->NAME:TYPE` of a field number, `?` where there is none.
-pub fn field_text(alloc: Global, program: &Program, field: u32) -> Result<String, AllocError> {
-    let mut out = Printed::new(alloc);
-    push_field(&mut out, program, field, false);
-    out.all()
-}
-
-/// The text `CLASS->NAME(PARAMETERS)RESULT` of a method number, `?` where there is none.
-pub fn method_text(alloc: Global, program: &Program, method: u32) -> Result<String, AllocError> {
-    let mut out = Printed::new(alloc);
-    push_method(&mut out, program, method, false);
-    out.all()
-}
-
 /// Adds flags and annotations.
-fn push_access(out: &mut Printed, program: &Program, flags: Flags, marks: &[Mark]) {
+fn push_access(out: &mut Answer, program: &Program, flags: Flags, marks: &[Mark]) {
     push_flags(out, flags.0);
     for mark in marks {
         out.say(" @");
-        push_type(out, program, mark.note.class);
+        say_type(out, program, mark.note.class);
     }
 }
 
@@ -120,7 +102,7 @@ fn number_of(value: &EncValue) -> Option<(&'static str, i128)> {
 }
 
 /// Adds a first value.
-fn push_value(out: &mut Printed, program: &Program, value: &EncValue) {
+fn push_value(out: &mut Answer, program: &Program, value: &EncValue) {
     match number_of(value) {
         Some((word, number)) => out.say_number(word, number),
         None => push_named(out, program, value),
@@ -128,7 +110,7 @@ fn push_value(out: &mut Printed, program: &Program, value: &EncValue) {
 }
 
 /// Adds a first value that names something, or `null`.
-fn push_named(out: &mut Printed, program: &Program, value: &EncValue) {
+fn push_named(out: &mut Answer, program: &Program, value: &EncValue) {
     match value {
         EncValue::Str(string) => {
             out.say("string:");
@@ -136,7 +118,7 @@ fn push_named(out: &mut Printed, program: &Program, value: &EncValue) {
         }
         EncValue::Class(kind) => {
             out.say("class:");
-            push_type(out, program, *kind);
+            say_type(out, program, *kind);
         }
         EncValue::Field(field) => {
             out.say("field:");
@@ -156,7 +138,7 @@ fn push_named(out: &mut Printed, program: &Program, value: &EncValue) {
 }
 
 /// Adds the line of a field.
-fn push_field_line(out: &mut Printed, program: &Program, field: &Field) {
+fn push_field_line(out: &mut Answer, program: &Program, field: &Field) {
     out.say("  field ");
     push_field(out, program, field.name, true);
     push_access(out, program, field.flags, field.marks.as_slice());
@@ -168,35 +150,35 @@ fn push_field_line(out: &mut Printed, program: &Program, field: &Field) {
 }
 
 /// Adds registers.
-fn push_registers(out: &mut Printed, registers: &[u16]) {
+fn push_registers(out: &mut Answer, registers: &[u16]) {
     for register in registers {
         out.say_number(" v", i128::from(*register));
     }
 }
 
 /// Adds the targets of a switch.
-fn push_targets(out: &mut Printed, targets: &[u32]) {
+fn push_targets(out: &mut Answer, targets: &[u32]) {
     for target in targets {
         out.say_number(" :", i128::from(*target));
     }
 }
 
 /// Adds the items of an array.
-fn push_items(out: &mut Printed, items: &[u64]) {
+fn push_items(out: &mut Answer, items: &[u64]) {
     for item in items {
         out.say_number(" ", i128::from(*item));
     }
 }
 
 /// Adds the keys of a switch.
-fn push_keys(out: &mut Printed, keys: &[i32]) {
+fn push_keys(out: &mut Answer, keys: &[i32]) {
     for key in keys {
         out.say_number(" ", i128::from(*key));
     }
 }
 
 /// Adds the registers of a call, and the lists of an array or a switch.
-fn push_lists(out: &mut Printed, insn: &Insn) {
+fn push_lists(out: &mut Answer, insn: &Insn) {
     match insn {
         Insn::Invoke { args, .. } | Insn::FilledNewArray { args, .. } => {
             push_registers(out, args.as_slice());
@@ -212,17 +194,17 @@ fn push_lists(out: &mut Printed, insn: &Insn) {
 }
 
 /// Adds what an instruction names, by the last letter of what its operands are.
-fn push_name(out: &mut Printed, program: &Program, kind: u8, name: u32) {
+fn push_name(out: &mut Answer, program: &Program, kind: u8, name: u32) {
     match kind {
         b's' => push_string(out, program, name),
-        b't' => push_type(out, program, name),
+        b't' => say_type(out, program, name),
         b'f' => push_field(out, program, name, false),
         _ => push_method(out, program, name, false),
     }
 }
 
 /// Adds the line of an instruction.
-fn push_insn(out: &mut Printed, program: &Program, insn: &Insn) {
+fn push_insn(out: &mut Answer, program: &Program, insn: &Insn) {
     let parts = parts_of(insn);
     let Some((operands, mnemonic)) = spelled(parts.form, parts.operation) else {
         return;
@@ -273,7 +255,7 @@ fn is_named(region: &Region, position: u32) -> bool {
 }
 
 /// Adds the label of a position that something names.
-fn push_label(out: &mut Printed, body: &Body, position: u32) {
+fn push_label(out: &mut Answer, body: &Body, position: u32) {
     if body
         .insns
         .as_slice()
@@ -291,12 +273,12 @@ fn push_label(out: &mut Printed, body: &Body, position: u32) {
 }
 
 /// Adds the line of a region.
-fn push_region(out: &mut Printed, program: &Program, region: &Region) {
+fn push_region(out: &mut Answer, program: &Program, region: &Region) {
     out.say_number("    try :", i128::from(region.first));
     out.say_number(" :", i128::from(region.end));
     for handler in region.handlers.as_slice() {
         out.say(" ");
-        push_type(out, program, handler.kind);
+        say_type(out, program, handler.kind);
         out.say_number(" :", i128::from(handler.position));
     }
     if let Some(rest) = region.rest {
@@ -306,7 +288,7 @@ fn push_region(out: &mut Printed, program: &Program, region: &Region) {
 }
 
 /// Adds the lines of code.
-fn push_code(out: &mut Printed, program: &Program, body: &Body, lines: &[u32]) {
+fn push_code(out: &mut Answer, program: &Program, body: &Body, lines: &[u32]) {
     out.say_number("    registers ", i128::from(body.registers));
     out.say_number("\n    ins ", i128::from(body.ins));
     out.say("\n");
@@ -329,15 +311,13 @@ fn push_code(out: &mut Printed, program: &Program, body: &Body, lines: &[u32]) {
     }
 }
 
-/// The text of a body, whose lines begin with blanks.
-pub fn body_text(alloc: Global, program: &Program, body: &Body) -> Result<String, AllocError> {
-    let mut out = Printed::new(alloc);
-    push_code(&mut out, program, body, &[]);
-    out.all()
+/// Adds the text of a body, whose lines begin with blanks.
+pub fn say_body(out: &mut Answer, program: &Program, body: &Body) {
+    push_code(out, program, body, &[]);
 }
 
 /// Adds the lines of a method.
-fn push_method_lines(out: &mut Printed, program: &Program, method: &Method) {
+fn push_method_lines(out: &mut Answer, program: &Program, method: &Method) {
     out.say("  method ");
     push_method(out, program, method.name, true);
     push_access(out, program, method.flags, method.marks.as_slice());
@@ -348,12 +328,12 @@ fn push_method_lines(out: &mut Printed, program: &Program, method: &Method) {
 }
 
 /// Adds the line of a class.
-fn push_class_line(out: &mut Printed, program: &Program, class: &Class) {
+fn push_class_line(out: &mut Answer, program: &Program, class: &Class) {
     out.say("class ");
-    push_type(out, program, class.name);
+    say_type(out, program, class.name);
     push_access(out, program, class.flags, class.marks.as_slice());
     out.say(" extends ");
-    push_type(out, program, class.superclass);
+    say_type(out, program, class.superclass);
     if let Some(source) = class.source {
         out.say(" source ");
         push_string(out, program, source);
@@ -363,13 +343,13 @@ fn push_class_line(out: &mut Printed, program: &Program, class: &Class) {
     }
     for kind in class.interfaces.as_slice() {
         out.say(" ");
-        push_type(out, program, *kind);
+        say_type(out, program, *kind);
     }
     out.say("\n");
 }
 
 /// Adds the lines of a class.
-fn push_class(out: &mut Printed, program: &Program, class: &Class) {
+fn push_class(out: &mut Answer, program: &Program, class: &Class) {
     push_class_line(out, program, class);
     for field in class.fields.as_slice() {
         push_field_line(out, program, field);
@@ -379,15 +359,13 @@ fn push_class(out: &mut Printed, program: &Program, class: &Class) {
     }
 }
 
-/// The text of a program's classes, which spells the program again where its tables are in order and have what the classes
-/// name, and no annotation has elements. What has no entry of its table is `?`.
-pub fn print(alloc: Global, program: &Program) -> Result<String, AllocError> {
-    let mut out = Printed::new(alloc);
+/// Adds the text of a program's classes, which spells the program again where its tables are in order and have what the
+/// classes name, and no annotation has elements. What has no entry of its table is `?`.
+pub fn print(out: &mut Answer, program: &Program) {
     if program.version == Version::V037 {
         out.say("version 037\n");
     }
     for class in program.classes.as_slice() {
-        push_class(&mut out, program, class);
+        push_class(out, program, class);
     }
-    out.all()
 }

@@ -1,9 +1,9 @@
 //! Reads a text as a program, twice: the first time gathers what is named and where labels stand, and the second time
 //! has the numbers of all that.
 
-use crate::fault::TextFault;
+use crate::answer::Answer;
 use crate::forms::{Found, find};
-use crate::names::{Names, ProtoOf, units_of};
+use crate::names::{Names, ProtoOf};
 use crate::operands::{Operands, insn_of};
 use crate::values::{flag_of, named_value, number_value};
 use program_model::{
@@ -54,14 +54,15 @@ impl Part {
 
 /// What was read so far. `program` has the classes that have ended; `class`, `method` and `body` are those that go on,
 /// `words` the registers that the method's arguments take, and `line` the line of the source of what comes. That a line
-/// can't be read is remembered until its end: so what reads a part of it has no way out of its own.
+/// can't be read is remembered in `seen`, and its number in `wrong`: so what reads a part of it has no way out of its own.
 #[derive(Drop)]
 struct Assembler {
     alloc: Global,
+    seen: Answer,
+    wrong: u32,
     names: Names,
     labels: BTreeMap<String, u32>,
     is_second: bool,
-    is_wrong: bool,
     program: Program,
     class: Option<Class>,
     class_name: Vec<u16>,
@@ -111,10 +112,11 @@ impl Assembler {
     fn new(alloc: Global) -> Self {
         Assembler {
             alloc,
+            seen: Answer::new(alloc),
+            wrong: 0,
             names: Names::new(alloc),
             labels: BTreeMap::new(alloc),
             is_second: false,
-            is_wrong: false,
             program: empty(alloc),
             class: None,
             class_name: Vec::new(alloc),
@@ -127,42 +129,20 @@ impl Assembler {
         }
     }
 
-    /// The two texts around a mark.
-    fn split<'a>(&mut self, text: &'a str, mark: &str) -> (&'a str, &'a str) {
-        match text.split_once(mark) {
-            Some(both) => both,
-            None => {
-                self.is_wrong = true;
-                ("", "")
-            }
-        }
-    }
-
     /// The word at a place.
     fn word<'a>(&mut self, words: &[&'a str], place: usize) -> &'a str {
         match words.get(place) {
             Some(word) => *word,
             None => {
-                self.is_wrong = true;
+                self.seen.refuse();
                 ""
-            }
-        }
-    }
-
-    /// The units of a word.
-    fn units(&mut self, word: &str) -> Vec<u16> {
-        match units_of(self.alloc, word) {
-            Ok(units) => units,
-            Err(_) => {
-                self.names.note(true);
-                Vec::new(self.alloc)
             }
         }
     }
 
     /// The number of a type.
     fn kind(&mut self, word: &str) -> u32 {
-        let units = self.units(word);
+        let units = self.seen.units(word);
         self.names.kind(units.as_slice())
     }
 
@@ -170,17 +150,17 @@ impl Assembler {
     fn string(&mut self, word: &str) -> u32 {
         let word = word.strip_prefix('"').unwrap_or(word);
         let word = word.strip_suffix('"').unwrap_or(word);
-        let units = self.units(word);
+        let units = self.seen.units(word);
         self.names.string(units.as_slice())
     }
 
     /// The number of a field `CLASS->NAME:TYPE`.
     fn field(&mut self, word: &str) -> u32 {
-        let (class, member) = self.split(word, "->");
-        let (name, kind) = self.split(member, ":");
-        let class = self.units(class);
-        let name = self.units(name);
-        let kind = self.units(kind);
+        let (class, member) = self.seen.split(word, "->");
+        let (name, kind) = self.seen.split(member, ":");
+        let class = self.seen.units(class);
+        let name = self.seen.units(name);
+        let kind = self.seen.units(kind);
         self.names.field(
             &mut self.program,
             class.as_slice(),
@@ -191,11 +171,11 @@ impl Assembler {
 
     /// The method `NAME(PARAMETERS)RESULT` of a class.
     fn method_in(&mut self, class: &[u16], member: &str) -> ProtoOf {
-        let (name, proto) = self.split(member, "(");
-        let (parameters, answer) = self.split(proto, ")");
-        let name = self.units(name);
-        let parameters = self.units(parameters);
-        let answer = self.units(answer);
+        let (name, proto) = self.seen.split(member, "(");
+        let (parameters, answer) = self.seen.split(proto, ")");
+        let name = self.seen.units(name);
+        let parameters = self.seen.units(parameters);
+        let answer = self.seen.units(answer);
         let proto = (parameters.as_slice(), answer.as_slice());
         self.names
             .method(&mut self.program, class, name.as_slice(), proto)
@@ -203,8 +183,8 @@ impl Assembler {
 
     /// The number of a method `CLASS->NAME(PARAMETERS)RESULT`.
     fn method(&mut self, word: &str) -> u32 {
-        let (class, member) = self.split(word, "->");
-        let class = self.units(class);
+        let (class, member) = self.seen.split(word, "->");
+        let class = self.seen.units(class);
         self.method_in(class.as_slice(), member).number
     }
 
@@ -213,7 +193,7 @@ impl Assembler {
         match number_value(word) {
             Some(value) => value,
             None => {
-                self.is_wrong = true;
+                self.seen.refuse();
                 EncValue::Null
             }
         }
@@ -246,11 +226,11 @@ impl Assembler {
     fn add_word<'a>(&mut self, word: &'a str, heading: &mut Heading<'a>) {
         if let Some(kind) = word.strip_prefix('@') {
             let mark = self.mark(kind);
-            self.names.note(heading.marks.push(mark).is_err());
+            self.seen.note(heading.marks.push(mark).is_err());
         } else if let Some(flag) = flag_of(word) {
             heading.flags.0 |= flag;
         } else {
-            self.names.note(heading.words.push(word).is_err());
+            self.seen.note(heading.words.push(word).is_err());
         }
     }
 
@@ -284,7 +264,7 @@ impl Assembler {
         method.lines = replace(&mut self.lines, Seq::new(self.alloc));
         self.line = None;
         if let Some(class) = &mut self.class {
-            self.names.note(class.methods.push(method).is_err());
+            self.seen.note(class.methods.push(method).is_err());
         }
     }
 
@@ -292,14 +272,14 @@ impl Assembler {
     fn end_class(&mut self) {
         self.end_method();
         if let Some(class) = self.class.take() {
-            self.names.note(self.program.classes.push(class).is_err());
+            self.seen.note(self.program.classes.push(class).is_err());
         }
     }
 
     /// The number of the class that a line names first, whose members are those that follow.
     fn name_class(&mut self, words: &[&str]) -> u32 {
         let name = self.word(words, 0);
-        self.class_name = self.units(name);
+        self.class_name = self.seen.units(name);
         self.kind(name)
     }
 
@@ -307,7 +287,7 @@ impl Assembler {
     fn add_interface(&mut self, word: &str) {
         let kind = self.kind(word);
         if let Some(class) = &mut self.class {
-            self.names.note(class.interfaces.push(kind).is_err());
+            self.seen.note(class.interfaces.push(kind).is_err());
         }
     }
 
@@ -360,8 +340,8 @@ impl Assembler {
     fn field_named(&mut self, words: &[&str]) -> u32 {
         let name = self.word(words, 0);
         let kind = self.word(words, 1);
-        let name = self.units(name);
-        let kind = self.units(kind);
+        let name = self.seen.units(name);
+        let kind = self.seen.units(kind);
         self.names.field(
             &mut self.program,
             self.class_name.as_slice(),
@@ -382,8 +362,8 @@ impl Assembler {
             marks: heading.marks,
         };
         match &mut self.class {
-            Some(class) => self.names.note(class.fields.push(field).is_err()),
-            None => self.is_wrong = true,
+            Some(class) => self.seen.note(class.fields.push(field).is_err()),
+            None => self.seen.refuse(),
         }
     }
 
@@ -391,7 +371,7 @@ impl Assembler {
     fn method_named(&mut self, words: &[&str]) -> ProtoOf {
         let mut member = String::new(self.alloc);
         for word in words {
-            self.names.note(member.push_str(*word).is_err());
+            self.seen.note(member.push_str(*word).is_err());
         }
         let class = replace(&mut self.class_name, Vec::new(self.alloc));
         let method = self.method_in(class.as_slice(), member.as_str());
@@ -425,7 +405,7 @@ impl Assembler {
     fn key(&mut self, label: &str) -> Option<String> {
         let methods = self.methods;
         let key = format!(in self.alloc; "{methods}{label}").ok();
-        self.names.note(key.is_none());
+        self.seen.note(key.is_none());
         key
     }
 
@@ -435,13 +415,13 @@ impl Assembler {
             Some(key) => self.labels.get(key.as_str()).copied(),
             None => None,
         };
-        self.is_wrong = self.is_wrong || self.is_second && position.is_none();
+        self.seen.refuse_where(self.is_second && position.is_none());
         position.unwrap_or(0)
     }
 
     /// The position of a label that has to stand there.
     fn label_of(&mut self, word: Option<&str>) -> u32 {
-        self.is_wrong = self.is_wrong || word.is_none();
+        self.seen.refuse_where(word.is_none());
         self.label(word.unwrap_or(""))
     }
 
@@ -461,8 +441,8 @@ impl Assembler {
         let position = self.position();
         if let Some(key) = self.key(label) {
             match self.labels.insert(key, position) {
-                Ok(before) => self.is_wrong = self.is_wrong || before.is_some(),
-                Err(_) => self.names.note(true),
+                Ok(before) => self.seen.refuse_where(before.is_some()),
+                Err(_) => self.seen.note(true),
             }
         }
     }
@@ -489,19 +469,19 @@ impl Assembler {
         let mut is_named = kind == b'-';
         for word in text.split_whitespace().skip(1) {
             if let Some(register) = small(word.strip_prefix('v')) {
-                self.names.note(operands.registers.push(register).is_err());
+                self.seen.note(operands.registers.push(register).is_err());
             } else if word.starts_with(':') {
                 let label = self.label(word);
-                self.names.note(operands.labels.push(label).is_err());
+                self.seen.note(operands.labels.push(label).is_err());
             } else if let Ok(number) = word.parse::<i128>() {
-                self.names.note(operands.numbers.push(number).is_err());
+                self.seen.note(operands.numbers.push(number).is_err());
             } else {
-                self.is_wrong = self.is_wrong || is_named;
+                self.seen.refuse_where(is_named);
                 operands.name = self.name(kind, word);
                 is_named = true;
             }
         }
-        self.is_wrong = self.is_wrong || !is_named;
+        self.seen.refuse_where(!is_named);
         operands
     }
 
@@ -513,7 +493,7 @@ impl Assembler {
         match insn_of(self.alloc, found.form, found.operation, operands) {
             Ok(insn) => insn,
             Err(_) => {
-                self.names.note(true);
+                self.seen.note(true);
                 None
             }
         }
@@ -522,24 +502,24 @@ impl Assembler {
     /// Adds an instruction to the method.
     fn put_insn(&mut self, insn: Insn) {
         if let Some(line) = self.line {
-            self.names.note(self.lines.push(line).is_err());
+            self.seen.note(self.lines.push(line).is_err());
         }
         match &mut self.body {
-            Some(body) => self.names.note(body.insns.push(insn).is_err()),
-            None => self.is_wrong = true,
+            Some(body) => self.seen.note(body.insns.push(insn).is_err()),
+            None => self.seen.refuse(),
         }
     }
 
     /// An instruction of the method.
     fn add_insn(&mut self, text: &str) {
         let Some(found) = find(text.split_whitespace().next().unwrap_or("")) else {
-            self.is_wrong = true;
+            self.seen.refuse();
             return;
         };
         let operands = self.operands(&found, text);
         match self.insn(&found, &operands) {
             Some(insn) => self.put_insn(insn),
-            None => self.is_wrong = true,
+            None => self.seen.refuse(),
         }
     }
 
@@ -552,7 +532,7 @@ impl Assembler {
                 Some(of) => {
                     let position = self.label(word);
                     let handler = Handler { kind: of, position };
-                    self.names.note(region.handlers.push(handler).is_err());
+                    self.seen.note(region.handlers.push(handler).is_err());
                     kind = None;
                 }
                 None => region.rest = Some(self.label(word)),
@@ -572,8 +552,8 @@ impl Assembler {
         };
         self.fill_region(text, &mut region);
         match &mut self.body {
-            Some(body) => self.names.note(body.regions.push(region).is_err()),
-            None => self.is_wrong = true,
+            Some(body) => self.seen.note(body.regions.push(region).is_err()),
+            None => self.seen.refuse(),
         }
     }
 
@@ -604,7 +584,7 @@ impl Assembler {
     fn set_line(&mut self, line: u16) {
         if self.line.is_none() {
             for _ in 0..self.position() {
-                self.names.note(self.lines.push(0).is_err());
+                self.seen.note(self.lines.push(0).is_err());
             }
         }
         self.line = Some(u32::from(line));
@@ -635,7 +615,7 @@ impl Assembler {
             4 => self.add_names(text),
             _ => match small(text.split_whitespace().nth(1)) {
                 Some(number) => self.count(directive, number),
-                None => self.is_wrong = true,
+                None => self.seen.refuse(),
             },
         }
     }
@@ -653,27 +633,17 @@ impl Assembler {
         }
     }
 
-    /// What is wrong with the line of this number or those before it.
-    fn fault(&self, number: u32) -> Result<(), TextFault> {
-        if self.names.lacks_memory() {
-            Err(TextFault::NoMemory)
-        } else if self.is_wrong {
-            Err(TextFault::Line { number })
-        } else {
-            Ok(())
-        }
-    }
-
     /// Reads all lines.
-    fn read_all(&mut self, text: &str) -> Result<(), TextFault> {
+    fn read_all(&mut self, text: &str) {
         let mut number: u32 = 0;
         for line in text.lines() {
             number = number.saturating_add(1);
             self.read(line);
-            self.fault(number)?;
+            if self.wrong == 0 && self.seen.is_wrong() {
+                self.wrong = number;
+            }
         }
         self.end_class();
-        self.fault(number)
     }
 
     /// Numbers what was named, and begins a program with tables of all that.
@@ -685,25 +655,33 @@ impl Assembler {
         self.program = empty(self.alloc);
         self.names.number();
         let begun = self.names.begin(&mut self.program);
-        self.names.note(begun.is_err());
+        self.seen.note(begun.is_err());
     }
 
     /// Reads a text twice.
-    fn read_twice(&mut self, text: &str) -> Result<(), TextFault> {
-        self.read_all(text)?;
+    fn read_twice(&mut self, text: &str) {
+        self.read_all(text);
         self.begin_again();
-        self.read_all(text)
+        self.read_all(text);
+        self.seen.note(self.names.lacks_memory());
+    }
+
+    /// Tells what went wrong.
+    fn tell(&self, answer: &mut Answer) {
+        answer.note(self.seen.lacks_memory());
+        if self.wrong > 0 {
+            answer.say_number("line ", i128::from(self.wrong));
+            answer.say(" of the program ");
+            answer.refuse();
+        }
     }
 }
 
-/// The program of a text, whose tables have what it names, in order. The errors are the first line that can't be read,
-/// and want of memory.
-pub fn assemble(alloc: Global, text: &str) -> Result<Program, TextFault> {
-    let mut reading = Assembler::new(alloc);
-    let read = reading.read_twice(text);
-    let program = reading.program;
-    match read {
-        Ok(()) => Ok(program),
-        Err(fault) => Err(fault),
-    }
+/// The program of a text, whose tables have what it names, in order. Where a line can't be read the answer is refused, and
+/// has its number.
+pub fn program_of(answer: &mut Answer, text: &str) -> Program {
+    let mut reading = Assembler::new(answer.alloc());
+    reading.read_twice(text);
+    reading.tell(answer);
+    reading.program
 }

@@ -1,6 +1,6 @@
 //! First values and flags as words.
 
-use crate::printed::Printed;
+use crate::answer::Answer;
 use program_model::EncValue;
 
 /// The kinds of first values that are a number.
@@ -29,7 +29,7 @@ pub fn flag_of(word: &str) -> Option<u32> {
 }
 
 /// Adds the words of flags in the order of their bits, each behind a blank.
-pub fn push_flags(out: &mut Printed, flags: u32) {
+pub fn push_flags(out: &mut Answer, flags: u32) {
     for (place, word) in FLAGS.split_whitespace().enumerate() {
         if flag_at(place).unwrap_or(0) & flags != 0 {
             out.say(" ");

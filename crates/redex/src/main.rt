@@ -7,9 +7,11 @@ ghost use Rattle.redex_cli.specs.Status.{code_of};
 
 use redex_cli::{Status, run};
 use redex_outside::{Adviser, BudgetAdviser, FileShelf, PrefixAdviser, StdNotes};
+use std::alloc::{AllocError, Global};
 use std::env;
 use std::io::ErrorKind;
 use std::process::ExitCode;
+use std::rt::Env;
 
 /// The status of a run that finds no memory.
 const NO_MEMORY: u8 = 7;
@@ -24,30 +26,42 @@ fn ended(status: &Status) -> ExitCode
     ExitCode::from(status.code())
 }
 
+/// Adds the words behind the program's name, and answers the status with which the process ends where that is not to be had,
+/// or 0.
+fn add_words(rt: &(impl Env + AllocGlobal), words: &mut Vec<String>) -> u8 {
+    match env::args(rt) {
+        Ok(arguments) => {
+            let mut is_lost = false;
+            for word in arguments.skip(1) {
+                is_lost = words.push(word).is_err() || is_lost;
+            }
+            if is_lost { NO_MEMORY } else { 0 }
+        }
+        Err(error) => {
+            if error.kind() == ErrorKind::OutOfMemory {
+                NO_MEMORY
+            } else {
+                USAGE
+            }
+        }
+    }
+}
+
+/// Adds the two advisers.
+fn add_advisers(alloc: Global, advisers: &mut Vec<Box<dyn Adviser>>) -> Result<(), AllocError> {
+    advisers.push(Box::new(alloc, PrefixAdviser::new(alloc))?)?;
+    Ok(advisers.push(Box::new(alloc, BudgetAdviser::new())?)?)
+}
+
 fn main(rt: HostRuntime) -> ExitCode {
     let alloc = rt.alloc();
     let mut words = Vec::new(alloc);
-    let arguments = match env::args(&rt) {
-        Ok(arguments) => arguments,
-        Err(error) if error.kind() == ErrorKind::OutOfMemory => return ExitCode::from(NO_MEMORY),
-        Err(_) => return ExitCode::from(USAGE),
-    };
-    for word in arguments.skip(1) {
-        if words.push(word).is_err() {
-            return ExitCode::from(NO_MEMORY);
-        }
-    }
     let mut advisers: Vec<Box<dyn Adviser>> = Vec::new(alloc);
-    let Ok(prefixes) = Box::new(alloc, PrefixAdviser::new(alloc)) else {
-        return ExitCode::from(NO_MEMORY);
-    };
-    if advisers.push(prefixes).is_err() {
-        return ExitCode::from(NO_MEMORY);
+    let lacking = add_words(&rt, &mut words);
+    if lacking > 0 {
+        return ExitCode::from(lacking);
     }
-    let Ok(budget) = Box::new(alloc, BudgetAdviser::new()) else {
-        return ExitCode::from(NO_MEMORY);
-    };
-    if advisers.push(budget).is_err() {
+    if add_advisers(alloc, &mut advisers).is_err() {
         return ExitCode::from(NO_MEMORY);
     }
     let mut shelf = FileShelf::new(&rt);

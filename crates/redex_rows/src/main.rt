@@ -27,41 +27,24 @@ mod lines;
 mod many;
 
 use crate::desk::Desk;
-use crate::lines::answer;
-use row_text::{Page, said};
-use std::alloc::{AllocError, Global};
+use crate::lines::asks;
+use program_text::{Answer, Page};
 use std::io;
-
-/// What is written for a line: the line, with its answer behind it where it asks something, and nothing for one of a
-/// program.
-fn written(
-    alloc: Global,
-    page: &mut Page,
-    desk: &mut Desk,
-    line: &str,
-) -> Result<Option<String>, AllocError> {
-    if !page.takes(line)? {
-        if page.is_in_program() {
-            return Ok(None);
-        }
-        return Ok(Some(String::from_str(alloc, line)?));
-    }
-    match answer(alloc, desk, page.text(), line) {
-        Ok(None) => Ok(Some(String::from_str(alloc, line)?)),
-        Ok(Some(text)) => Ok(Some(said(alloc, line, Ok(text))?)),
-        Err(trouble) => Ok(Some(said(alloc, line, Err(trouble))?)),
-    }
-}
 
 fn main(rt: HostRuntime) -> io::Result<()> {
     let alloc = rt.alloc();
+    let text = io::read_to_string(alloc, rt.stdin())?;
     let mut page = Page::new(alloc);
     let mut desk = Desk::new(alloc);
-    for line in rt.lines(alloc) {
-        let line = line?;
-        if let Some(text) = written(alloc, &mut page, &mut desk, line.as_str())? {
-            rt.println(text)?;
+    for line in text.lines() {
+        if page.takes(line) {
+            let mut said = Answer::new(alloc);
+            if asks(&mut said, &mut desk, page.program(), line) {
+                page.tell(line, &said);
+            } else {
+                page.write_line(line);
+            }
         }
     }
-    Ok(())
+    rt.print(page.written()?)
 }

@@ -49,25 +49,25 @@ pub fn prefixes(answer: &mut Answer, class: &str) {
     answer.say(word(adviser.weigh(&ask)));
 }
 
-/// Adds an adviser that spares and one with a budget.
-fn add_both(alloc: Global, advisers: &mut Vec<Box<dyn Adviser>>) -> Result<(), AllocError> {
-    advisers.push(Box::new(alloc, PrefixAdviser::new(alloc))?)?;
-    Ok(advisers.push(Box::new(alloc, BudgetAdviser::new())?)?)
+/// An adviser in a box.
+fn boxed<A: Drop>(answer: &mut Answer, adviser: A) -> Option<Box<A>> {
+    match Box::new(answer.alloc(), adviser) {
+        Ok(boxed) => Some(boxed),
+        Err(_) => {
+            answer.note(true);
+            None
+        }
+    }
 }
 
-/// What a panel of an adviser that spares and one with a budget says of these classes, and what each adviser answered: the
-/// line has the prefix that is spared and the budget first.
-pub fn panel(answer: &mut Answer, line: &str) {
+/// Adds what a panel says of these classes, and what each of its advisers answered: the line has the prefix that is spared
+/// and the budget first.
+fn say_panel(answer: &mut Answer, panel: &mut Panel, line: &str) {
     let alloc = answer.alloc();
     let mut words = line.split(' ');
-    let spared = words.next().unwrap_or("");
-    let most = answer.number(words.next().unwrap_or(""));
-    let mut advisers: Vec<Box<dyn Adviser>> = Vec::new(alloc);
-    let added = add_both(alloc, &mut advisers);
-    answer.note(added.is_err());
-    let mut panel = Panel::new(alloc, advisers);
-    let told = panel.tell(alloc, Key::Spare, 0, spared);
+    let told = panel.tell(alloc, Key::Spare, 0, words.next().unwrap_or(""));
     answer.note(told.is_err());
+    let most = answer.number(words.next().unwrap_or(""));
     let told = panel.tell(alloc, Key::AtMost, most, "");
     answer.note(told.is_err());
     for class in words {
@@ -80,4 +80,18 @@ pub fn panel(answer: &mut Answer, line: &str) {
     for one in panel.answers.as_slice() {
         answer.list(word(*one));
     }
+}
+
+/// What a panel of an adviser that spares and one with a budget says.
+pub fn panel(answer: &mut Answer, line: &str) {
+    let alloc = answer.alloc();
+    let mut advisers: Vec<Box<dyn Adviser>> = Vec::new(alloc);
+    if let Some(adviser) = boxed(answer, PrefixAdviser::new(alloc)) {
+        answer.note(advisers.push(adviser).is_err());
+    }
+    if let Some(adviser) = boxed(answer, BudgetAdviser::new()) {
+        answer.note(advisers.push(adviser).is_err());
+    }
+    let mut panel = Panel::new(alloc, advisers);
+    say_panel(answer, &mut panel, line);
 }

@@ -20,7 +20,8 @@ fn words(answer: &mut Answer, line: &str) {
     let said = rest.strip_suffix(']').unwrap_or("");
     let mut words = Vec::new(answer.alloc());
     for word in said.split(' ') {
-        if let Some(word) = answer.taken(String::from_str(answer.alloc(), word)) {
+        let made = String::from_str(answer.alloc(), word);
+        if let Some(word) = answer.taken(made) {
             answer.note(words.push(word).is_err());
         }
     }

@@ -93,16 +93,21 @@ fn say_kept(answer: &mut Answer, program: &Program, rules: &Rules) {
     }
 }
 
-/// What rules keep of a program: classes, fields and methods, the same on a condition behind `if`, silent and shut methods
-/// behind these words, and what is forbidden.
-pub fn kept(answer: &mut Answer, program: &Program, rules: &str) {
-    let text = answer.lines(rules);
+/// Adds what the rules of a short text keep of a program.
+fn say_matched(answer: &mut Answer, program: &Program, text: &[u8]) {
     if text.len() > 1000 {
         answer.refuse();
         return;
     }
-    match read_rules(answer.alloc(), text.as_slice()) {
+    match read_rules(answer.alloc(), text) {
         Ok(rules) => say_kept(answer, program, &rules),
         Err(_) => answer.refuse(),
     }
+}
+
+/// What rules keep of a program: classes, fields and methods, the same on a condition behind `if`, silent and shut methods
+/// behind these words, and what is forbidden.
+pub fn kept(answer: &mut Answer, program: &Program, rules: &str) {
+    let text = answer.lines(rules);
+    say_matched(answer, program, text.as_slice());
 }

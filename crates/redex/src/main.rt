@@ -7,11 +7,10 @@ ghost use Rattle.redex_cli.specs.Status.{code_of};
 
 use redex_cli::{Status, run};
 use redex_outside::{Adviser, BudgetAdviser, FileShelf, PrefixAdviser, StdNotes};
-use std::alloc::{AllocError, Global};
 use std::env;
 use std::io::ErrorKind;
 use std::process::ExitCode;
-use std::rt::Env;
+use std::rt::{Env, Files};
 
 /// The status of a run that finds no memory.
 const NO_MEMORY: u8 = 7;
@@ -47,25 +46,37 @@ fn add_words(rt: &(impl Env + AllocGlobal), words: &mut Vec<String>) -> u8 {
     }
 }
 
-/// Adds the two advisers.
-fn add_advisers(alloc: Global, advisers: &mut Vec<Box<dyn Adviser>>) -> Result<(), AllocError> {
-    advisers.push(Box::new(alloc, PrefixAdviser::new(alloc))?)?;
-    Ok(advisers.push(Box::new(alloc, BudgetAdviser::new())?)?)
+/// Runs the words with these advisers, on real files and standard output.
+fn run_with(
+    rt: &(impl Files + Print + AllocGlobal),
+    words: &[String],
+    advisers: Vec<Box<dyn Adviser>>,
+) -> ExitCode {
+    let mut shelf = FileShelf::new(rt);
+    let mut notes = StdNotes::new(rt);
+    let status = run(rt.alloc(), words, &mut shelf, &mut notes, advisers);
+    ended(&status)
 }
 
 fn main(rt: HostRuntime) -> ExitCode {
     let alloc = rt.alloc();
     let mut words = Vec::new(alloc);
-    let mut advisers: Vec<Box<dyn Adviser>> = Vec::new(alloc);
     let lacking = add_words(&rt, &mut words);
     if lacking > 0 {
         return ExitCode::from(lacking);
     }
-    if add_advisers(alloc, &mut advisers).is_err() {
-        return ExitCode::from(NO_MEMORY);
+    let mut advisers: Vec<Box<dyn Adviser>> = Vec::new(alloc);
+    let lacks_prefixes = match Box::new(alloc, PrefixAdviser::new(alloc)) {
+        Ok(adviser) => advisers.push(adviser).is_err(),
+        Err(_) => true,
+    };
+    let lacks_budget = match Box::new(alloc, BudgetAdviser::new()) {
+        Ok(adviser) => advisers.push(adviser).is_err(),
+        Err(_) => true,
+    };
+    if lacks_prefixes || lacks_budget {
+        ExitCode::from(NO_MEMORY)
+    } else {
+        run_with(&rt, words.as_slice(), advisers)
     }
-    let mut shelf = FileShelf::new(&rt);
-    let mut notes = StdNotes::new(&rt);
-    let status = run(alloc, &words, &mut shelf, &mut notes, advisers);
-    ended(&status)
 }

@@ -5,7 +5,7 @@ use crate::forgetful::Forgetful;
 use program_text::Answer;
 use redex_cli::run;
 use redex_outside::{Adviser, BudgetAdviser, Fail, MemoryNotes, MemoryShelf, PrefixAdviser};
-use std::alloc::{AllocError, Global};
+use std::alloc::Global;
 
 /// The shelf, which call of the next run's notes fails, and whether its adviser finds no memory.
 #[derive(Drop)]
@@ -28,7 +28,8 @@ fn list_of(answer: &mut Answer, fail: Option<Fail>) -> Vec<Fail> {
 fn words_of(answer: &mut Answer, words: &str) -> Vec<String> {
     let mut list = Vec::new(answer.alloc());
     for word in words.split_whitespace() {
-        if let Some(word) = answer.taken(String::from_str(answer.alloc(), word)) {
+        let made = String::from_str(answer.alloc(), word);
+        if let Some(word) = answer.taken(made) {
             answer.note(list.push(word).is_err());
         }
     }
@@ -42,17 +43,15 @@ pub fn copied(answer: &mut Answer, bytes: &[u8]) -> Vec<u8> {
     copy
 }
 
-/// Adds the advisers of a run.
-fn add_advisers(
-    alloc: Global,
-    is_forgetful: bool,
-    advisers: &mut Vec<Box<dyn Adviser>>,
-) -> Result<(), AllocError> {
-    if is_forgetful {
-        advisers.push(Box::new(alloc, Forgetful)?)?;
+/// An adviser in a box.
+fn boxed<A: Drop>(answer: &mut Answer, adviser: A) -> Option<Box<A>> {
+    match Box::new(answer.alloc(), adviser) {
+        Ok(boxed) => Some(boxed),
+        Err(_) => {
+            answer.note(true);
+            None
+        }
     }
-    advisers.push(Box::new(alloc, PrefixAdviser::new(alloc))?)?;
-    Ok(advisers.push(Box::new(alloc, BudgetAdviser::new())?)?)
 }
 
 impl Desk {
@@ -110,9 +109,19 @@ impl Desk {
 
     /// Runs these words.
     fn run_words(&mut self, answer: &mut Answer, words: &[String]) {
-        let mut advisers: Vec<Box<dyn Adviser>> = Vec::new(answer.alloc());
-        let added = add_advisers(answer.alloc(), self.is_forgetful, &mut advisers);
-        answer.note(added.is_err());
+        let alloc = answer.alloc();
+        let mut advisers: Vec<Box<dyn Adviser>> = Vec::new(alloc);
+        if self.is_forgetful {
+            if let Some(adviser) = boxed(answer, Forgetful) {
+                answer.note(advisers.push(adviser).is_err());
+            }
+        }
+        if let Some(adviser) = boxed(answer, PrefixAdviser::new(alloc)) {
+            answer.note(advisers.push(adviser).is_err());
+        }
+        if let Some(adviser) = boxed(answer, BudgetAdviser::new()) {
+            answer.note(advisers.push(adviser).is_err());
+        }
         self.run_with(answer, words, advisers);
         self.saying = None;
         self.is_forgetful = false;

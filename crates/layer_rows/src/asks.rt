@@ -12,7 +12,7 @@ fn about(answer: &mut Answer, program: &mut Program, first: &str, rest: &str) {
         "cells" => forming::cells(answer, program),
         "copy" => forming::copy(answer, program),
         "kept" => matching::kept(answer, program, rest),
-        "verify" => typing::verify(answer, program),
+        "verify" => typing::say_typing(answer, program),
         "code" => bodies::read(answer, program, rest),
         "written" => bodies::written(answer, program),
         "file" => files::written(answer, program, rest),

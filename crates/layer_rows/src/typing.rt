@@ -22,7 +22,7 @@ fn say_fault(answer: &mut Answer, program: &Program, fault: TypeFault) {
 }
 
 /// What the verifier says of a program.
-pub fn verify(answer: &mut Answer, program: &Program) {
+pub fn say_typing(answer: &mut Answer, program: &Program) {
     if !well_formed(program) {
         answer.say("ill formed");
         return;

@@ -156,16 +156,25 @@ fn close_types(alloc: Global, used: &mut Used, program: &Program) -> Result<(), 
     Ok(())
 }
 
-/// The entries that the written program needs: what its classes name, and what these entries name in turn.
+/// Marks the entries that the written program needs, where none is marked yet: what its classes name, and what these
+/// entries name in turn.
 #[tactic(auto, unfolding(crate::specs::Numbering::used_in))]
+fn mark_needed(alloc: Global, used: &mut Used, program: &Program) -> Result<(), AllocError>
+    requires { used.old ≡ no_use program.now }
+    ensures { OnOk result (used.new ≡ used_in program.now) }
+{
+    walk_program(used, program);
+    close_methods(alloc, used, program)?;
+    close_fields(alloc, used, program)?;
+    close_protos(alloc, used, program)?;
+    close_types(alloc, used, program)
+}
+
+/// The entries that the written program needs.
 pub fn used_in(alloc: Global, program: &Program) -> Result<Used, AllocError>
     ensures { IfOk result (λ used. used ≡ used_in program.now) }
 {
     let mut used = none_used(alloc, program)?;
-    walk_program(&mut used, program);
-    close_methods(alloc, &mut used, program)?;
-    close_fields(alloc, &mut used, program)?;
-    close_protos(alloc, &mut used, program)?;
-    close_types(alloc, &mut used, program)?;
+    mark_needed(alloc, &mut used, program)?;
     Ok(used)
 }

@@ -2,7 +2,7 @@
 
 ghost use Rattle.std.specs.Prelude.{◌≡◌, length, IfOk};
 ghost use Rattle.dex_pools.specs.Interned.{IsInterned};
-ghost use Rattle.dex_pools.specs.Numbering.{string_key, type_key, proto_key, field_key, method_key, IsNumbered};
+ghost use Rattle.dex_pools.specs.Numbering.{string_key, type_key, proto_key, field_key, method_key, IsNumbered, used_in};
 
 use crate::close::used_in;
 use crate::numbering::{
@@ -118,6 +118,40 @@ fn number_methods(
     number_table(alloc, used.methods.as_slice(), methods.len(), &keys)
 }
 
+/// The used entries of each table in order.
+fn number_all(alloc: Global, used: &Used, program: &Program) -> Result<Interner, AllocError>
+    requires { used.now ≡ used_in program.now }
+    ensures { IfOk result (IsInterned program.now) }
+{
+    let strings = number_strings(alloc, used, program)?;
+    let types = number_types(alloc, used, program, &strings.numbers)?;
+    let protos = number_protos(alloc, used, program, &types.numbers)?;
+    let fields = number_fields(alloc, used, program, &strings.numbers, &types.numbers)?;
+    let methods = number_methods(
+        alloc,
+        used,
+        program,
+        &strings.numbers,
+        &types.numbers,
+        &protos.numbers,
+    )?;
+    let numbers = Renumber {
+        strings: strings.numbers,
+        types: types.numbers,
+        protos: protos.numbers,
+        fields: fields.numbers,
+        methods: methods.numbers,
+    };
+    let order = Order {
+        strings: strings.order,
+        types: types.order,
+        protos: protos.order,
+        fields: fields.order,
+        methods: methods.order,
+    };
+    Ok(Interner { numbers, order })
+}
+
 impl Interner {
     /// The entries that the written program needs: what its classes name, and what these entries name in turn. Strings
     /// stand by their units, types by their strings, protos by their results and then their parameters, fields by class,
@@ -127,33 +161,7 @@ impl Interner {
         ensures { IfOk result (IsInterned program.now) }
     {
         let used = used_in(alloc, program)?;
-        let strings = number_strings(alloc, &used, program)?;
-        let types = number_types(alloc, &used, program, &strings.numbers)?;
-        let protos = number_protos(alloc, &used, program, &types.numbers)?;
-        let fields = number_fields(alloc, &used, program, &strings.numbers, &types.numbers)?;
-        let methods = number_methods(
-            alloc,
-            &used,
-            program,
-            &strings.numbers,
-            &types.numbers,
-            &protos.numbers,
-        )?;
-        let numbers = Renumber {
-            strings: strings.numbers,
-            types: types.numbers,
-            protos: protos.numbers,
-            fields: fields.numbers,
-            methods: methods.numbers,
-        };
-        let order = Order {
-            strings: strings.order,
-            types: types.order,
-            protos: protos.order,
-            fields: fields.order,
-            methods: methods.order,
-        };
-        Ok(Interner { numbers, order })
+        number_all(alloc, &used, program)
     }
 
     /// The new number of each used entry, and 4,294,967,295 for each other one.

@@ -291,13 +291,31 @@ fn strings_at(
     place_items(Kind::StringData, at, at, items)
 }
 
-/// The type lists, where lists of words stand, and where code stands.
+/// Where lists of words stand, and where code stands.
 #[derive(Drop)]
-struct Early {
-    lists: Lists,
+struct Middle {
     refs: Words,
     sets: Words,
     code: CodePlaces,
+}
+
+/// What stands behind the type lists, which end at `before`, in front of the directories.
+fn middle_of(alloc: Global, order: &[Ordered], before: u32) -> Result<Middle, AllocError>
+    ensures refs { IfOk result (λ middle. middle.refs ≡ refs_behind before (map plan_in order.now)) }
+    ensures sets { IfOk result (λ middle. middle.sets ≡ sets_behind middle.refs.end (map plan_in order.now)) }
+    ensures code { IfOk result (λ middle. middle.code ≡ places_behind middle.sets.end (map plan_in order.now)) }
+{
+    let refs = refs_behind(alloc, order, before)?;
+    let sets = sets_behind(alloc, order, refs.end)?;
+    let code = codes_behind(sets.end, order)?;
+    Ok(Middle { refs, sets, code })
+}
+
+/// The type lists, and what stands behind them.
+#[derive(Drop)]
+struct Early {
+    lists: Lists,
+    middle: Middle,
 }
 
 /// What stands in front of the directories, the first run at `at`.
@@ -309,20 +327,13 @@ fn early_of(
     at: u32,
 ) -> Result<Early, AllocError>
     ensures lists { IfOk result (λ early. early.lists ≡ lists_at program.now interner.now (map plan_in order.now) at) }
-    ensures refs { IfOk result (λ early. early.refs ≡ refs_behind (end_behind at early.lists.run) (map plan_in order.now)) }
-    ensures sets { IfOk result (λ early. early.sets ≡ sets_behind early.refs.end (map plan_in order.now)) }
-    ensures code { IfOk result (λ early. early.code ≡ places_behind early.sets.end (map plan_in order.now)) }
+    ensures refs { IfOk result (λ early. early.middle.refs ≡ refs_behind (end_behind at early.lists.run) (map plan_in order.now)) }
+    ensures sets { IfOk result (λ early. early.middle.sets ≡ sets_behind early.middle.refs.end (map plan_in order.now)) }
+    ensures code { IfOk result (λ early. early.middle.code ≡ places_behind early.middle.sets.end (map plan_in order.now)) }
 {
     let lists = lists_at(alloc, program, interner, order, at)?;
-    let refs = refs_behind(alloc, order, end_behind(at, &lists.run)?)?;
-    let sets = sets_behind(alloc, order, refs.end)?;
-    let code = codes_behind(sets.end, order)?;
-    Ok(Early {
-        lists,
-        refs,
-        sets,
-        code,
-    })
+    let middle = middle_of(alloc, order, end_behind(at, &lists.run)?)?;
+    Ok(Early { lists, middle })
 }
 
 /// The directories, the class data and the strings.
@@ -339,14 +350,14 @@ fn late_of(
     program: &Program,
     interner: &Interner,
     order: &[Ordered],
-    early: &Early,
+    middle: &Middle,
 ) -> Result<Late, AllocError>
-    ensures directories { IfOk result (λ late. late.directories ≡ directories_behind early.now.code.end (map plan_in order.now) early.now.sets early.now.refs) }
-    ensures class_data { IfOk result (λ late. late.class_data ≡ data_behind late.directories.end (map plan_in order.now) early.now.code.at) }
+    ensures directories { IfOk result (λ late. late.directories ≡ directories_behind middle.now.code.end (map plan_in order.now) middle.now.sets middle.now.refs) }
+    ensures class_data { IfOk result (λ late. late.class_data ≡ data_behind late.directories.end (map plan_in order.now) middle.now.code.at) }
     ensures strings { IfOk result (λ late. late.strings ≡ strings_behind late.class_data.end program.now interner.now) }
 {
-    let directories = directories_behind(alloc, order, &early.sets, &early.refs, early.code.end)?;
-    let class_data = data_at(alloc, order, early.code.at, directories.end)?;
+    let directories = directories_behind(alloc, order, &middle.sets, &middle.refs, middle.code.end)?;
+    let class_data = data_at(alloc, order, middle.code.at, directories.end)?;
     let strings = strings_at(alloc, program, interner, class_data.end)?;
     Ok(Late {
         directories,
@@ -367,12 +378,12 @@ fn front_of(
     ensures { IfOk result (λ front. front ≡ front_of program.now interner.now (map plan_in order.now) at) }
 {
     let early = early_of(alloc, program, interner, order, at)?;
-    let late = late_of(alloc, program, interner, order, &early)?;
+    let late = late_of(alloc, program, interner, order, &early.middle)?;
     Ok(Front {
         lists: early.lists,
-        refs: early.refs,
-        sets: early.sets,
-        code: early.code,
+        refs: early.middle.refs,
+        sets: early.middle.sets,
+        code: early.middle.code,
         directories: late.directories,
         data: late.class_data,
         strings: late.strings,
@@ -478,6 +489,59 @@ fn firsts_at(
     place_items(Kind::EncodedArray, at, at, items)
 }
 
+/// The run of code items, and that of debug items.
+#[derive(Drop)]
+struct Coded {
+    codes: Run,
+    lines: Run,
+}
+
+/// The run of code items, and that of debug items from `at` on.
+fn coded_at(
+    alloc: Global,
+    order: &[Ordered],
+    code: &CodePlaces,
+    at: u32,
+) -> Result<Coded, AllocError>
+    ensures codes { IfOk result (λ coded. coded.codes ≡ codes_run (map plan_in order.now) code.now at) }
+    ensures lines { IfOk result (λ coded. coded.lines ≡ lines_run (map plan_in order.now) code.now.counts.lines at) }
+{
+    let codes = codes_run(alloc, order, code, at)?;
+    let lines = lines_run(alloc, order, code.counts.lines, at)?;
+    Ok(Coded { codes, lines })
+}
+
+/// The runs of sets and annotations, and the first values.
+#[derive(Drop)]
+struct Valued {
+    refs: Run,
+    marks: Marks,
+    firsts: Placed,
+}
+
+/// The runs of sets, that of annotations from `at` on, and the first values behind it.
+fn valued_at(
+    alloc: Global,
+    program: &Program,
+    numbers: &Renumber,
+    order: &[Ordered],
+    front: &Front,
+    at: u32,
+) -> Result<Valued, AllocError>
+    ensures refs { IfOk result (λ valued. valued.refs ≡ refs_run (map plan_in order.now) front.now.refs front.now.sets) }
+    ensures marks { IfOk result (λ valued. valued.marks ≡ marks_behind numbers.now (map plan_in order.now) front.now.sets at) }
+    ensures firsts { IfOk result (λ valued. valued.firsts ≡ firsts_behind (end_behind at valued.marks.marks) program.now numbers.now (map plan_in order.now)) }
+{
+    let refs = refs_run(alloc, order, &front.refs, &front.sets)?;
+    let marks = marks_at(alloc, order, numbers, &front.sets, at)?;
+    let firsts = firsts_at(alloc, program, order, numbers, end_behind(at, &marks.marks)?)?;
+    Ok(Valued {
+        refs,
+        marks,
+        firsts,
+    })
+}
+
 /// The runs behind the strings.
 #[tactic(auto, unfolding(crate::specs::Places::back_of))]
 fn back_of(
@@ -490,19 +554,16 @@ fn back_of(
     ensures { IfOk result (λ back. back ≡ back_of program.now numbers.now (map plan_in order.now) front.now) }
 {
     let lines_at = front.strings.end;
-    let codes = codes_run(alloc, order, &front.code, lines_at)?;
-    let lines = lines_run(alloc, order, front.code.counts.lines, lines_at)?;
-    let refs = refs_run(alloc, order, &front.refs, &front.sets)?;
-    let at = end_behind(lines_at, &lines)?;
-    let Marks { sets, marks } = marks_at(alloc, order, numbers, &front.sets, at)?;
-    let firsts = firsts_at(alloc, program, order, numbers, end_behind(at, &marks)?)?;
+    let coded = coded_at(alloc, order, &front.code, lines_at)?;
+    let at = end_behind(lines_at, &coded.lines)?;
+    let valued = valued_at(alloc, program, numbers, order, front, at)?;
     Ok(Back {
-        lines,
-        codes,
-        refs,
-        sets,
-        marks,
-        firsts,
+        lines: coded.lines,
+        codes: coded.codes,
+        refs: valued.refs,
+        sets: valued.marks.sets,
+        marks: valued.marks.marks,
+        firsts: valued.firsts,
     })
 }
 
@@ -610,6 +671,24 @@ fn joined(front: Front, back: Back) -> Whole
     }
 }
 
+/// The runs of a program whose classes are these, the first at `at`, and the offsets of what they hold.
+fn whole_of(
+    alloc: Global,
+    program: &Program,
+    interner: &Interner,
+    order: &[Ordered],
+    at: u32,
+) -> Result<Whole, AllocError>
+    ensures parts { let front = front_of program.now interner.now (map plan_in order.now) at in
+        IfOk result (λ whole. whole.parts ≡ parts_in front (back_of program.now interner.now.numbers (map plan_in order.now) front)) }
+    ensures runs { let front = front_of program.now interner.now (map plan_in order.now) at in
+        IfOk result (λ whole. whole.runs ≡ runs_in front (back_of program.now interner.now.numbers (map plan_in order.now) front)) }
+{
+    let front = front_of(alloc, program, interner, order, at)?;
+    let back = back_of(alloc, program, interner.numbers(), order, &front)?;
+    Ok(joined(front, back))
+}
+
 /// The file of a program whose classes are these.
 #[tactic(auto, unfolding(crate::specs::Places::file_for))]
 fn file_for(
@@ -622,10 +701,8 @@ fn file_for(
     ensures sealed { IfOk result (λ v. IsSealed program.now.version v.items) }
 {
     let counts = counts_of(interner, order)?;
-    let front = front_of(alloc, program, interner, order, starts_of(counts)?.data)?;
-    let back = back_of(alloc, program, interner.numbers(), order, &front)?;
-    let Whole { parts, runs } = joined(front, back);
-    file_with(alloc, program, interner, order, &parts, &runs)
+    let whole = whole_of(alloc, program, interner, order, starts_of(counts)?.data)?;
+    file_with(alloc, program, interner, order, &whole.parts, &whole.runs)
 }
 
 /// A valid file that spells the program, with the entries that it uses in order and the classes behind those above

@@ -214,23 +214,53 @@ pub(crate) fn class_in(class_of: &[u32], kind: Kind) -> Option<u32>
     }
 }
 
+/// The numbers of a program's types, strings and classes.
+#[derive(Drop)]
+struct Numbers {
+    kinds: Vec<Kind>,
+    strings: Vec<usize>,
+    class_kinds: Vec<Kind>,
+    class_of: Vec<u32>,
+}
+
+/// The numbers of a program's types, strings and classes. The names that these have are added.
+fn numbers_of<'a>(
+    alloc: Global,
+    program: &'a Program,
+    types: &mut Types<'a>,
+    texts: &mut Texts<'a>,
+) -> Result<Numbers, AllocError>
+    ensures kinds { AreKept types.old → IfOk result (λ numbers. KindsMade program.now types.old types.new numbers.kinds.items (length program.now.types)) }
+    ensures strings { AreTexts texts.old → IfOk result (λ numbers. StringsMade program.now texts.new numbers.strings.items (length program.now.strings)) }
+    ensures own { IfOk result (λ numbers. numbers.class_kinds.items ≡ map (λ c. kind_in numbers.kinds.items c.name) program.now.classes) }
+    ensures places { length program.now.classes < 2 ^ 32 → AreTypes types.old → IfOk result (λ numbers. ArePlaces numbers.class_kinds.items numbers.class_of.items) }
+{
+    let kinds = kinds_of(alloc, program, types)?;
+    let strings = strings_of(alloc, program, texts)?;
+    let class_kinds = class_kinds(alloc, program, kinds.as_slice())?;
+    let class_of = classes_by_type(alloc, types.len(), class_kinds.as_slice())?;
+    Ok(Numbers {
+        kinds,
+        strings,
+        class_kinds,
+        class_of,
+    })
+}
+
 /// The names of a program by numbers.
 fn names_of<'a>(alloc: Global, program: &'a Program) -> Result<Names<'a>, AllocError>
     ensures { length program.now.classes < 2 ^ 32 → IfOk result (λ names. HasNames program.now names) }
 {
     let mut types = Types::new(alloc)?;
     let mut texts = Texts::new(alloc);
-    let kinds = kinds_of(alloc, program, &mut types)?;
-    let strings = strings_of(alloc, program, &mut texts)?;
-    let class_kinds = class_kinds(alloc, program, kinds.as_slice())?;
-    let class_of = classes_by_type(alloc, types.len(), class_kinds.as_slice())?;
+    let numbers = numbers_of(alloc, program, &mut types, &mut texts)?;
     Ok(Names {
         types,
         texts,
-        kinds,
-        strings,
-        class_of,
-        class_kinds,
+        kinds: numbers.kinds,
+        strings: numbers.strings,
+        class_of: numbers.class_of,
+        class_kinds: numbers.class_kinds,
     })
 }
 
@@ -335,7 +365,8 @@ fn marks_of(
     ensures slots { IfOk result (λ made. made.slots.items ≡ slots_from 0 program.now.classes) }
     ensures outer { IfOk result (λ made. IsOuter program.now outside.now made.outer) }
     ensures classes { HasNames program.now names.now → IfOk result (λ made. AreTypeMarks program.now names.now.types outside.now.classes made.outer.classes.items) }
-    ensures constructed { HasNames program.now names.now → IfOk result (λ made. AreTypeMarks program.now names.now.types (constructed_kinds program.now outside.now.methods) made.outer.constructed.items) }
+    ensures constructed { HasNames program.now names.now
+        → IfOk result (λ made. AreTypeMarks program.now names.now.types (constructed_kinds program.now outside.now.methods) made.outer.constructed.items) }
     ensures constructors { IfOk result (λ made. made.constructors.items ≡ map (is_constructor program.now) program.now.methods) }
     ensures defaults { IsOf program.now hierarchy.now → IfOk result (λ made. made.defaults.items ≡ map (class_default program.now) program.now.classes) }
 {
@@ -389,6 +420,38 @@ fn tables_of<'a>(
     }
 }
 
+/// The names of a program, what stands above its types, the moves of a script, and what a run asks one by one.
+#[derive(Drop)]
+struct Ready<'a> {
+    made: Stood<'a>,
+    marked: Marked,
+}
+
+/// What the tables of a program with this hierarchy are made of.
+fn ready_of<'a>(
+    alloc: Global,
+    program: &'a Program,
+    outside: &Outside,
+    framework: &'a Framework,
+    script: &'a [Move],
+    hierarchy: &Hierarchy,
+) -> Result<Ready<'a>, AllocError>
+    ensures names { is_well_formed program.now ≡ true → IfOk result (λ ready. HasNames program.now ready.made.names) }
+    ensures above { is_well_formed program.now ≡ true → IfOk result (λ ready. AreAbove program.now framework.now ready.made.names.types ready.made.above) }
+    ensures plays { is_well_formed program.now ≡ true → IfOk result (λ ready. ArePlays program.now ready.made.names.types ready.made.names.texts script.now ready.made.plays.items) }
+    ensures slots { IfOk result (λ ready. ready.marked.slots.items ≡ slots_from 0 program.now.classes) }
+    ensures outer { IfOk result (λ ready. IsOuter program.now outside.now ready.marked.outer) }
+    ensures classes { is_well_formed program.now ≡ true → IfOk result (λ ready. AreTypeMarks program.now ready.made.names.types outside.now.classes ready.marked.outer.classes.items) }
+    ensures constructed { is_well_formed program.now ≡ true
+        → IfOk result (λ ready. AreTypeMarks program.now ready.made.names.types (constructed_kinds program.now outside.now.methods) ready.marked.outer.constructed.items) }
+    ensures constructors { IfOk result (λ ready. ready.marked.constructors.items ≡ map (is_constructor program.now) program.now.methods) }
+    ensures defaults { IsOf program.now hierarchy.now → IfOk result (λ ready. ready.marked.defaults.items ≡ map (class_default program.now) program.now.classes) }
+{
+    let made = names_above(alloc, program, framework, script)?;
+    let marked = marks_of(alloc, program, outside, hierarchy, &made.names)?;
+    Ok(Ready { made, marked })
+}
+
 /// The tables of a program with this hierarchy, and the moves of a script by numbers.
 fn both_of<'a>(
     alloc: Global,
@@ -402,14 +465,20 @@ fn both_of<'a>(
     ensures framework { IfOk result (λ both. both.0.framework.now ≡ framework.now) }
     ensures outer { IfOk result (λ both. IsOuter program.now outside.now both.0.outer) }
     ensures classes { is_well_formed program.now ≡ true → IfOk result (λ both. AreTypeMarks program.now both.0.types outside.now.classes both.0.outer.classes.items) }
-    ensures constructed { is_well_formed program.now ≡ true → IfOk result (λ both. AreTypeMarks program.now both.0.types (constructed_kinds program.now outside.now.methods) both.0.outer.constructed.items) }
+    ensures constructed { is_well_formed program.now ≡ true
+        → IfOk result (λ both. AreTypeMarks program.now both.0.types (constructed_kinds program.now outside.now.methods) both.0.outer.constructed.items) }
     ensures tables { is_well_formed program.now ≡ true → IsResolved program.now hierarchy → IfOk result (λ both. IsRight both.0) }
     ensures plays { is_well_formed program.now ≡ true → IfOk result (λ both. ArePlays program.now both.0.types both.0.texts script.now both.1.items) }
 {
-    let made = names_above(alloc, program, framework, script)?;
-    let marked = marks_of(alloc, program, outside, &hierarchy, &made.names)?;
+    let ready = ready_of(alloc, program, outside, framework, script, &hierarchy)?;
+    let made = ready.made;
     let tables = tables_of(
-        program, framework, hierarchy, made.names, made.above, marked,
+        program,
+        framework,
+        hierarchy,
+        made.names,
+        made.above,
+        ready.marked,
     );
     Ok((tables, made.plays))
 }
@@ -455,7 +524,8 @@ impl<'a> Lookups<'a> {
         ensures framework { IfOk result (λ made. IfSome made (λ both. both.0.framework.now ≡ framework.now)) }
         ensures outer { IfOk result (λ made. IfSome made (λ both. IsOuter program.now outside.now both.0.outer)) }
         ensures classes { is_well_formed program.now ≡ true → IfOk result (λ made. IfSome made (λ both. AreTypeMarks program.now both.0.types outside.now.classes both.0.outer.classes.items)) }
-        ensures constructed { is_well_formed program.now ≡ true → IfOk result (λ made. IfSome made (λ both. AreTypeMarks program.now both.0.types (constructed_kinds program.now outside.now.methods) both.0.outer.constructed.items)) }
+        ensures constructed { is_well_formed program.now ≡ true
+            → IfOk result (λ made. IfSome made (λ both. AreTypeMarks program.now both.0.types (constructed_kinds program.now outside.now.methods) both.0.outer.constructed.items)) }
         ensures tables { is_well_formed program.now ≡ true → IfOk result (λ made. IfSome made (λ both. IsRight both.0)) }
         ensures face { is_well_formed program.now ≡ true → IfOk result (λ made. IfSome made (λ both. IsFace both.0)) }
         ensures plays { is_well_formed program.now ≡ true → IfOk result (λ made. IfSome made (λ both. ArePlays program.now both.0.types both.0.texts script.now both.1.items)) }
@@ -619,7 +689,8 @@ impl<'a> Lookups<'a> {
     /// Whether a type that is no array is under another one. The last answer for each upper type is kept.
     fn base_under(&self, memo: &mut Memo, lower: usize, upper: usize) -> Result<bool, AllocError>
         ensures kept { IsRight self.now → IsKept self.now memo.old → lower < length (names_of self.now.types) → upper < length (names_of self.now.types) → IsKept self.now memo.new }
-        ensures answer { IsRight self.now → IsKept self.now memo.old → lower < length (names_of self.now.types) → upper < length (names_of self.now.types) → IfOk result (λ r. r ≡ class_under (named self.now.program.now) self.now.framework.now (name_at self.now.types lower) (name_at self.now.types upper)) }
+        ensures answer { IsRight self.now → IsKept self.now memo.old → lower < length (names_of self.now.types) → upper < length (names_of self.now.types)
+            → IfOk result (λ r. r ≡ class_under (named self.now.program.now) self.now.framework.now (name_at self.now.types lower) (name_at self.now.types upper)) }
     {
         if let Some(answer) = memo.under_at(lower, upper) {
             return Ok(answer);
@@ -632,7 +703,8 @@ impl<'a> Lookups<'a> {
     /// Whether a type is under another one, where not both are arrays.
     fn item_under(&self, memo: &mut Memo, lower: Kind, upper: Kind) -> Result<bool, AllocError>
         ensures kept { IsRight self.now → IsKept self.now memo.old → IsKind self.now.types lower → IsKind self.now.types upper → IsKept self.now memo.new }
-        ensures answer { IsRight self.now → IsKept self.now memo.old → IsKind self.now.types lower → IsKind self.now.types upper → (lower.depth ≡ 0) ⊎ (upper.depth ≡ 0) → IfOk result (λ r. r ≡ is_under (named self.now.program.now) self.now.framework.now (type_text self.now.types lower) (type_text self.now.types upper)) }
+        ensures answer { IsRight self.now → IsKept self.now memo.old → IsKind self.now.types lower → IsKind self.now.types upper → (lower.depth ≡ 0) ⊎ (upper.depth ≡ 0)
+            → IfOk result (λ r. r ≡ is_under (named self.now.program.now) self.now.framework.now (type_text self.now.types lower) (type_text self.now.types upper)) }
     {
         if self.types.is_empty_type(lower) {
             return Ok(false);
@@ -661,7 +733,8 @@ impl<'a> Lookups<'a> {
     /// under each array of references whose item type is above its own.
     pub fn is_under(&self, memo: &mut Memo, lower: Kind, upper: Kind) -> Result<bool, AllocError>
         ensures kept { IsRight self.now → IsKept self.now memo.old → IsKind self.now.types lower → IsKind self.now.types upper → IsKept self.now memo.new }
-        ensures answer { IsRight self.now → IsKept self.now memo.old → IsKind self.now.types lower → IsKind self.now.types upper → IfOk result (λ r. r ≡ is_under (named self.now.program.now) self.now.framework.now (type_text self.now.types lower) (type_text self.now.types upper)) }
+        ensures answer { IsRight self.now → IsKept self.now memo.old → IsKind self.now.types lower → IsKind self.now.types upper
+            → IfOk result (λ r. r ≡ is_under (named self.now.program.now) self.now.framework.now (type_text self.now.types lower) (type_text self.now.types upper)) }
     {
         if lower.is_same(upper) {
             let full = !self.types.is_empty_type(lower);

@@ -5,8 +5,8 @@ ghost use Rattle.std.proofs.Common.{Ok, Err};
 ghost use Rattle.hierarchy.specs.Placing.{place_from, known_places};
 ghost use Rattle.hierarchy.specs.Faults.{IsTwiceOr, IsSplitOr};
 ghost use Rattle.hierarchy.specs.Shapes.{placing, IsMade, StopsAt, IsOf, AreTargets, IsResolved, IsCause, IsAcyclic};
-ghost use Rattle.hierarchy.specs.Membership.{AreKeys, field_pair, method_pair, found_in, place_in_rows, field_rows, method_rows};
-ghost use Rattle.hierarchy.specs.Naming.{IsNamed};
+ghost use Rattle.hierarchy.specs.Membership.{AreKeys, AreShort, StandOnce, field_pair, method_pair, found_in, place_in_rows, field_rows, method_rows};
+ghost use Rattle.hierarchy.specs.Naming.{IsNamed, AreCommon, AreDefiners, is_special};
 ghost use Rattle.hierarchy.specs.Climbing.{HasCircle, IsOrder};
 ghost use Rattle.hierarchy.specs.Circling.{IsFirst};
 ghost use Rattle.std.specs.Prelude.{ℕ, Some, map, slice_get};
@@ -168,7 +168,8 @@ fn place_or_none(place: Option<u32>) -> u32
 
 /// The place of the initialiser of each class.
 fn initialisers(alloc: Global, program: &Program) -> Result<Vec<u32>, AllocError>
-    ensures { ((i : ℕ) (c : Class) → slice_get program.now.classes i ≡ Some c → length c.methods < 2 ^ 32) → IfOk result (λ places. places.items ≡ map (λ c. place_or_none (initialiser_of program.now (Some c))) program.now.classes) }
+    ensures { ((i : ℕ) (c : Class) → slice_get program.now.classes i ≡ Some c → length c.methods < 2 ^ 32)
+        → IfOk result (λ places. places.items ≡ map (λ c. place_or_none (initialiser_of program.now (Some c))) program.now.classes) }
 {
     let mut places = Vec::new(alloc);
     for class in program.classes.as_slice() {
@@ -241,7 +242,8 @@ struct Keyed {
 /// The fields by key.
 fn key_fields(alloc: Global, program: &Program) -> Result<Keyed, AllocError>
     ensures keys { is_well_formed program.now ≡ true → IfOk result (λ keyed. AreKeys field_pair program.now.fields keyed.keys.keys.items keyed.keys.count) }
-    ensures found { is_well_formed program.now ≡ true → IfOk result (λ keyed. (class key : ℕ) → found_in keyed.members class key ≡ place_in_rows (field_rows keyed.keys.keys.items program.now.classes) class key) }
+    ensures found { is_well_formed program.now ≡ true
+        → IfOk result (λ keyed. (class key : ℕ) → found_in keyed.members class key ≡ place_in_rows (field_rows keyed.keys.keys.items program.now.classes) class key) }
 {
     let keys = field_keys(alloc, program.fields.as_slice())?;
     let rows = rows_of_fields(alloc, program.classes.as_slice(), keys.keys.as_slice())?;
@@ -257,7 +259,8 @@ fn key_fields(alloc: Global, program: &Program) -> Result<Keyed, AllocError>
 fn key_methods(alloc: Global, program: &Program) -> Result<Keyed, AllocError>
     ensures rows { IfOk result (λ keyed. keyed.rows.rows ≡ method_rows keyed.keys.keys.items program.now.classes) }
     ensures keys { is_well_formed program.now ≡ true → IfOk result (λ keyed. AreKeys method_pair program.now.methods keyed.keys.keys.items keyed.keys.count) }
-    ensures found { is_well_formed program.now ≡ true → IfOk result (λ keyed. (class key : ℕ) → found_in keyed.members class key ≡ place_in_rows (method_rows keyed.keys.keys.items program.now.classes) class key) }
+    ensures found { is_well_formed program.now ≡ true
+        → IfOk result (λ keyed. (class key : ℕ) → found_in keyed.members class key ≡ place_in_rows (method_rows keyed.keys.keys.items program.now.classes) class key) }
 {
     let keys = method_keys(alloc, program.methods.as_slice())?;
     let rows = rows_of_methods(alloc, program.classes.as_slice(), keys.keys.as_slice())?;
@@ -269,24 +272,48 @@ fn key_methods(alloc: Global, program: &Program) -> Result<Keyed, AllocError>
     })
 }
 
+/// The classes that define a method with each key, the methods whose names begin with `<`, and which keys are of the
+/// five methods that the framework may call on every object.
+#[derive(Drop)]
+struct Marked {
+    definers: Links,
+    special: Vec<bool>,
+    of_object: Vec<bool>,
+}
+
+/// What else the methods by these keys are.
+fn mark_methods(alloc: Global, program: &Program, methods: &Keyed) -> Result<Marked, AllocError>
+    ensures definers { AreShort methods.now.rows.rows → StandOnce methods.now.rows.rows → IfOk result (λ marked. AreDefiners methods.now.rows.rows methods.now.keys.count marked.definers.rows) }
+    ensures special { IfOk result (λ marked. marked.special.items ≡ map (is_special program.now) program.now.methods) }
+    ensures common { AreKeys method_pair program.now.methods methods.now.keys.keys.items methods.now.keys.count
+        → IfOk result (λ marked. AreCommon program.now program.now.methods methods.now.keys.keys.items marked.of_object.items) }
+{
+    let keys = methods.keys.keys.as_slice();
+    let special = special(alloc, program)?;
+    let of_object = of_object(alloc, program, keys, methods.keys.count)?;
+    let definers = definers(alloc, &methods.rows, methods.keys.count)?;
+    Ok(Marked {
+        definers,
+        special,
+        of_object,
+    })
+}
+
 /// The members by key.
 fn name_members(alloc: Global, program: &Program) -> Result<Named, AllocError>
     ensures { is_well_formed program.now ≡ true → IfOk result (λ named. IsNamed program.now named) }
 {
-    let fields = key_fields(alloc, program)?;
     let methods = key_methods(alloc, program)?;
-    let special = special(alloc, program)?;
-    let keys = methods.keys.keys.as_slice();
-    let of_object = of_object(alloc, program, keys, methods.keys.count)?;
-    let definers = definers(alloc, &methods.rows, methods.keys.count)?;
+    let marked = mark_methods(alloc, program, &methods)?;
+    let fields = key_fields(alloc, program)?;
     Ok(Named {
         field_keys: fields.keys,
         method_keys: methods.keys,
         fields: fields.members,
         methods: methods.members,
-        definers,
-        special,
-        of_object,
+        definers: marked.definers,
+        special: marked.special,
+        of_object: marked.of_object,
     })
 }
 
@@ -328,6 +355,25 @@ fn find_split(
     )
 }
 
+/// The tour of the classes, and what runs when they are initialised.
+#[derive(Drop)]
+struct Toured {
+    tour: Tour,
+    starts: Starts,
+}
+
+/// The tour and the starts of these classes.
+fn tour_classes(alloc: Global, program: &Program, shape: &Shape) -> Result<Toured, AllocError>
+    ensures starts { is_well_formed program.now ≡ true → IfOk result (λ toured. HasStarts program.now toured.starts.initialisers.items) }
+    ensures trivial { is_well_formed program.now ≡ true → IsMade program.now shape.now
+        → IfOk result (λ toured. Marks (length program.now.classes) (is_trivial program.now) toured.starts.trivial.items) }
+    ensures toured { is_well_formed program.now ≡ true → IsMade program.now shape.now → IfOk result (λ toured. IsToured program.now toured.tour) }
+{
+    let starts = find_starts(alloc, program, shape)?;
+    let tour = make_tour(alloc, shape)?;
+    Ok(Toured { tour, starts })
+}
+
 /// The hierarchy over these links and names.
 fn fill(
     alloc: Global,
@@ -339,16 +385,16 @@ fn fill(
     ensures names { IfOk result (λ hierarchy. hierarchy.named ≡ named) }
     ensures targets { IfOk result (λ hierarchy. IsOf program.now hierarchy → AreTargets program.now hierarchy.targets) }
     ensures starts { is_well_formed program.now ≡ true → IfOk result (λ hierarchy. HasStarts program.now hierarchy.starts.initialisers.items) }
-    ensures trivial { is_well_formed program.now ≡ true → IsMade program.now shape → IfOk result (λ hierarchy. Marks (length program.now.classes) (is_trivial program.now) hierarchy.starts.trivial.items) }
+    ensures trivial { is_well_formed program.now ≡ true → IsMade program.now shape
+        → IfOk result (λ hierarchy. Marks (length program.now.classes) (is_trivial program.now) hierarchy.starts.trivial.items) }
     ensures toured { is_well_formed program.now ≡ true → IsMade program.now shape → IfOk result (λ hierarchy. IsToured program.now hierarchy.tour) }
 {
-    let tour = make_tour(alloc, &shape)?;
-    let starts = find_starts(alloc, program, &shape)?;
+    let toured = tour_classes(alloc, program, &shape)?;
     let mut tables = Hierarchy {
         shape,
-        tour,
+        tour: toured.tour,
         named,
-        starts,
+        starts: toured.starts,
         targets: Targets {
             fields: Vec::new(alloc),
             methods: Vec::new(alloc),
@@ -358,21 +404,34 @@ fn fill(
     Ok(tables)
 }
 
+/// The members by key, unless there is a split override.
+fn name_unsplit(alloc: Global, program: &Program, shape: &Shape) -> Result<Named, HierarchyFault>
+    ensures names { is_well_formed program.now ≡ true → IfOk result (λ named. IsNamed program.now named) }
+    ensures unsplit { is_well_formed program.now ≡ true → IsMade program.now shape.now → IfOk result (λ _. NoSplit program.now) }
+    ensures refuses { is_well_formed program.now ≡ true → IsMade program.now shape.now → IfErr result (λ fault. IsSplitOr program.now fault) }
+{
+    let named = name_members(alloc, program)?;
+    match find_split(alloc, program, shape, &named)? {
+        Some((class, method)) => Err(HierarchyFault::SplitOverride { class, method }),
+        None => Ok(named),
+    }
+}
+
 /// The hierarchy over these links, unless there is a split override.
 fn complete(alloc: Global, program: &Program, shape: Shape) -> Result<Hierarchy, HierarchyFault>
     ensures links { IfOk result (λ hierarchy. hierarchy.shape ≡ shape) }
     ensures names { is_well_formed program.now ≡ true → IfOk result (λ hierarchy. IsNamed program.now hierarchy.named) }
     ensures targets { IfOk result (λ hierarchy. IsOf program.now hierarchy → AreTargets program.now hierarchy.targets) }
     ensures starts { is_well_formed program.now ≡ true → IfOk result (λ hierarchy. HasStarts program.now hierarchy.starts.initialisers.items) }
-    ensures trivial { is_well_formed program.now ≡ true → IsMade program.now shape → IfOk result (λ hierarchy. Marks (length program.now.classes) (is_trivial program.now) hierarchy.starts.trivial.items) }
+    ensures trivial { is_well_formed program.now ≡ true → IsMade program.now shape
+        → IfOk result (λ hierarchy. Marks (length program.now.classes) (is_trivial program.now) hierarchy.starts.trivial.items) }
     ensures toured { is_well_formed program.now ≡ true → IsMade program.now shape → IfOk result (λ hierarchy. IsToured program.now hierarchy.tour) }
     ensures unsplit { is_well_formed program.now ≡ true → IsMade program.now shape → IfOk result (λ _. NoSplit program.now) }
     ensures refuses { is_well_formed program.now ≡ true → IsMade program.now shape → IfErr result (λ fault. IsSplitOr program.now fault) }
 {
-    let named = name_members(alloc, program)?;
-    match find_split(alloc, program, &shape, &named)? {
-        Some((class, method)) => Err(HierarchyFault::SplitOverride { class, method }),
-        None => Ok(fill(alloc, program, shape, named)?),
+    match name_unsplit(alloc, program, &shape) {
+        Ok(named) => Ok(fill(alloc, program, shape, named)?),
+        Err(fault) => Err(fault),
     }
 }
 

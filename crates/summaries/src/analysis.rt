@@ -162,13 +162,24 @@ fn certified(
     Ok(Some(with_frames(facts, frames, quiet)))
 }
 
+/// What the search finds from where nothing is known.
+fn found_by(
+    alloc: Global,
+    spread: &mut Spread<'_>,
+    bounds: Bounds<'_>,
+) -> Result<Pieces, AllocError>
+    ensures { IfOk result (λ pieces. pieces.facts.any ≡ any_value) }
+{
+    spread.search(alloc, bounds.outside, bounds.found)?;
+    pieces_of(alloc, spread)
+}
+
 /// What the search finds.
 fn searched(alloc: Global, ground: Ground<'_>, bounds: Bounds<'_>) -> Result<Pieces, AllocError>
     ensures { IfOk result (λ pieces. pieces.facts.any ≡ any_value) }
 {
     let mut spread = Spread::new(alloc, ground)?;
-    spread.search(alloc, bounds.outside, bounds.found)?;
-    pieces_of(alloc, &spread)
+    found_by(alloc, &mut spread, bounds)
 }
 
 /// What is known by the bodies of a program.

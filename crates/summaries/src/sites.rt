@@ -391,6 +391,31 @@ impl Making {
         self.firsts.push(word(self.nodes.len()))?;
         self.add_sites(place, insns, &sites)
     }
+
+    /// Adds the positions of all bodies.
+    fn add_all(
+        &mut self,
+        alloc: Global,
+        looks: &Looks<'_>,
+        codes: &Codes<'_>,
+    ) -> Result<(), AllocError> {
+        let mut place = 0u32;
+        for code in codes.all.as_slice() {
+            self.add(alloc, looks, place, code)?;
+            place = behind(place, 1);
+        }
+        Ok(())
+    }
+}
+
+/// No positions yet, with room for those of all bodies.
+fn no_making(alloc: Global, codes: &Codes<'_>) -> Result<Making, AllocError> {
+    Ok(Making {
+        all: Vec::with_capacity(alloc, codes.positions as usize)?,
+        nodes: Vec::new(alloc),
+        firsts: Vec::with_capacity(alloc, codes.all.len())?,
+        reads: Vec::new(alloc),
+    })
 }
 
 /// All positions of the bodies of a program.
@@ -407,17 +432,8 @@ pub(crate) fn make_sites(
         codes,
         numbering,
     };
-    let mut making = Making {
-        all: Vec::with_capacity(alloc, codes.positions as usize)?,
-        nodes: Vec::new(alloc),
-        firsts: Vec::with_capacity(alloc, codes.all.len())?,
-        reads: Vec::new(alloc),
-    };
-    let mut place = 0u32;
-    for code in codes.all.as_slice() {
-        making.add(alloc, &looks, place, code)?;
-        place = behind(place, 1);
-    }
+    let mut making = no_making(alloc, codes)?;
+    making.add_all(alloc, &looks, codes)?;
     let Making {
         all,
         nodes,

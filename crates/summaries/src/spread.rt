@@ -151,22 +151,72 @@ fn raise_by_words(
     Ok(rose)
 }
 
+/// The numbers that wait for each of the four ends, and which bodies a run enters.
+#[derive(Drop)]
+struct Queues {
+    needed: Waits,
+    listed: Waits,
+    calls: Waits,
+    results: Waits,
+    entered: Vec<bool>,
+}
+
+/// Nothing waits, for so many bodies, classes and calls.
+fn no_queues(
+    alloc: Global,
+    codes: usize,
+    classes: usize,
+    calls: usize,
+) -> Result<Queues, AllocError> {
+    Ok(Queues {
+        needed: Waits::new(alloc, classes)?,
+        listed: Waits::new(alloc, classes)?,
+        calls: Waits::new(alloc, calls)?,
+        results: Waits::new(alloc, codes)?,
+        entered: vec![in alloc; false; codes]?,
+    })
+}
+
+/// What is known in cells, at nodes and of what calls pass.
+#[derive(Drop)]
+struct Store<'a> {
+    cells: Cells,
+    nodes: Nodes<'a>,
+    passing: Passing,
+}
+
+/// Nothing is known, for so many bodies and calls.
+fn no_store<'a>(
+    alloc: Global,
+    ground: Ground<'a>,
+    codes: usize,
+    calls: usize,
+) -> Result<Store<'a>, AllocError> {
+    Ok(Store {
+        passing: Passing::new(alloc, calls)?,
+        cells: Cells::new(alloc, ground.numbering.cells)?,
+        nodes: Nodes::new(alloc, ground.sites.nodes.as_slice(), codes)?,
+    })
+}
+
 impl<'a> Spread<'a> {
     /// Nothing is known yet.
     pub(crate) fn new(alloc: Global, ground: Ground<'a>) -> Result<Spread<'a>, AllocError> {
         let codes = ground.codes.all.len();
         let classes = ground.program.classes.len();
         let calls = ground.program.methods.len().saturating_mul(2);
+        let queues = no_queues(alloc, codes, classes, calls)?;
+        let store = no_store(alloc, ground, codes, calls)?;
         Ok(Spread {
             ground,
-            cells: Cells::new(alloc, ground.numbering.cells)?,
-            nodes: Nodes::new(alloc, ground.sites.nodes.as_slice(), codes)?,
-            passing: Passing::new(alloc, calls)?,
-            entered: vec![in alloc; false; codes]?,
-            needed: Waits::new(alloc, classes)?,
-            listed: Waits::new(alloc, classes)?,
-            calls: Waits::new(alloc, calls)?,
-            results: Waits::new(alloc, codes)?,
+            cells: store.cells,
+            nodes: store.nodes,
+            passing: store.passing,
+            entered: queues.entered,
+            needed: queues.needed,
+            listed: queues.listed,
+            calls: queues.calls,
+            results: queues.results,
         })
     }
 
@@ -363,6 +413,37 @@ impl<'a> Spread<'a> {
         Ok(())
     }
 
+    /// Lets registers come where a conditional branch goes, and answers those behind it.
+    fn fork(
+        &mut self,
+        alloc: Global,
+        code: &Code<'_>,
+        from: u32,
+        target: u32,
+        insn: &Insn,
+        registers: &PatMap<Value>,
+    ) -> Result<Option<PatMap<Value>>, AllocError> {
+        if let Some(left) = branch(alloc, registers, insn, true)? {
+            self.jump(alloc, code, from, target, &left)?;
+        }
+        branch(alloc, registers, insn, false)
+    }
+
+    /// The registers behind an instruction that goes on at the next position alone.
+    fn stepped(
+        &self,
+        alloc: Global,
+        site: Site,
+        insn: &Insn,
+        registers: &PatMap<Value>,
+    ) -> Result<Option<PatMap<Value>>, AllocError> {
+        if leaves_all(registers, insn) {
+            return Ok(Some(registers.share()?));
+        }
+        let value = taken(&self.cells, site, insn);
+        step(alloc, &self.ground.classes, registers, insn, &value)
+    }
+
     /// Lets registers come wherever an instruction goes on but at the next position, and answers those there.
     fn onward(
         &mut self,
@@ -378,23 +459,14 @@ impl<'a> Spread<'a> {
                 self.jump(alloc, code, from, *target, registers)?;
                 Ok(None)
             }
-            Insn::If { target, .. } | Insn::IfZero { target, .. } => {
-                if let Some(left) = branch(alloc, registers, insn, true)? {
-                    self.jump(alloc, code, from, *target, &left)?;
-                }
-                branch(alloc, registers, insn, false)
-            }
+            Insn::If { target, .. } | Insn::IfZero { target, .. } => self.fork(
+                alloc, code, from, *target, insn, registers,
+            ),
             Insn::PackedSwitch { targets, .. } | Insn::SparseSwitch { targets, .. } => {
                 self.cases(alloc, code, from, insn, targets.as_slice(), registers)?;
                 past(alloc, insn, targets.as_slice(), registers)
             }
-            _ => {
-                if leaves_all(registers, insn) {
-                    return Ok(Some(registers.share()?));
-                }
-                let value = taken(&self.cells, site, insn);
-                step(alloc, &self.ground.classes, registers, insn, &value)
-            }
+            _ => self.stepped(alloc, site, insn, registers),
         }
     }
 

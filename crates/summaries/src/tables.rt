@@ -228,35 +228,44 @@ pub(crate) struct Pieces {
     pub(crate) starts: Vec<Seq<Start>>,
 }
 
+/// What the search found of the methods.
+fn table_of(alloc: Global, spread: &Spread<'_>) -> Result<Table, AllocError> {
+    let mut table = Table::new(alloc, spread.ground.program)?;
+    match table.add_all(alloc, spread) {
+        Ok(()) => Ok(table),
+        Err(fault) => Err(fault),
+    }
+}
+
 /// What the search found.
 pub(crate) fn pieces_of(alloc: Global, spread: &Spread<'_>) -> Result<Pieces, AllocError>
     ensures { IfOk result (λ pieces. pieces.facts.any ≡ any_value) }
 {
-    let mut table = Table::new(alloc, spread.ground.program)?;
-    table.add_all(alloc, spread)?;
+    let needed = marks_of(alloc, spread, spread.needed.marks())?;
+    let listed = marks_of(alloc, spread, spread.listed.marks())?;
+    let fields = fields_of(alloc, spread)?;
+    let pools = pools_of(alloc, spread)?;
     let Table {
         starts,
         parameters,
         results,
         entered,
-    } = table;
-    let marks = Marks {
-        entered,
-        needed: marks_of(alloc, spread, spread.needed.marks())?,
-        listed: marks_of(alloc, spread, spread.listed.marks())?,
-    };
-    let facts = Facts {
-        frames: Vec::new(alloc),
-        parameters,
-        results,
-        fields: fields_of(alloc, spread)?,
-        quiet: Vec::new(alloc),
-        any: Value::any(),
-    };
+    } = table_of(alloc, spread)?;
     Ok(Pieces {
-        facts,
-        pools: pools_of(alloc, spread)?,
-        marks,
+        facts: Facts {
+            frames: Vec::new(alloc),
+            parameters,
+            results,
+            fields,
+            quiet: Vec::new(alloc),
+            any: Value::any(),
+        },
+        pools,
+        marks: Marks {
+            entered,
+            needed,
+            listed,
+        },
         starts,
     })
 }

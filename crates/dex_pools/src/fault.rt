@@ -7,7 +7,6 @@ ghost use Rattle.dex_pools.specs.Fault.{of_base};
 use dex_base::BaseFault;
 use program_model::LimitFault;
 use std::alloc::{AllocError, AllocFailed};
-use thiserror::Error;
 
 /// A table, or a list of members, elements or annotations, whose entries ascend.
 #[derive(Clone, Copy, Debug, Drop)]
@@ -21,40 +20,29 @@ pub enum Table {
 }
 
 /// What is wrong in the tables, or in a value or an annotation. `at` is a byte offset in the file.
-#[derive(Debug, Drop, Error)]
+#[derive(Debug, Drop)]
 pub enum PoolFault {
     /// Memory ran out.
-    #[error("out of memory")]
     NoMemory,
     /// What begins at `at` passes the end.
-    #[error("short at {at}")]
     Short { at: usize },
     /// The byte at `at` is the fifth of a number and has its top bit set.
-    #[error("long number at {at}")]
     LongLeb { at: usize },
     /// The byte at `at` does not continue a text.
-    #[error("text at {at}")]
     BadText { at: usize },
     /// The byte at `at` does not continue a descriptor, or the field_id at `at` has the type `V`.
-    #[error("descriptor at {at}")]
     BadDescriptor { at: usize },
     /// The index at `at` is not below the size of its table.
-    #[error("index {value} of {size} at {at}")]
     Index { at: usize, value: u32, size: u32 },
     /// The entry at `place` is not above the one before it.
-    #[error("order in {table:?} at {place}")]
     Order { table: Table, place: u32 },
     /// The value at `at` has no type or a wrong argument.
-    #[error("value at {at}")]
     BadValue { at: usize },
     /// The value at `at` lies more than 64 deep.
-    #[error("depth at {at}")]
     Deep { at: usize },
     /// The proto_id at `at` has another shorty than its own, or a parameter of type `V`.
-    #[error("shorty at {at}")]
     Shorty { at: usize },
     /// A limit is passed.
-    #[error("limit: {0:?}")]
     Limit(LimitFault),
 }
 

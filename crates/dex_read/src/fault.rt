@@ -9,44 +9,32 @@ use dex_base::BaseFault;
 use dex_pools::PoolFault;
 use program_model::LimitFault;
 use std::alloc::{AllocError, AllocFailed};
-use thiserror::Error;
 
 /// What is wrong with a file. `at` is a byte offset in it, `class` the place of a class_def, `method` a method number.
-#[derive(Debug, Drop, Error)]
+#[derive(Debug, Drop)]
 pub enum DexFault {
     /// Memory ran out.
-    #[error("out of memory")]
     NoMemory,
     /// The item that begins at `at` passes the end.
-    #[error("short at {at}")]
     Short { at: usize },
     /// The first eight bytes are those of no version that is read.
-    #[error("magic")]
     Magic,
     /// The field at `at` of the header has another value than it must have.
-    #[error("header at {at}")]
     Header { at: usize },
     /// The checksum is not that of the bytes behind it.
-    #[error("checksum {stored:08x}, computed {computed:08x}")]
     Checksum { stored: u32, computed: u32 },
     /// A table, a value or an annotation has a fault.
-    #[error("{0}")]
     Pool(PoolFault),
     /// The code of a method has a fault.
-    #[error("method {method}: {fault}")]
     Code { method: u32, fault: CodeFault },
     /// The member at `place` of a list of class data or annotations does not fit its class, its flags or its list.
-    #[error("member {place} of class {class}")]
     Member { class: u32, place: u32 },
     /// The class is `Ljava/lang/Object;`, or has no superclass, or is, extends or implements what is no class. Or it is
     /// an interface, and extends or implements a class of the file that is none.
-    #[error("root class {class}")]
     Root { class: u32 },
     /// The method's arguments are not those of its proto, or pass its registers.
-    #[error("frame of method {method}")]
     FrameSize { method: u32 },
     /// A limit is passed.
-    #[error("limit: {0:?}")]
     Limit(LimitFault),
 }
 

@@ -1,0 +1,11 @@
+pub mod Least
+pub mod Nearer
+pub mod Numbers
+pub mod Lists
+pub mod Catches
+pub mod Steps
+pub mod Bodies
+pub mod Shortened
+pub mod Thinned
+pub mod Lower
+pub mod Methods

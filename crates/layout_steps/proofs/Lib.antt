@@ -1,0 +1,2 @@
+pub mod Silenced
+pub mod Passes

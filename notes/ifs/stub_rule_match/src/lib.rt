@@ -1,0 +1,5 @@
+#![tactic(auto)]
+
+mod glob;
+
+pub use glob::matches_pieces;

@@ -11,7 +11,7 @@ ghost use Rattle.thin_pass.specs.Weights.{weight_of};
 ghost use Rattle.quiet_code.specs.Quiet.{is_direct_call, may_go, AreDropped, nop_if};
 ghost use Rattle.quiet_code.specs.Idle.{is_division, is_small, takes_result, does_nothing, does_nothing_at, LiveIn};
 ghost use Rattle.quiet_code.specs.Quieted.{nops_upto, NopsWell, IsQuietPlan, IsQuieted};
-ghost use Rattle.quiet_code.specs.Told.{AreTold, IsAsked};
+ghost use Rattle.quiet_code.specs.Told.{IsAsked};
 
 use crate::calls::Search;
 use crate::divisions::{Division, is_idle_division};

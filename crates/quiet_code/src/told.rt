@@ -16,7 +16,7 @@ use seq::Words;
 use std::alloc::{AllocError, Global};
 
 /// Which calls of a method number do nothing, on an object where they have one: static, direct and virtual ones.
-#[derive(Clone, Copy, PartialEq, Eq, Debug, Drop)]
+#[derive(Clone, Copy, Drop)]
 pub(crate) struct Idle {
     pub(crate) as_static: bool,
     pub(crate) as_direct: bool,

@@ -57,8 +57,10 @@ fn search(
     tables: &Tables,
 ) -> Result<Facts, AllocError>
     ensures sized { IfOk result (Sized program.now) }
-    ensures closed { IsResolved program.now hierarchy.now → is_well_formed program.now ≡ true → HasCommon program.now hierarchy.now tables.now.of_object.items → IfOk result (λ f. IsClosed program.now outside.now tables.now f) }
-    ensures least { IsResolved program.now hierarchy.now → is_well_formed program.now ≡ true → HasCommon program.now hierarchy.now tables.now.of_object.items → AreCommon program.now hierarchy.now tables.now.of_object.items → IfOk result (AreKnownReached program.now outside.now tables.now) }
+    ensures closed { IsResolved program.now hierarchy.now → is_well_formed program.now ≡ true → HasCommon program.now hierarchy.now tables.now.of_object.items
+        → IfOk result (λ f. IsClosed program.now outside.now tables.now f) }
+    ensures least { IsResolved program.now hierarchy.now → is_well_formed program.now ≡ true → HasCommon program.now hierarchy.now tables.now.of_object.items
+        → AreCommon program.now hierarchy.now tables.now.of_object.items → IfOk result (AreKnownReached program.now outside.now tables.now) }
 {
     let mut facts = no_facts(alloc, program)?;
     let mut notes = Notes::new(alloc, program, hierarchy)?;

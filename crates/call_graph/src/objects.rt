@@ -34,7 +34,9 @@ fn add_candidates(
     walk: &mut Walk,
     out: &mut Vec<Fact>,
 ) -> Result<(), AllocError>
-    ensures adds { IsResolved at.now.program.now at.now.hierarchy.now → IsReady at.now.program.now walk.old → (name proto : ℕ) → IsKey at.now.program.now at.now.hierarchy.now key name proto → OnOk result (out.new.items ≡ out.old.items ++ all_found at.now.program.now (class_candidates at.now.program.now class name proto)) }
+    ensures adds { IsResolved at.now.program.now at.now.hierarchy.now → IsReady at.now.program.now walk.old → (name proto : ℕ)
+        → IsKey at.now.program.now at.now.hierarchy.now key name proto
+        → OnOk result (out.new.items ≡ out.old.items ++ all_found at.now.program.now (class_candidates at.now.program.now class name proto)) }
     ensures ready { IsReady at.now.program.now walk.old → OnOk result (IsReady at.now.program.now walk.new) }
     ensures stays { OnOk result (Stays out.old.items out.new.items) }
 {
@@ -60,7 +62,8 @@ fn add_answers(
     out: &mut Vec<Fact>,
 ) -> Result<(), AllocError>
     ensures stays { OnOk result (Stays out.old.items out.new.items) }
-    ensures adds { IsResolved at.now.program.now at.now.hierarchy.now → IsReady at.now.program.now walk.old → (name proto : ℕ) → IsKey at.now.program.now at.now.hierarchy.now key name proto → OnOk result (out.new.items ≡ out.old.items ++ all_found at.now.program.now (answers_to at.now.program.now class name proto)) }
+    ensures adds { IsResolved at.now.program.now at.now.hierarchy.now → IsReady at.now.program.now walk.old → (name proto : ℕ)
+        → IsKey at.now.program.now at.now.hierarchy.now key name proto → OnOk result (out.new.items ≡ out.old.items ++ all_found at.now.program.now (answers_to at.now.program.now class name proto)) }
     ensures ready { IsReady at.now.program.now walk.old → OnOk result (IsReady at.now.program.now walk.new) }
 {
     match at.hierarchy.find_virtual(at.program, class, key) {
@@ -79,7 +82,8 @@ fn add_called(
     out: &mut Vec<Fact>,
 ) -> Result<(), AllocError>
     ensures stays { OnOk result (Stays out.old.items out.new.items) }
-    ensures adds { IsResolved at.now.program.now at.now.hierarchy.now → IsReady at.now.program.now walk.old → OnOk result (out.new.items ≡ out.old.items ++ answer_facts at.now.program.now number class) }
+    ensures adds { IsResolved at.now.program.now at.now.hierarchy.now → IsReady at.now.program.now walk.old
+        → OnOk result (out.new.items ≡ out.old.items ++ answer_facts at.now.program.now number class) }
     ensures ready { IsReady at.now.program.now walk.old → OnOk result (IsReady at.now.program.now walk.new) }
 {
     match at.method_name(number) {
@@ -101,7 +105,8 @@ fn add_on_all(
     out: &mut Vec<Fact>,
 ) -> Result<(), AllocError>
     ensures stays { OnOk result (Stays out.old.items out.new.items) }
-    ensures adds { IsResolved at.now.program.now at.now.hierarchy.now → IsReady at.now.program.now walk.old → OnOk result (out.new.items ≡ out.old.items ++ flat_map (answer_facts at.now.program.now number) classes.now) }
+    ensures adds { IsResolved at.now.program.now at.now.hierarchy.now → IsReady at.now.program.now walk.old
+        → OnOk result (out.new.items ≡ out.old.items ++ flat_map (answer_facts at.now.program.now number) classes.now) }
     ensures ready { IsReady at.now.program.now walk.old → OnOk result (IsReady at.now.program.now walk.new) }
 {
     for class in classes {
@@ -120,7 +125,8 @@ fn add_all_called(
     out: &mut Vec<Fact>,
 ) -> Result<(), AllocError>
     ensures stays { OnOk result (Stays out.old.items out.new.items) }
-    ensures adds { IsResolved at.now.program.now at.now.hierarchy.now → IsReady at.now.program.now walk.old → OnOk result (out.new.items ≡ out.old.items ++ flat_map (λ n. answer_facts at.now.program.now n class) numbers.now) }
+    ensures adds { IsResolved at.now.program.now at.now.hierarchy.now → IsReady at.now.program.now walk.old
+        → OnOk result (out.new.items ≡ out.old.items ++ flat_map (λ n. answer_facts at.now.program.now n class) numbers.now) }
     ensures ready { IsReady at.now.program.now walk.old → OnOk result (IsReady at.now.program.now walk.new) }
 {
     for number in numbers {
@@ -138,7 +144,8 @@ pub fn follow_called(
     number: u32,
     out: &mut Vec<Fact>,
 ) -> Result<(), AllocError>
-    ensures notes { IsResolved at.now.program.now at.now.hierarchy.now → AreNotes at.now.program.now notes.old → OnOk result (NotesCall at.now.program.now notes.old notes.new number out.old.items out.new.items) }
+    ensures notes { IsResolved at.now.program.now at.now.hierarchy.now → AreNotes at.now.program.now notes.old
+        → OnOk result (NotesCall at.now.program.now notes.old notes.new number out.old.items out.new.items) }
     ensures reached { (o : Outside) (t : Tables) → IsResolved at.now.program.now at.now.hierarchy.now → AreNotes at.now.program.now notes.old → Reached at.now.program.now o t (fact.Called number)
         → AreReached at.now.program.now o t notes.old → AllReached at.now.program.now o t out.old.items → OnOk result (BothReached at.now.program.now o t notes.new out.new.items) }
 {
@@ -168,7 +175,8 @@ fn add_under(
     kind: u32,
     out: &mut Vec<Fact>,
 ) -> Result<(), AllocError>
-    ensures notes { IsResolved at.now.program.now at.now.hierarchy.now → AreNotes at.now.program.now notes.old → OnOk result (NotesUnder at.now.program.now notes.old notes.new class (kind ∷ []) out.old.items out.new.items) }
+    ensures notes { IsResolved at.now.program.now at.now.hierarchy.now → AreNotes at.now.program.now notes.old
+        → OnOk result (NotesUnder at.now.program.now notes.old notes.new class (kind ∷ []) out.old.items out.new.items) }
     ensures reached { (o : Outside) (t : Tables) → IsResolved at.now.program.now at.now.hierarchy.now → AreNotes at.now.program.now notes.old → IsMadeUnder at.now.program.now o t class kind
         → AreReached at.now.program.now o t notes.old → AllReached at.now.program.now o t out.old.items → OnOk result (BothReached at.now.program.now o t notes.new out.new.items) }
 {
@@ -193,8 +201,10 @@ fn add_under_all(
     kinds: &[u32],
     out: &mut Vec<Fact>,
 ) -> Result<(), AllocError>
-    ensures notes { IsResolved at.now.program.now at.now.hierarchy.now → AreNotes at.now.program.now notes.old → OnOk result (NotesUnder at.now.program.now notes.old notes.new class kinds.now out.old.items out.new.items) }
-    ensures reached { (o : Outside) (t : Tables) → IsResolved at.now.program.now at.now.hierarchy.now → AreNotes at.now.program.now notes.old → ((u : ℕ) → Contains kinds.now u → IsMadeUnder at.now.program.now o t class u)
+    ensures notes { IsResolved at.now.program.now at.now.hierarchy.now → AreNotes at.now.program.now notes.old
+        → OnOk result (NotesUnder at.now.program.now notes.old notes.new class kinds.now out.old.items out.new.items) }
+    ensures reached { (o : Outside) (t : Tables) → IsResolved at.now.program.now at.now.hierarchy.now → AreNotes at.now.program.now notes.old
+        → ((u : ℕ) → Contains kinds.now u → IsMadeUnder at.now.program.now o t class u)
         → AreReached at.now.program.now o t notes.old → AllReached at.now.program.now o t out.old.items → OnOk result (BothReached at.now.program.now o t notes.new out.new.items) }
 {
     for kind in kinds {
@@ -237,7 +247,8 @@ fn add_open(
 /// What the framework may call of a virtual method of a class above a class, by its key: what the class finds; where
 /// there is none, the interface's own method, which is a candidate.
 fn inherited(at: &At<'_>, class: u32, above: u32, key: u32) -> Option<MethodAt>
-    ensures { IsResolved at.now.program.now at.now.hierarchy.now → (name proto : ℕ) → IsKey at.now.program.now at.now.hierarchy.now key name proto → result ≡ inherited at.now.program.now class above name proto }
+    ensures { IsResolved at.now.program.now at.now.hierarchy.now → (name proto : ℕ) → IsKey at.now.program.now at.now.hierarchy.now key name proto
+        → result ≡ inherited at.now.program.now class above name proto }
 {
     match at.hierarchy.find_virtual(at.program, class, key) {
         Some(found) => Some(found),
@@ -265,7 +276,8 @@ fn add_inherited(
 ) -> Result<(), AllocError>
     ensures stays { OnOk result (Stays out.old.items out.new.items) }
     ensures inherits { IsResolved at.now.program.now at.now.hierarchy.now → OnOk result (Inherits at.now.program.now shut.now class above (method.now ∷ []) out.new.items) }
-    ensures only { IsResolved at.now.program.now at.now.hierarchy.now → IsNamed at.now.program.now method.now → OnOk result (AddsOnly (InheritedBy at.now.program.now shut.now class above method.now) out.old.items out.new.items) }
+    ensures only { IsResolved at.now.program.now at.now.hierarchy.now → IsNamed at.now.program.now method.now
+        → OnOk result (AddsOnly (InheritedBy at.now.program.now shut.now class above method.now) out.old.items out.new.items) }
 {
     if at.hierarchy.is_virtual(method) {
         let key = at.hierarchy.key_of_method(method.name);
@@ -285,7 +297,8 @@ fn add_inherited_all(
 ) -> Result<(), AllocError>
     ensures stays { OnOk result (Stays out.old.items out.new.items) }
     ensures inherits { IsResolved at.now.program.now at.now.hierarchy.now → OnOk result (Inherits at.now.program.now shut.now class above methods.now out.new.items) }
-    ensures only { IsResolved at.now.program.now at.now.hierarchy.now → ((m : Method) → Contains methods.now m → IsNamed at.now.program.now m) → OnOk result (AddsOnly (InheritedFrom at.now.program.now shut.now class above methods.now) out.old.items out.new.items) }
+    ensures only { IsResolved at.now.program.now at.now.hierarchy.now → ((m : Method) → Contains methods.now m → IsNamed at.now.program.now m)
+        → OnOk result (AddsOnly (InheritedFrom at.now.program.now shut.now class above methods.now) out.old.items out.new.items) }
 {
     for method in methods {
         add_inherited(at, shut, class, above, method, out)?;
@@ -303,7 +316,8 @@ fn add_inherited_of(
 ) -> Result<(), AllocError>
     ensures stays { OnOk result (Stays out.old.items out.new.items) }
     ensures inherits { IsResolved at.now.program.now at.now.hierarchy.now → OnOk result (InheritsOf at.now.program.now shut.now class kind out.new.items) }
-    ensures only { IsResolved at.now.program.now at.now.hierarchy.now → is_well_formed at.now.program.now ≡ true → OnOk result (AddsOnly (Inherited at.now.program.now shut.now class kind) out.old.items out.new.items) }
+    ensures only { IsResolved at.now.program.now at.now.hierarchy.now → is_well_formed at.now.program.now ≡ true
+        → OnOk result (AddsOnly (Inherited at.now.program.now shut.now class kind) out.old.items out.new.items) }
 {
     match at.hierarchy.place_of(kind) {
         Some(above) => match at.class_at(above) {
@@ -327,7 +341,8 @@ fn add_all_inherited(
 ) -> Result<(), AllocError>
     ensures stays { OnOk result (Stays out.old.items out.new.items) }
     ensures inherits { IsResolved at.now.program.now at.now.hierarchy.now → OnOk result ((kind : ℕ) → Contains kinds.now kind → InheritsOf at.now.program.now shut.now class kind out.new.items) }
-    ensures only { IsResolved at.now.program.now at.now.hierarchy.now → is_well_formed at.now.program.now ≡ true → OnOk result (AddsOnly (InheritedAmong at.now.program.now shut.now class kinds.now) out.old.items out.new.items) }
+    ensures only { IsResolved at.now.program.now at.now.hierarchy.now → is_well_formed at.now.program.now ≡ true
+        → OnOk result (AddsOnly (InheritedAmong at.now.program.now shut.now class kinds.now) out.old.items out.new.items) }
 {
     for kind in kinds {
         add_inherited_of(at, shut, class, *kind, out)?;
@@ -345,7 +360,8 @@ fn add_found_open(
 ) -> Result<(), AllocError>
     ensures stays { OnOk result (Stays out.old.items out.new.items) }
     ensures common { IsResolved at.now.program.now at.now.hierarchy.now → OnOk result (FindsOpen at.now.program.now at.now.hierarchy.now shut.now class key out.new.items) }
-    ensures only { IsResolved at.now.program.now at.now.hierarchy.now → IsCommonKey at.now.program.now at.now.hierarchy.now key → OnOk result (AddsOnly (FoundCommon at.now.program.now shut.now class) out.old.items out.new.items) }
+    ensures only { IsResolved at.now.program.now at.now.hierarchy.now → IsCommonKey at.now.program.now at.now.hierarchy.now key
+        → OnOk result (AddsOnly (FoundCommon at.now.program.now shut.now class) out.old.items out.new.items) }
 {
     add_open(
         at,
@@ -364,8 +380,10 @@ fn add_common(
     out: &mut Vec<Fact>,
 ) -> Result<(), AllocError>
     ensures stays { OnOk result (Stays out.old.items out.new.items) }
-    ensures common { IsResolved at.now.program.now at.now.hierarchy.now → OnOk result ((key : ℕ) → Contains keys.now key → FindsOpen at.now.program.now at.now.hierarchy.now shut.now class key out.new.items) }
-    ensures only { IsResolved at.now.program.now at.now.hierarchy.now → AreCommon at.now.program.now at.now.hierarchy.now keys.now → OnOk result (AddsOnly (FoundCommon at.now.program.now shut.now class) out.old.items out.new.items) }
+    ensures common { IsResolved at.now.program.now at.now.hierarchy.now
+        → OnOk result ((key : ℕ) → Contains keys.now key → FindsOpen at.now.program.now at.now.hierarchy.now shut.now class key out.new.items) }
+    ensures only { IsResolved at.now.program.now at.now.hierarchy.now → AreCommon at.now.program.now at.now.hierarchy.now keys.now
+        → OnOk result (AddsOnly (FoundCommon at.now.program.now shut.now class) out.old.items out.new.items) }
 {
     for key in keys {
         add_found_open(at, shut, class, *key, out)?;
@@ -383,7 +401,10 @@ fn add_callbacks(
     out: &mut Vec<Fact>,
 ) -> Result<(), AllocError>
     ensures stays { OnOk result (Stays out.old.items out.new.items) }
-    ensures called_back { IsResolved at.now.program.now at.now.hierarchy.now → is_well_formed at.now.program.now ≡ true → HasCommon at.now.program.now at.now.hierarchy.now tables.now.of_object.items → OnOk result ((kind : ℕ) (y : Fact) → class_place at.now.program.now kind ≡ Some class → HasAbove at.now.program.now kind above.now → CallsBack at.now.program.now tables.now.object tables.now.shut.items kind y → Contains out.new.items y) }
+    ensures called_back { IsResolved at.now.program.now at.now.hierarchy.now → is_well_formed at.now.program.now ≡ true
+        → HasCommon at.now.program.now at.now.hierarchy.now tables.now.of_object.items
+        → OnOk result ((kind : ℕ) (y : Fact) → class_place at.now.program.now kind ≡ Some class → HasAbove at.now.program.now kind above.now
+        → CallsBack at.now.program.now tables.now.object tables.now.shut.items kind y → Contains out.new.items y) }
     ensures only { IsResolved at.now.program.now at.now.hierarchy.now → is_well_formed at.now.program.now ≡ true → AreCommon at.now.program.now at.now.hierarchy.now tables.now.of_object.items
         → OnOk result (AddsOnly (CallsOn at.now.program.now tables.now.object tables.now.shut.items class above.now) out.old.items out.new.items) }
 {
@@ -412,9 +433,13 @@ fn add_made(
     made: (u32, u32),
     out: &mut Vec<Fact>,
 ) -> Result<(), AllocError>
-    ensures notes { IsResolved at.now.program.now at.now.hierarchy.now → is_well_formed at.now.program.now ≡ true → AreNotes at.now.program.now notes.old → HasCommon at.now.program.now at.now.hierarchy.now tables.now.of_object.items → class_place at.now.program.now made.0 ≡ Some made.1 → OnOk result (NotesMade at.now.program.now tables.now notes.old notes.new made.0 out.new.items) }
-    ensures reached { (o : Outside) → IsResolved at.now.program.now at.now.hierarchy.now → is_well_formed at.now.program.now ≡ true → AreNotes at.now.program.now notes.old → AreCommon at.now.program.now at.now.hierarchy.now tables.now.of_object.items
-        → class_place at.now.program.now made.0 ≡ Some made.1 → Reached at.now.program.now o tables.now (fact.Made made.0) → AreReached at.now.program.now o tables.now notes.old → AllReached at.now.program.now o tables.now out.old.items
+    ensures notes { IsResolved at.now.program.now at.now.hierarchy.now → is_well_formed at.now.program.now ≡ true → AreNotes at.now.program.now notes.old
+        → HasCommon at.now.program.now at.now.hierarchy.now tables.now.of_object.items → class_place at.now.program.now made.0 ≡ Some made.1
+        → OnOk result (NotesMade at.now.program.now tables.now notes.old notes.new made.0 out.new.items) }
+    ensures reached { (o : Outside) → IsResolved at.now.program.now at.now.hierarchy.now → is_well_formed at.now.program.now ≡ true → AreNotes at.now.program.now notes.old
+        → AreCommon at.now.program.now at.now.hierarchy.now tables.now.of_object.items
+        → class_place at.now.program.now made.0 ≡ Some made.1 → Reached at.now.program.now o tables.now (fact.Made made.0) → AreReached at.now.program.now o tables.now notes.old
+        → AllReached at.now.program.now o tables.now out.old.items
         → OnOk result (BothReached at.now.program.now o tables.now notes.new out.new.items) }
 {
     let (kind, class) = made;
@@ -433,8 +458,10 @@ pub fn follow_made(
     kind: u32,
     out: &mut Vec<Fact>,
 ) -> Result<(), AllocError>
-    ensures notes { IsResolved at.now.program.now at.now.hierarchy.now → is_well_formed at.now.program.now ≡ true → AreNotes at.now.program.now notes.old → HasCommon at.now.program.now at.now.hierarchy.now tables.now.of_object.items → OnOk result (NotesMade at.now.program.now tables.now notes.old notes.new kind out.new.items) }
-    ensures reached { (o : Outside) → IsResolved at.now.program.now at.now.hierarchy.now → is_well_formed at.now.program.now ≡ true → AreNotes at.now.program.now notes.old → AreCommon at.now.program.now at.now.hierarchy.now tables.now.of_object.items
+    ensures notes { IsResolved at.now.program.now at.now.hierarchy.now → is_well_formed at.now.program.now ≡ true → AreNotes at.now.program.now notes.old
+        → HasCommon at.now.program.now at.now.hierarchy.now tables.now.of_object.items → OnOk result (NotesMade at.now.program.now tables.now notes.old notes.new kind out.new.items) }
+    ensures reached { (o : Outside) → IsResolved at.now.program.now at.now.hierarchy.now → is_well_formed at.now.program.now ≡ true → AreNotes at.now.program.now notes.old
+        → AreCommon at.now.program.now at.now.hierarchy.now tables.now.of_object.items
         → Reached at.now.program.now o tables.now (fact.Made kind) → AreReached at.now.program.now o tables.now notes.old → AllReached at.now.program.now o tables.now out.old.items
         → OnOk result (BothReached at.now.program.now o tables.now notes.new out.new.items) }
 {

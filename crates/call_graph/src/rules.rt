@@ -42,7 +42,8 @@ fn follow_class(
     kind: u32,
     out: &mut Vec<Fact>,
 ) -> Result<(), AllocError>
-    ensures { IsResolved at.now.program.now at.now.hierarchy.now → OnOk result (out.new.items ≡ out.old.items ++ (class_facts at.now.program.now tables.now.bases.items kind ++ conditional at.now.program.now tables.now kind)) }
+    ensures { IsResolved at.now.program.now at.now.hierarchy.now
+        → OnOk result (out.new.items ≡ out.old.items ++ (class_facts at.now.program.now tables.now.bases.items kind ++ conditional at.now.program.now tables.now kind)) }
 {
     add_of_class(alloc, at, tables.bases.as_slice(), kind, out)?;
     keep_fields(at, tables.fields_if.row(kind), out)?;
@@ -76,9 +77,11 @@ fn add_supers_of(
     ensures stays { OnOk result (Stays out.old.items out.new.items) }
     ensures same { OnOk result (SameNotes notes.old notes.new) }
     ensures are { IsResolved at.now.program.now at.now.hierarchy.now → AreNotes at.now.program.now notes.old → OnOk result (AreNotes at.now.program.now notes.new) }
-    ensures finds { IsResolved at.now.program.now at.now.hierarchy.now → is_well_formed at.now.program.now ≡ true → AreNotes at.now.program.now notes.old → names.now ≡ follow.names_of_method (follow.own_method at.now.program.now number)
+    ensures finds { IsResolved at.now.program.now at.now.hierarchy.now → is_well_formed at.now.program.now ≡ true → AreNotes at.now.program.now notes.old
+        → names.now ≡ follow.names_of_method (follow.own_method at.now.program.now number)
         → OnOk result ((y : Fact) → FindsSuper at.now.program.now number y → Contains out.new.items y) }
-    ensures only { IsResolved at.now.program.now at.now.hierarchy.now → is_well_formed at.now.program.now ≡ true → AreNotes at.now.program.now notes.old → names.now ≡ follow.names_of_method (follow.own_method at.now.program.now number)
+    ensures only { IsResolved at.now.program.now at.now.hierarchy.now → is_well_formed at.now.program.now ≡ true → AreNotes at.now.program.now notes.old
+        → names.now ≡ follow.names_of_method (follow.own_method at.now.program.now number)
         → OnOk result (AddsOnly (FindsSuper at.now.program.now number) out.old.items out.new.items) }
 {
     match at.method_name(number) {
@@ -105,7 +108,8 @@ fn follow_method(
     ensures stays { IsResolved at.now.program.now at.now.hierarchy.now → OnOk result (Stays (out.old.items ++ body_facts at.now.program.now tables.now.bases.items number) out.new.items) }
     ensures same { OnOk result (SameNotes notes.old notes.new) }
     ensures are { IsResolved at.now.program.now at.now.hierarchy.now → AreNotes at.now.program.now notes.old → OnOk result (AreNotes at.now.program.now notes.new) }
-    ensures supers { IsResolved at.now.program.now at.now.hierarchy.now → is_well_formed at.now.program.now ≡ true → AreNotes at.now.program.now notes.old → OnOk result ((y : Fact) → FindsSuper at.now.program.now number y → Contains out.new.items y) }
+    ensures supers { IsResolved at.now.program.now at.now.hierarchy.now → is_well_formed at.now.program.now ≡ true → AreNotes at.now.program.now notes.old
+        → OnOk result ((y : Fact) → FindsSuper at.now.program.now number y → Contains out.new.items y) }
     ensures only { IsResolved at.now.program.now at.now.hierarchy.now → is_well_formed at.now.program.now ≡ true → AreNotes at.now.program.now notes.old
         → OnOk result (AddsOnly (FindsSuper at.now.program.now number) (out.old.items ++ body_facts at.now.program.now tables.now.bases.items number) out.new.items) }
 {
@@ -124,9 +128,11 @@ pub fn follow(
     fact: Fact,
     out: &mut Vec<Fact>,
 ) -> Result<(), AllocError>
-    ensures followed { IsResolved at.now.program.now at.now.hierarchy.now → is_well_formed at.now.program.now ≡ true → AreNotes at.now.program.now notes.old → HasCommon at.now.program.now at.now.hierarchy.now tables.now.of_object.items
+    ensures followed { IsResolved at.now.program.now at.now.hierarchy.now → is_well_formed at.now.program.now ≡ true → AreNotes at.now.program.now notes.old
+        → HasCommon at.now.program.now at.now.hierarchy.now tables.now.of_object.items
         → OnOk result (Followed at.now.program.now tables.now notes.old notes.new fact out.new.items) }
-    ensures reached { (o : Outside) → IsResolved at.now.program.now at.now.hierarchy.now → is_well_formed at.now.program.now ≡ true → AreNotes at.now.program.now notes.old → AreCommon at.now.program.now at.now.hierarchy.now tables.now.of_object.items
+    ensures reached { (o : Outside) → IsResolved at.now.program.now at.now.hierarchy.now → is_well_formed at.now.program.now ≡ true → AreNotes at.now.program.now notes.old
+        → AreCommon at.now.program.now at.now.hierarchy.now tables.now.of_object.items
         → Reached at.now.program.now o tables.now fact → AreReached at.now.program.now o tables.now notes.old → AllReached at.now.program.now o tables.now out.old.items
         → OnOk result (BothReached at.now.program.now o tables.now notes.new out.new.items) }
 {

@@ -12,10 +12,12 @@ ghost use Rattle.class_defs.specs.Members.{own_virtual};
 ghost use Rattle.program_model.specs.Lookups.{class_place};
 ghost use Rattle.hierarchy.specs.Naming.{IsKey};
 ghost use Rattle.receivers.specs.Receiving.{is_at};
-ghost use Rattle.loose_methods.specs.Loose.{is_not_null, number_at, number_found, is_this, names_it, is_it, is_plain_call, concerns, knows_not_null, has_receiver, allows, all_allow, code_allows, methods_allow, classes_allow, calls_allow};
+ghost use Rattle.loose_methods.specs.Loose.{is_not_null, number_at, number_found, is_this, names_it, is_it, is_plain_call, concerns};
+ghost use Rattle.loose_methods.specs.Loose.{knows_not_null, has_receiver, allows, all_allow, code_allows, methods_allow, classes_allow, calls_allow};
 ghost use Rattle.loose_methods.specs.Marking.{is_on, IsCandidate};
 ghost use Rattle.loose_methods.specs.Asked.{IsJudged};
-ghost use Rattle.loose_methods.specs.Sifting.{number_searched, is_met_by, find_met, is_found, is_clear, HasCandidates, Keeps, KeepsUnfound, KeepsPlain, IsSifted, Sifts, unfound_in, same_some, allows_so, allows_entry, IsShortCode, AreShortCodes};
+ghost use Rattle.loose_methods.specs.Sifting.{number_searched, is_met_by, find_met, is_found, is_clear, HasCandidates, Keeps, KeepsUnfound, KeepsPlain};
+ghost use Rattle.loose_methods.specs.Sifting.{IsSifted, Sifts, unfound_in, same_some, allows_so, allows_entry, IsShortCode, AreShortCodes};
 
 use crate::candidates::Judged;
 use crate::mentions::bar;

@@ -3,7 +3,8 @@
 ghost use Rattle.std.specs.Prelude.{◌≡◌, sum_by};
 ghost use Rattle.program_model.specs.Cells.{capped};
 ghost use Rattle.program_model.specs.declared.value.EncValue.{out-EncValue};
-ghost use Rattle.program_model.specs.Items.{element_items, note_items, layer_items, value_items, mark_items, marks_items, first_items_from, field_items, fields_items, region_items, body_items, method_items, class_items, proto_items, items_of};
+ghost use Rattle.program_model.specs.Items.{element_items, note_items, layer_items, value_items, mark_items, marks_items, first_items_from, field_items};
+ghost use Rattle.program_model.specs.Items.{fields_items, region_items, body_items, method_items, class_items, proto_items, items_of};
 
 use program_model::{
     Body, Class, Element, EncValue, Field, Mark, Method, Note, Program, Proto, Region,

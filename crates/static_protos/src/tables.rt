@@ -1,6 +1,7 @@
 //! The tables as they grow: what is appended for a method that is made static.
 
-ghost use Rattle.std.specs.Prelude.{◌≡◌, ℕ, ◌∷◌, ◌&&◌, ◌||◌, ◌<◌, ◌+◌, ◌^◌, None, Some, replicate, true, cond, is_some, map, nat_eq, nat_le, nat_lt, length, position, sum_by, slice_set, IfOk, IfSome, OnOk};
+ghost use Rattle.std.specs.Prelude.{◌≡◌, ℕ, ◌∷◌, ◌&&◌, ◌||◌, ◌<◌, ◌+◌, ◌^◌, None, Some, replicate, true, cond};
+ghost use Rattle.std.specs.Prelude.{is_some, map, nat_eq, nat_le, nat_lt, length, position, sum_by, slice_set, IfOk, IfSome, OnOk};
 ghost use Rattle.std.specs.List.{list_any};
 ghost use Rattle.std.specs.Cmp.Lexicographic.{pointwise};
 ghost use Rattle.std.specs.HashSet.{contains_by};

@@ -43,7 +43,7 @@ use Rattle.written_sets.proofs.Reading.{all_read}
 use Rattle.written_classes.proofs.FirstFits.{all_values}
 use Rattle.written_classes.proofs.Filed.{filed}
 
-firsts_there : (file : List ℕ) (p : Program) (i : Interner) (plans : List Plan) → AllLie file p i plans → Same (map (λ c. c.def.values) (parts_of_file p i plans)) (back_of p i.numbers plans (front_of p i plans (data_at (counts_of i plans)))).firsts.offsets (map (λ c. texts.array_text c.values) (parts_of_file p i plans)) (map (array_text p i.numbers) plans)
+pub firsts_there : (file : List ℕ) (p : Program) (i : Interner) (plans : List Plan) → AllLie file p i plans → Same (map (λ c. c.def.values) (parts_of_file p i plans)) (back_of p i.numbers plans (front_of p i plans (data_at (counts_of i plans)))).firsts.offsets (map (λ c. texts.array_text c.values) (parts_of_file p i plans)) (map (array_text p i.numbers) plans)
     → Both (Stands file) (map (λ c. c.def.values) (parts_of_file p i plans)) (map (λ c. texts.array_text c.values) (parts_of_file p i plans))
 firsts_there file p i plans lies same =
     all_stand file 1 (stops_of p i plans).marks (map (λ c. c.def.values) (parts_of_file p i plans)) (map (λ c. texts.array_text c.values) (parts_of_file p i plans)) (stops_of p i plans).values

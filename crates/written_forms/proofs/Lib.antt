@@ -1,0 +1,5 @@
+pub mod Signed
+pub mod Fields
+pub mod Forms
+pub mod Calls
+pub mod Spelling

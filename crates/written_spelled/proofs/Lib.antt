@@ -1,0 +1,11 @@
+pub mod Class
+pub mod Known
+pub mod All
+pub mod Firsts
+pub mod Refs
+pub mod Coded
+pub mod Reading
+pub mod Letters
+pub mod Static
+pub mod Interfaces
+pub mod Whole

@@ -1,6 +1,8 @@
-//! The law of the program that is read.
+//! The laws of the program that is read.
 
 ghost use Rattle.std.specs.Prelude.{◌≡◌, ◌<◌, List, ℕ, Ok, true, slice_index};
+ghost use Rattle.dex_pools.specs.Finds.{Ascends};
+ghost use Rattle.dex_pools.specs.Order.{list_below};
 ghost use Rattle.program_model.specs.ProgramRules.{is_well_formed};
 ghost use Rattle.program_model.specs.declared.program.Program.{Program};
 ghost use Rattle.dex_read.specs.File.{program_at};
@@ -16,3 +18,8 @@ pub fn reads_well_formed(bytes: &[u8])
 {
     let _bytes = bytes;
 }
+
+/// The strings of the program that is read ascend.
+pub fn order_law()
+    ensures { (bytes : List ℕ) (p : Program) → program_at bytes ≡ Ok p → Ascends list_below p.strings }
+{}

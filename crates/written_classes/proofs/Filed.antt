@@ -5,8 +5,6 @@ use Rattle.std.specs.List.{flat_map, AllByRecursion, list_any}
 use Rattle.dex_base.specs.Decides.{Each}
 use Rattle.dex_pools.specs.declared.interner.Interner.{Interner}
 use Rattle.dex_pools.specs.Interned.{IsInterned}
-use Rattle.dex_pools.specs.Finds.{Ascends}
-use Rattle.dex_pools.specs.Order.{list_below}
 use Rattle.dex_pools.specs.Written.{mark_text}
 use Rattle.program_model.specs.declared.program.Class.{Class}
 use Rattle.program_model.specs.declared.program.Program.{Program}
@@ -59,6 +57,7 @@ use Rattle.written_tables.specs.Widths.{HasWidths}
 use Rattle.written_tables.proofs.Fit.{Parts, parts_of as well_formed_parts, FitsClass, class_at_fits}
 use Rattle.written_tables.proofs.Texts.{texts_fit}
 use Rattle.written_tables.proofs.Used.{all_used}
+use Rattle.written_order.specs.Rises.{NamesRise}
 use Rattle.written_classes.specs.Left.{Left}
 use Rattle.written_parts.specs.Parts.{first_values, offsets_of, parts_of_file, sets_of_file}
 use Rattle.written_order.proofs.Order.{order_is, order_behind, order_every}
@@ -128,7 +127,7 @@ table_there p i plans fits orders counts =
 -- ---- the whole
 
 rest_of : (p : Program) (i : Interner) (places : List ℕ) (plans : List Plan) → IsInterned p i → IsOrder p places → ArePlans p i.numbers (flat_map (classes_at p) places) plans
-    → is_well_formed p ≡ true → ((class : ℕ) → IsTwice p class → ⊥) → ((class : ℕ) → IsAncestor p class class → ⊥) → HasWidths p → Ascends list_below p.strings → length (file_for p i plans) < 2 ^ 32
+    → is_well_formed p ≡ true → ((class : ℕ) → IsTwice p class → ⊥) → ((class : ℕ) → IsAncestor p class class → ⊥) → HasWidths p → NamesRise p → length (file_for p i plans) < 2 ^ 32
     → Left (file_for p i plans) p i plans (written_by i p) → Rest (file_for p i plans) p i plans (written_by i p) (parts_of_file p i plans) (sets_of_file p i plans)
 rest_of p i places plans interned ordered are formed once acyclic widths sorted few_file left =
     let file : List ℕ = file_for p i plans in
@@ -184,7 +183,7 @@ rest_of p i places plans interned ordered are formed once acyclic widths sorted 
       values = record { offsets_are = firsts_named p i plans; texts_are = values_texts p i few interned fits plans planned };
     }
 
-pub filed : (p : Program) (bytes : List ℕ) (w : writer.IsWritten p bytes) → is_well_formed p ≡ true → ((class : ℕ) → IsTwice p class → ⊥) → ((class : ℕ) → IsAncestor p class class → ⊥) → HasWidths p → Ascends list_below p.strings → IsSealed p.version bytes → length bytes < 2 ^ 32
+pub filed : (p : Program) (bytes : List ℕ) (w : writer.IsWritten p bytes) → is_well_formed p ≡ true → ((class : ℕ) → IsTwice p class → ⊥) → ((class : ℕ) → IsAncestor p class class → ⊥) → HasWidths p → NamesRise p → IsSealed p.version bytes → length bytes < 2 ^ 32
     → Left bytes p w.interner w.plans (written_by w.interner p) → IsValidFile p bytes (written_by w.interner p)
 filed p bytes w formed once acyclic widths sorted sealed few left =
     let i : Interner = w.interner in

@@ -22,8 +22,8 @@ use Rattle.dex_defs.specs.Sweep.{Piece, Places, instructions, payloads, starts_o
 use Rattle.dex_defs.specs.Instructions.{opcode, IsInsn, AreInsns}
 use Rattle.dex_defs.specs.CodeTexts.{payload_text, evenly, payloads_text, body_units, distance_of, units_of, IsShortest, AreShortest}
 use Rattle.dex_defs.specs.Written.{new_insn, new_body}
-use Rattle.written_forms.proofs.Forms.{Spelt, InWidth, NumbersFit, HasRoom, distance}
-use Rattle.written_forms.proofs.Spelling.{spelt}
+use Rattle.written_code.proofs.Forms.{Spelt, InWidth, NumbersFit, HasRoom, distance}
+use Rattle.written_code.proofs.Spelling.{spelt}
 use Rattle.written_code.proofs.Sweeping.{text_of, Starts, Sized, Fills, Runs, swept, starts_append, all_append, insn_sized, insn_no_payload, insn_no_nop, run_instructions, among}
 use Rattle.written_code.proofs.Tables.{Table, packed_table, sparse_table, fill_table, nop_pieces, payload_piece, payload_pieces, HaveTables, PieceFacts, piece_facts, tables_facts, texts_append}
 use Rattle.written_code.proofs.Standing.{to_of, to_same, payload_same, encodable_same, targets_same, width_same, HasPut, Put, Begins, insn_is, fill_fits, fit_sparse}

@@ -21,7 +21,7 @@ use Rattle.relax.proofs.Least.{need_mono}
 use Rattle.relax.proofs.Starts.{start_more}
 use Rattle.dex_defs.specs.LaysOut.{step_of as new_step}
 use Rattle.dex_defs.specs.Written.{new_insn}
-use Rattle.written_forms.proofs.Forms.{distance, Renamed, NumbersFit}
+use Rattle.written_code.proofs.Forms.{distance, Renamed, NumbersFit}
 use Rattle.written_code.proofs.Tables.{at_front}
 
 -- ---- what is least

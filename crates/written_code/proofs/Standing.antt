@@ -24,7 +24,7 @@ use Rattle.dex_defs.specs.Sweep.{Piece, Places, is_payload, payloads, starts_of}
 use Rattle.dex_defs.specs.Instructions.{opcode, HasFields, GoesTo, IsPayloadOf, double_at, signed_at, unit_bytes, item_at, IsInsn, Plain, Branch, Call, Fill, Packed, Sparse, AreInsns}
 use Rattle.dex_defs.specs.CodeTexts.{two_units, signed_units, target_units, units_from, payload_text, evenly}
 use Rattle.dex_defs.specs.Written.{new_insn}
-use Rattle.written_forms.proofs.Forms.{Form, APlain, ABranch, ACall, AFill, APacked, ASparse, Spelt, InWidth, IsBranchTo}
+use Rattle.written_code.proofs.Forms.{Form, APlain, ABranch, ACall, AFill, APacked, ASparse, Spelt, InWidth, IsBranchTo}
 use Rattle.written_code.proofs.Sweeping.{text_of, among}
 use Rattle.written_code.proofs.Tables.{at_front, signed_there, targets_there, keys_long, keys_there, Fit, items_fit, item_bytes, bytes_low, bytes_again, odd_of, items_there, Table, nop_pieces, payload_piece, payload_pieces, HaveTables, texts_append}
 

@@ -16,8 +16,8 @@ use Rattle.code_read.specs.Forms.{plain}
 use Rattle.code_read.specs.Branches.{is_branch, is_call}
 use Rattle.code_read.specs.Payloads.{payload_size}
 use Rattle.dex_defs.specs.Sweep.{Piece, payload_kind, piece_size, first_unit, is_payload, is_nop, only_fills, instructions, payloads, starts_of, Places, places_of, IsPiece, PiecesTo, IsSwept}
-use Rattle.written_forms.proofs.Fields.{Read}
-use Rattle.written_forms.proofs.Forms.{Form, APlain, ABranch, ACall, AFill, APacked, ASparse, Spelt}
+use Rattle.written_code.proofs.Fields.{Read}
+use Rattle.written_code.proofs.Forms.{Form, APlain, ABranch, ACall, AFill, APacked, ASparse, Spelt}
 
 -- ---- pieces one behind another
 

@@ -17,7 +17,7 @@ use Rattle.relax.specs.Sizes.{start}
 use Rattle.dex_defs.specs.Sweep.{Piece, Places, piece_size, is_payload, is_nop}
 use Rattle.dex_defs.specs.Instructions.{GoesTo, AreTargets, double_at, signed_at, unit_bytes, item_at}
 use Rattle.dex_defs.specs.CodeTexts.{two_units, signed_units, target_units, units_from, payload_text, evenly, payloads_text}
-use Rattle.written_forms.proofs.Signed.{Lies, Ahead, Behind, lies, few_bits, Near}
+use Rattle.written_code.proofs.Signed.{Lies, Ahead, Behind, lies, few_bits, Near}
 use Rattle.written_code.proofs.Sweeping.{text_of, Starts, Sized, Fills, starts_append, all_append}
 
 -- ---- what stands behind other units

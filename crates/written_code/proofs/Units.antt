@@ -19,8 +19,8 @@ use Rattle.code_write.specs.Code.{Spots, place_at, far_of, insn_units, goes_to, 
 use Rattle.code_write.specs.Payloads as written
 use Rattle.code_write.specs.Payloads.{number_bytes, target_bytes, odd_byte, payload_behind, with_payloads}
 use Rattle.dex_defs.specs.CodeTexts.{two_units, signed_units, target_units, units_from, payload_text, evenly, payloads_text}
-use Rattle.written_forms.proofs.Signed.{Lies, Ahead, Behind, lies}
-use Rattle.written_forms.proofs.Forms.{InWidth}
+use Rattle.written_code.proofs.Signed.{Lies, Ahead, Behind, lies}
+use Rattle.written_code.proofs.Forms.{InWidth}
 use Rattle.written_code.proofs.Tables.{at_front, units_long, keys_long, IsOneOf, one_of, item_bytes, Fit, bytes_long, bytes_low, odd_of, units_many}
 use Rattle.written_code.proofs.Standing.{to_of, fill_fits, FitSparse, fit_sparse}
 use Rattle.written_code.proofs.Bodies.{next_unit, text_at, insn_texts, Fine, AllFine}

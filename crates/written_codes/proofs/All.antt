@@ -75,8 +75,9 @@ use Rattle.written_parts.specs.Parts.{code_parts, class_parts, first_values, off
 use Rattle.written_parts.proofs.Members.{method_or, method_at}
 use Rattle.written_parts.proofs.KindFields.{HasPlan, all_planned}
 use Rattle.written_sets.proofs.Standing.{Stands, all_stand, stands_few, both_split}
-use Rattle.written_forms.specs.Widths.{HasWideCode, WideCode}
-use Rattle.written_forms.proofs.Forms.{Renamed}
+use Rattle.widths.specs.Code.{WideCode}
+use Rattle.written_code.specs.Widths.{HasWideCode}
+use Rattle.written_code.proofs.Forms.{Renamed}
 use Rattle.written_codes.proofs.Fitting.{FewEntries, sum_in, all_rec, kind_renamed}
 use Rattle.written_codes.proofs.Codes.{FitMethod, method_part}
 

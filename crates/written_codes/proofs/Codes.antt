@@ -50,11 +50,11 @@ use Rattle.write_laws.specs.Placing.{item_text}
 use Rattle.write_laws.proofs.Here.{here_same}
 use Rattle.write_laws.proofs.Coded.{item_long}
 use Rattle.written_sets.proofs.Standing.{Stands, Unplaced, Placed}
-use Rattle.written_forms.specs.Widths.{WideCode, WideBody}
-use Rattle.written_forms.proofs.Forms.{Renamed}
+use Rattle.widths.specs.Code.{WideCode, WideBody}
+use Rattle.written_code.proofs.Forms.{Renamed}
 use Rattle.written_code.proofs.Least.{AllSome, start_less}
 use Rattle.written_code.proofs.Bodies.{Swept, piece_texts, insn_texts}
-use Rattle.written_items.proofs.Frames.{FitBody, texts_of, units_of_body, swept_body, frame_of, code_stands}
+use Rattle.written_code.proofs.Frames.{FitBody, texts_of, units_of_body, swept_body, frame_of, code_stands}
 use Rattle.written_codes.proofs.Fitting.{FewEntries, kind_renamed, fit_body, same_sizes, written_sizes, none_far}
 use Rattle.written_codes.proofs.Texts.{text_is}
 

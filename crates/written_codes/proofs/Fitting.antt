@@ -50,15 +50,15 @@ use Rattle.names_law.proofs.Marking.{all_left, all_right}
 use Rattle.names_law.proofs.Placed.{places_long}
 use Rattle.names_law.proofs.Ranges.{ranges_kept}
 use Rattle.write_laws.specs.Fits.{TablesFit}
-use Rattle.written_forms.specs.Widths.{WideBody}
-use Rattle.written_forms.proofs.Forms.{InWidth, Renamed, NumbersFit}
+use Rattle.widths.specs.Code.{WideBody}
+use Rattle.written_code.proofs.Forms.{InWidth, Renamed, NumbersFit}
 use Rattle.written_code.proofs.Tables.{Fit, item_bytes, bytes_long, units_many, keys_long, units_long, one_of}
 use Rattle.written_code.proofs.Standing.{fill_fits, fit_sparse}
 use Rattle.written_code.proofs.Least.{needs, least_needs, least_long, least_one, steps_same, AllSome, needs_some}
 use Rattle.written_code.proofs.Units.{fill_parts}
 use Rattle.written_code.proofs.Bodies.{next_unit, NearAt, Fine, AllFine, LastStops}
-use Rattle.written_items.proofs.Handlers.{FitRegion}
-use Rattle.written_items.proofs.Frames.{FitBody}
+use Rattle.written_code.proofs.Handlers.{FitRegion}
+use Rattle.written_code.proofs.Frames.{FitBody}
 
 -- ---- sums
 

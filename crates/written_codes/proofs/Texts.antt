@@ -37,12 +37,12 @@ use Rattle.dex_write.specs.Codes.{with_debug}
 use Rattle.dex_defs.specs.LaysOut.{minus, size_text, handler_text, rest_text, catches_text, distinct, by_length, written_lists, begins_from}
 use Rattle.dex_defs.specs.CodeTexts.{two_units, payloads_text, most_passed, words_passed, frame_units, gap_units, covered, lists_text, list_offset, place_of, try_units, tries_text, body_units, code_text}
 use Rattle.dex_defs.specs.Written.{new_insn, new_handler, new_region, new_body}
-use Rattle.written_forms.proofs.Forms.{Renamed}
+use Rattle.written_code.proofs.Forms.{Renamed}
 use Rattle.written_code.proofs.Bodies.{Fine, AllFine, insn_texts}
 use Rattle.written_code.proofs.Units.{Placed, Left, bytes_append, bytes_twice, code_bytes, payloads_bytes, end_is, padded}
-use Rattle.written_lists.proofs.Sorted.{same_lists, lists_differ, none_differ, offsets_are, lists_same, Different}
-use Rattle.written_items.proofs.Handlers.{FitRegion}
-use Rattle.written_items.proofs.Frames.{FitBody, texts_of, units_of_body, texts_end, units_count, units_same, word_is}
+use Rattle.written_code.proofs.Sorted.{same_lists, lists_differ, none_differ, offsets_are, lists_same, Different}
+use Rattle.written_code.proofs.Handlers.{FitRegion}
+use Rattle.written_code.proofs.Frames.{FitBody, texts_of, units_of_body, texts_end, units_count, units_same, word_is}
 use Rattle.written_codes.proofs.Fitting.{call_few, sorted_many}
 
 -- ---- the layout

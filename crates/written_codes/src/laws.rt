@@ -2,8 +2,6 @@
 
 ghost use Rattle.std.specs.Prelude.{◌≡◌, ◌<◌, ◌+◌, ◌*◌, ◌^◌, ℕ, List, length, true};
 ghost use Rattle.dex_base.specs.Decides.{Entries};
-ghost use Rattle.dex_pools.specs.Finds.{Ascends};
-ghost use Rattle.dex_pools.specs.Order.{list_below};
 ghost use Rattle.program_model.specs.declared.program.Program.{Program};
 ghost use Rattle.program_model.specs.ProgramRules.{is_well_formed};
 ghost use Rattle.class_defs.specs.ClassGraph.{IsTwice, IsAncestor};
@@ -17,8 +15,9 @@ ghost use Rattle.dex_defs.specs.Spells.{sizes_in};
 ghost use Rattle.dex_defs.specs.Valid.{AreCodes, classes_at, methods_of};
 ghost use Rattle.write_laws.specs.Kinds.{IsValidFile};
 ghost use Rattle.written_tables.specs.Widths.{HasWidths};
+ghost use Rattle.written_order.specs.Rises.{NamesRise};
 ghost use Rattle.written_values.specs.Wide.{HasWideValues};
-ghost use Rattle.written_forms.specs.Widths.{HasWideCode};
+ghost use Rattle.written_code.specs.Widths.{HasWideCode};
 ghost use Rattle.written_parts.specs.Parts.{parts_of_file};
 
 /// Each code item of what is written for a well-formed program, whose written program lays out, stands where class data says, in
@@ -33,7 +32,7 @@ pub fn codes_law()
 /// written program, where its classes are spelled there.
 pub fn coded_law()
     ensures { (p : Program) (bytes : List ℕ) (w : IsWritten p bytes) → is_well_formed p ≡ true → ((class : ℕ) → IsTwice p class → ⊥) → ((class : ℕ) → IsAncestor p class class → ⊥)
-        → HasWidths p → HasWideValues p → HasWideCode p → LaysOut (written_by w.interner p) → Ascends list_below p.strings
+        → HasWidths p → HasWideValues p → HasWideCode p → LaysOut (written_by w.interner p) → NamesRise p
         → IsSealed p.version bytes → length bytes < 2 ^ 32
         → Entries (length (written_by w.interner p).classes) (λ k. IsClass bytes (written_by w.interner p) (sizes_in (written_by w.interner p)) (classes_at (written_by w.interner p) + 32 * k)) (written_by w.interner p).classes
         → IsValidFile p bytes (written_by w.interner p) }

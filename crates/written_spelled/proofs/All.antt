@@ -31,7 +31,7 @@ use Rattle.written_parts.specs.Parts.{class_part, class_parts}
 use Rattle.written_parts.proofs.Members.{field_at, method_at}
 use Rattle.written_parts.proofs.KindFields.{HasPlan}
 use Rattle.written_sets.proofs.Standing.{Stands}
-use Rattle.written_marks.proofs.Apart.{HasSets}
+use Rattle.written_spelled.proofs.Apart.{HasSets}
 use Rattle.written_spelled.proofs.Class.{class_spelled}
 use Rattle.written_spelled.proofs.Known.{facts_of}
 

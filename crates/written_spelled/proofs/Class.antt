@@ -34,9 +34,9 @@ use Rattle.written_parts.specs.Parts.{class_part}
 use Rattle.written_parts.proofs.Members.{field_at, method_at}
 use Rattle.written_parts.proofs.Pairs.{HasOwn, pairs_from, fields_paired, methods_paired, field_entries, method_entries_are}
 use Rattle.written_sets.proofs.Standing.{both_split}
-use Rattle.written_marks.proofs.Apart.{IsNewSet, HasSets}
-use Rattle.written_marks.proofs.Members.{fields_are, fields_grouped, methods_are, methods_grouped}
-use Rattle.written_marks.proofs.Pairing.{pairs_rise, pairs_defined}
+use Rattle.written_spelled.proofs.Apart.{IsNewSet, HasSets}
+use Rattle.written_spelled.proofs.Members.{fields_are, fields_grouped, methods_are, methods_grouped}
+use Rattle.written_spelled.proofs.Pairing.{pairs_rise, pairs_defined}
 
 -- ---- lists in two parts
 

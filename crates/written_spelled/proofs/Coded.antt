@@ -36,13 +36,13 @@ use Rattle.write_laws.specs.Listing.{method_entries, lists_in}
 use Rattle.write_laws.specs.Placing.{item_text, item_texts, code_offsets, line_offsets}
 use Rattle.write_laws.proofs.Coded.{item_long}
 use Rattle.written_tables.proofs.Fit.{FitsClass}
-use Rattle.written_forms.proofs.Forms.{Renamed}
-use Rattle.written_forms.specs.Widths.{HasWideCode}
+use Rattle.written_code.proofs.Forms.{Renamed}
+use Rattle.written_code.specs.Widths.{HasWideCode}
 use Rattle.written_parts.specs.Parts.{class_parts}
 use Rattle.written_parts.proofs.Members.{method_or, method_at}
 use Rattle.written_parts.proofs.KindFields.{HasPlan}
 use Rattle.written_sets.proofs.Standing.{Stands, Unplaced, Placed, stands_few, both_split}
-use Rattle.written_lines.proofs.Reading.{none_fit, code_back}
+use Rattle.written_spelled.proofs.ReadLines.{none_fit, code_back}
 use Rattle.written_codes.proofs.Fitting.{FewEntries, none_far}
 use Rattle.written_codes.proofs.Codes.{FitMethod, method_part}
 use Rattle.written_codes.proofs.All.{GoodMethod, body_named, code_body}

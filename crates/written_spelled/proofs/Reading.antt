@@ -29,7 +29,7 @@ use Rattle.write_laws.specs.Fits.{FitsProto, TablesFit}
 use Rattle.write_laws.specs.Listing.{method_entries, lists_in}
 use Rattle.write_laws.specs.Placing.{item_texts, code_offsets, line_offsets}
 use Rattle.written_tables.proofs.Fit.{Parts, FitsClass}
-use Rattle.written_forms.specs.Widths.{HasWideCode}
+use Rattle.written_code.specs.Widths.{HasWideCode}
 use Rattle.written_parts.specs.Parts.{class_parts}
 use Rattle.written_parts.proofs.Members.{method_at}
 use Rattle.written_parts.proofs.KindFields.{HasPlan}

@@ -19,8 +19,8 @@ use Rattle.write_laws.proofs.Numbers.{Few}
 use Rattle.written_parts.specs.Parts.{split_by, class_part, class_parts}
 use Rattle.written_parts.proofs.Pairs.{method_entries_are}
 use Rattle.written_sets.proofs.Standing.{Stands, both_split}
-use Rattle.written_marks.proofs.Apart.{HasSets}
-use Rattle.written_marks.proofs.Lists.{few_left, few_right, lists_stand}
+use Rattle.written_spelled.proofs.Apart.{HasSets}
+use Rattle.written_spelled.proofs.Lists.{few_left, few_right, lists_stand}
 use Rattle.written_spelled.proofs.All.{HasLists}
 
 map_size : {X Y : Type 0} (f : X → Y) (xs : List X) → length (map f xs) ≡ length xs

@@ -5,8 +5,6 @@ use Rattle.std.specs.List.{flat_map, AllByRecursion}
 use Rattle.dex_base.specs.Decides.{Each, Entries}
 use Rattle.dex_pools.specs.declared.interner.Interner.{Interner}
 use Rattle.dex_pools.specs.Interned.{IsInterned}
-use Rattle.dex_pools.specs.Finds.{Ascends}
-use Rattle.dex_pools.specs.Order.{list_below}
 use Rattle.dex_pools.specs.Spelled.{AreParameters}
 use Rattle.dex_pools.specs.Written.{mark_text}
 use Rattle.program_model.specs.declared.program.Class.{Class}
@@ -60,8 +58,9 @@ use Rattle.write_laws.proofs.Tabled.{short_of, is_short, tables_are_fit}
 use Rattle.written_tables.specs.Widths.{HasWidths}
 use Rattle.written_tables.proofs.Fit.{Parts, parts_of as well_formed_parts, FitsClass, class_at_fits}
 use Rattle.written_tables.proofs.Texts.{texts_fit}
+use Rattle.written_order.specs.Rises.{NamesRise}
 use Rattle.written_values.specs.Wide.{HasWideValues}
-use Rattle.written_forms.specs.Widths.{HasWideCode}
+use Rattle.written_code.specs.Widths.{HasWideCode}
 use Rattle.written_parts.specs.Parts.{first_values, offsets_of, parts_of_file, sets_of_file}
 use Rattle.written_order.proofs.Order.{order_is}
 use Rattle.written_order.proofs.Plans.{classes_written, classes_many}
@@ -80,7 +79,8 @@ use Rattle.written_classes.proofs.Whole.{firsts_there}
 use Rattle.written_codes.proofs.Fitting.{FewEntries, all_rec}
 use Rattle.written_codes.proofs.All.{Cells, cells_few}
 use Rattle.written_codes.proofs.Coded.{coded}
-use Rattle.written_marks.proofs.Apart.{IsNewSet, HasSets, sets_there, all_apart}
+use Rattle.written_spelled.proofs.Wide.{has_widths, has_wide_code, has_wide_values}
+use Rattle.written_spelled.proofs.Apart.{IsNewSet, HasSets, sets_there, all_apart}
 use Rattle.written_spelled.proofs.All.{HasLists, HasCodes, HasFirsts, all_spelled}
 use Rattle.written_spelled.proofs.Refs.{all_lists}
 use Rattle.written_spelled.proofs.Reading.{all_read}
@@ -92,7 +92,7 @@ lays_rec [] a = tt
 lays_rec (c ∷ cs) a = (all_rec (λ m. LaysOutMethod m.body) c.methods a.0, lays_rec cs a.1)
 
 spelled_by : (p : Program) (i : Interner) (places : List ℕ) (plans : List Plan) → IsInterned p i → IsOrder p places → ArePlans p i.numbers (flat_map (classes_at p) places) plans
-    → is_well_formed p ≡ true → ((class : ℕ) → IsTwice p class → ⊥) → ((class : ℕ) → IsAncestor p class class → ⊥) → HasWidths p → HasWideValues p → HasWideCode p → LaysOut (written_by i p) → Ascends list_below p.strings → length (file_for p i plans) < 2 ^ 32
+    → is_well_formed p ≡ true → ((class : ℕ) → IsTwice p class → ⊥) → ((class : ℕ) → IsAncestor p class class → ⊥) → HasWidths p → HasWideValues p → HasWideCode p → LaysOut (written_by i p) → NamesRise p → length (file_for p i plans) < 2 ^ 32
     → Entries (length (written_by i p).classes) (λ k. IsClass (file_for p i plans) (written_by i p) (sizes_in (written_by i p)) (valid.classes_at (written_by i p) + 32 * k)) (written_by i p).classes
 spelled_by p i places plans interned ordered are formed once acyclic widths wide code lays sorted few_file =
     let file : List ℕ = file_for p i plans in
@@ -154,10 +154,15 @@ spelled_by p i places plans interned ordered are formed once acyclic widths wide
     (refl, subst (λ l. Each (λ k c. IsClass file q (sizes_in q) (valid.classes_at q + 32 * k) c) 0 l) (sym classes) all)
 
 -- what is written for a well-formed program is a valid file of its written program
-pub written_valid : (p : Program) (bytes : List ℕ) (w : writer.IsWritten p bytes) → is_well_formed p ≡ true → ((class : ℕ) → IsTwice p class → ⊥) → ((class : ℕ) → IsAncestor p class class → ⊥) → HasWidths p → HasWideValues p → HasWideCode p → LaysOut (written_by w.interner p) → Ascends list_below p.strings
+written_valid : (p : Program) (bytes : List ℕ) (w : writer.IsWritten p bytes) → is_well_formed p ≡ true → ((class : ℕ) → IsTwice p class → ⊥) → ((class : ℕ) → IsAncestor p class class → ⊥) → HasWidths p → HasWideValues p → HasWideCode p → LaysOut (written_by w.interner p) → NamesRise p
     → IsSealed p.version bytes → length bytes < 2 ^ 32 → IsValidFile p bytes (written_by w.interner p)
 written_valid p bytes w formed once acyclic widths wide code lays sorted sealed few =
     let i : Interner = w.interner in
     let small : length (file_for p i w.plans) < 2 ^ 32 = subst (λ (b : List ℕ). length b < 2 ^ 32) w.file few in
     let spelled = spelled_by p i w.places w.plans w.interned w.ordered w.planned formed once acyclic widths wide code lays sorted small in
     coded p bytes w formed once acyclic widths wide code lays sorted sealed few (subst (λ b. Entries (length (written_by i p).classes) (λ k. IsClass b (written_by i p) (sizes_in (written_by i p)) (valid.classes_at (written_by i p) + 32 * k)) (written_by i p).classes) (sym w.file) spelled)
+
+-- the same of what dex_write says that it wrote
+pub written_is_valid : (p : Program) (bytes : List ℕ) (w : writer.IsWritten p bytes) → is_well_formed p ≡ true → ((class : ℕ) → IsTwice p class → ⊥) → ((class : ℕ) → IsAncestor p class class → ⊥) → NamesRise p → LaysOut (written_by w.interner p)
+    → IsValidFile p bytes (written_by w.interner p)
+written_is_valid p bytes w formed once acyclic rise lays = written_valid p bytes w formed once acyclic (has_widths p w.wide) (has_wide_values p formed w.wide) (has_wide_code p w.wide) lays rise w.sealed w.few

@@ -31,11 +31,11 @@ use Rattle.code_write.specs.Code.{far_of, format_of, insn_units}
 use Rattle.dex_pools.specs.Written.{renumbered}
 use Rattle.dex_defs.specs.CodeTexts.{units_of}
 use Rattle.dex_defs.specs.Written.{new_string, new_type, new_field, new_method, new_insn}
-use Rattle.written_forms.proofs.Signed.{Near, near_byte, near_short, near_int, near_nibble, near_word, near_long, near_half, few_bits, long_bits, nibble_back, short_back, word_back, high_back, wide_short, wide_word, wide_high, long_back, half_back, low_back, far_few, far_word, far_short, far_byte, near_spans, zero_near}
-use Rattle.written_forms.proofs.Fields.{Read, First, first_byte, Narrow, back, some_fields, narrow, read_nop}
-use Rattle.written_forms.proofs.Forms
-use Rattle.written_forms.proofs.Forms.{Form, APlain, ABranch, ACall, AFill, APacked, ASparse, Spelt, InWidth, Renamed, NumbersFit, HasRoom, Row, BranchRow, of_row, distance, IsBranchTo}
-use Rattle.written_forms.proofs.Calls.{by_nibbles, by_range}
+use Rattle.written_code.proofs.Signed.{Near, near_byte, near_short, near_int, near_nibble, near_word, near_long, near_half, few_bits, long_bits, nibble_back, short_back, word_back, high_back, wide_short, wide_word, wide_high, long_back, half_back, low_back, far_few, far_word, far_short, far_byte, near_spans, zero_near}
+use Rattle.written_code.proofs.Fields.{Read, First, first_byte, Narrow, back, some_fields, narrow, read_nop}
+use Rattle.written_code.proofs.Forms
+use Rattle.written_code.proofs.Forms.{Form, APlain, ABranch, ACall, AFill, APacked, ASparse, Spelt, InWidth, Renamed, NumbersFit, HasRoom, Row, BranchRow, of_row, distance, IsBranchTo}
+use Rattle.written_code.proofs.Calls.{by_nibbles, by_range}
 
 -- ---- choices
 

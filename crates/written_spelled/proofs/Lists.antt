@@ -15,7 +15,7 @@ use Rattle.dex_defs.specs.Written.{new_marks}
 use Rattle.write_laws.proofs.Here.{here_same}
 use Rattle.write_laws.proofs.Numbers.{Few, same_words, words_length, here_words}
 use Rattle.written_sets.proofs.Standing.{Stands, Unplaced, Placed, stands_few, both_split}
-use Rattle.written_marks.proofs.Apart.{IsNewSet}
+use Rattle.written_spelled.proofs.Apart.{IsNewSet}
 
 -- ---- numbers of 32 bits
 

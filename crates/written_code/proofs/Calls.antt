@@ -13,8 +13,8 @@ use Rattle.code_read.specs.Branches.{nibbles_form, registers_from, words_form, c
 use Rattle.code_write.specs.Fields.{three, call_fields}
 use Rattle.code_write.specs.Units.{byte_unit, nibble_unit, units_in}
 use Rattle.dex_defs.specs.CodeTexts.{units_of}
-use Rattle.written_forms.proofs.Fields.{Read, First, first_nibbles, Narrow, back, some_fields, narrow}
-use Rattle.written_forms.proofs.Forms.{Form, ACall, Spelt, CallRow, distance}
+use Rattle.written_code.proofs.Fields.{Read, First, first_nibbles, Narrow, back, some_fields, narrow}
+use Rattle.written_code.proofs.Forms.{Form, ACall, Spelt, CallRow, distance}
 
 -- ---- four bits each
 

@@ -46,9 +46,9 @@ use Rattle.code_write.specs.Units.{byte_unit, nibble_unit, units_in}
 use Rattle.code_write.specs.Code.{far_of, format_of, insn_units}
 use Rattle.dex_defs.specs.CodeTexts.{units_of}
 use Rattle.dex_defs.specs.Written.{new_string, new_type, new_field, new_method, new_insn}
-pub use Rattle.written_forms.specs.Widths.{InWidth}
-use Rattle.written_forms.proofs.Signed.{Near, near_byte, near_short, near_int, near_nibble, near_word, near_long, near_half, few_bits, long_bits, nibble_back, short_back, word_back, high_back, wide_short, wide_word, wide_high, long_back, half_back, low_back, far_few, far_word, far_short, far_byte, near_spans, zero_near}
-use Rattle.written_forms.proofs.Fields.{Read, First, first_byte, first_nibbles, Narrow, back, some_fields, narrow, read_nop}
+pub use Rattle.widths.specs.Code.{InWidth}
+use Rattle.written_code.proofs.Signed.{Near, near_byte, near_short, near_int, near_nibble, near_word, near_long, near_half, few_bits, long_bits, nibble_back, short_back, word_back, high_back, wide_short, wide_word, wide_high, long_back, half_back, low_back, far_few, far_word, far_short, far_byte, near_spans, zero_near}
+use Rattle.written_code.proofs.Fields.{Read, First, first_byte, first_nibbles, Narrow, back, some_fields, narrow, read_nop}
 
 -- ---- what an instruction is
 

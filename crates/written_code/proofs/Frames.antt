@@ -26,15 +26,15 @@ use Rattle.dex_defs.specs.CodeTexts.{two_units, signed_units, target_units, unit
 use Rattle.dex_defs.specs.Written.{new_insn, new_region, new_body}
 use Rattle.write_laws.proofs.Here.{here_left, here_right, here_is, here_same, here_32}
 use Rattle.write_laws.proofs.Numbers.{here_16}
-use Rattle.written_forms.proofs.Signed.{Lies, Ahead, Behind, lies, few_bits, near_word}
-use Rattle.written_forms.proofs.Forms.{Spelt, InWidth}
+use Rattle.written_code.proofs.Signed.{Lies, Ahead, Behind, lies, few_bits, near_word}
+use Rattle.written_code.proofs.Forms.{Spelt, InWidth}
 use Rattle.written_code.proofs.Tables.{units_low, bytes_low, item_bytes, IsOneOf, one_of}
 use Rattle.written_code.proofs.Standing.{fill_fits}
 use Rattle.written_code.proofs.Least.{needs, AllSome}
 use Rattle.written_code.proofs.Bodies.{next_unit, text_at, insn_texts, Fine, AllFine, AllSpelt, all_spelt, texts_long, LastStops, Swept, body_swept, payloads_same, start_low}
 use Rattle.written_code.proofs.Units.{bytes_append, bytes_twice, packed_few, sparse_few, fill_parts}
 use Rattle.code_write.specs.Units.{unit_bytes}
-use Rattle.written_items.proofs.Handlers.{FitRegion, try_of, regions_are}
+use Rattle.written_code.proofs.Handlers.{FitRegion, try_of, regions_are}
 
 -- ---- units and words
 

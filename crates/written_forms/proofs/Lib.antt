@@ -1,5 +1,0 @@
-pub mod Signed
-pub mod Fields
-pub mod Forms
-pub mod Calls
-pub mod Spelling

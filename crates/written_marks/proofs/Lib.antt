@@ -1,4 +1,0 @@
-pub mod Apart
-pub mod Lists
-pub mod Members
-pub mod Pairing

@@ -14,4 +14,5 @@ pub mod Unfaulted
 pub mod StayingSilenced
 pub mod Optimised
 pub mod Inlined
+pub mod Rising
 pub mod Joined

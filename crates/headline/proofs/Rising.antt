@@ -14,13 +14,18 @@ use Rattle.dex_pools.specs.Finds.{Ascends}
 use Rattle.dex_pools.specs.Order.{list_below}
 use Rattle.dex_read.specs.File.{program_at}
 use Rattle.read_laws.proofs.Rising.{strings_rise}
-use Rattle.stay_law.specs.Stays.{Stands}
 use Rattle.staticise.specs.Loosened.{marks_loosened}
 use Rattle.static_kept.specs.Staying.{MethodStaysAlongBy, ClassStaysAlongBy, StaysAlongBy}
 use Rattle.written_tables.proofs.Fit.{Parts, parts_of, class_at_fits}
 use Rattle.written_tables.proofs.In.{all_in, in_got}
 use Rattle.written_order.specs.Rises.{MarksLow, ClassLow, NamesRise}
 use Rattle.written_sets.proofs.Low.{class_low}
+use Rattle.written_spelled.proofs.Whole.{written_is_valid}
+use Rattle.class_defs.specs.ClassGraph.{IsTwice, IsAncestor}
+use Rattle.dex_write.specs.Written as writer
+use Rattle.dex_defs.specs.Written.{written_by}
+use Rattle.stay_law.specs.Stays.{Stands, NoMoreRegisters, FewRegisters}
+use Rattle.headline.specs.Headline.{StaysFor, IsSpelled}
 
 stands_all : {X : Type 0} (P : X → Type 0) (xs : List X) → ((x : X) → Stands xs x → P x) → AllByRecursion P xs
 stands_all P [] f = tt
@@ -67,3 +72,16 @@ names_rise bytes p q registers_are admitted reads formed s =
       ascend = subst (λ (l : List (List ℕ)). Ascends list_below l) (sym (front p.strings q.strings s.strings)) (strings_rise bytes p reads);
       classes = stands_all (ClassLow (length p.strings)) q.classes (λ d at. let from = s.classes d at in stays_low registers_are s.made admitted (length p.strings) from.0 d from.1.1 (class_low p from.0 (class_at_fits p from.1.0.0 from.0 parts from.1.0.1)));
     }
+
+pub names_rise_for : (inline : Bool) (bytes : List ℕ) (p q : Program) (admitted : List Bool) → program_at bytes ≡ Ok p → is_well_formed p ≡ true → StaysFor inline admitted p q → NamesRise q
+names_rise_for false bytes p q admitted reads formed s = names_rise bytes p q NoMoreRegisters admitted reads formed s
+names_rise_for true bytes p q admitted reads formed s = names_rise bytes p q FewRegisters admitted reads formed s
+
+-- what is written for a program in whose annotations names rise
+pub is_spelled : (p : Program) (bytes : List ℕ) (w : writer.IsWritten p bytes) → is_well_formed p ≡ true → ((class : ℕ) → IsTwice p class → ⊥) → ((class : ℕ) → IsAncestor p class class → ⊥) → NamesRise p → IsSpelled p bytes
+is_spelled p bytes w formed once grounded rise = record {
+  spelled = written_by w.interner p;
+  is = record { interner = w.interner; used = w.interned; is = refl };
+  signed = w.sealed.signature;
+  valid = λ lays. (written_is_valid p bytes w formed once grounded rise lays).valid;
+}

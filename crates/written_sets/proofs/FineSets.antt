@@ -221,4 +221,4 @@ module _ (p : Program) (i : Interner) (few : IsShort p) (h : IsInterned p i) (fi
   sets_found bytes sizes plans a old new reads =
       let starts : List ℕ = mark_starts i.numbers 0 (flat_map (marks_of i.numbers) plans) in
       let enough : total (map length (flat_map sets_of plans)) ≤ length starts = subst (λ (l : List ℕ). total l ≤ length starts) (counts_are plans) (sets_fit i.numbers plans) in
-      found_good bytes sizes _ old new (flat_map sets_of plans) starts (all_fine plans a) enough reads
+      found_good bytes sizes _ old new (flat_map sets_of plans) starts (all_fine old plans a) enough reads

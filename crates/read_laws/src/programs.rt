@@ -12,9 +12,11 @@ pub fn well_formed_law()
     ensures { (bytes : List ℕ) (p : Program) → ((i : ℕ) → slice_index bytes i < 256) → program_at bytes ≡ Ok p → is_well_formed p ≡ true }
 {}
 
-/// The same of bytes in memory: after a call, whatever program they spell is known to be well-formed. It does nothing else.
+/// The same of bytes in memory: after a call, they are known to be bytes, and whatever program they spell to be well-formed. It does
+/// nothing else.
 pub fn reads_well_formed(bytes: &[u8])
-    ensures { (p : Program) → program_at bytes.now ≡ Ok p → is_well_formed p ≡ true }
+    ensures formed { (p : Program) → program_at bytes.now ≡ Ok p → is_well_formed p ≡ true }
+    ensures bytes { (i : ℕ) → slice_index bytes.now i < 256 }
 {
     let _bytes = bytes;
 }

@@ -14,8 +14,8 @@ use Rattle.command_line.specs.Spelling.{Spells}
 use Rattle.command_line.specs.declared.command.Tell.{Tell}
 use Rattle.command_line.specs.declared.command.CommandWords.{CommandWords}
 use Rattle.command_line.specs.declared.command.CommandWords.TheVariants.{Nothing, Optimise, Check, Live, Trace, Workload}
-use Rattle.silence_bridge.proofs.Optimised.{optimised_shows, optimised_sound, optimised_reached, optimised_folded, optimised_bound, optimised_loosened, optimised_quiet, optimised_skips, optimised_dead, optimised_fresh, optimised_packed, optimised_stays}
-use Rattle.silence_bridge.proofs.Inlined.{inlined_shows, inlined_sound, inlined_reached, inlined_folded, inlined_bound, inlined_loosened, inlined_quiet, inlined_skips, inlined_dead, inlined_fresh, inlined_packed, inlined_stays}
+use Rattle.headline.proofs.Optimised.{optimised_shows, optimised_sound, optimised_reached, optimised_folded, optimised_bound, optimised_loosened, optimised_quiet, optimised_skips, optimised_dead, optimised_fresh, optimised_packed, optimised_stays}
+use Rattle.headline.proofs.Inlined.{inlined_shows, inlined_sound, inlined_reached, inlined_folded, inlined_bound, inlined_loosened, inlined_quiet, inlined_skips, inlined_dead, inlined_fresh, inlined_packed, inlined_stays}
 use Rattle.pipeline.specs.Advised.{IsAdvised}
 use Rattle.pipeline.specs.Asks.{Verdict}
 use Rattle.pipeline.specs.Prepared.{IsAdvisedBy}

@@ -1,1 +1,17 @@
+pub mod Ends
+pub mod Heads
+pub mod Inlining
+pub mod Keeping
+pub mod Owing
+pub mod Parts
+pub mod Repeated
+pub mod Splits
+pub mod Staying
+pub mod Listed
+pub mod Sought
+pub mod Silenced
+pub mod Unfaulted
+pub mod StayingSilenced
+pub mod Optimised
+pub mod Inlined
 pub mod Joined

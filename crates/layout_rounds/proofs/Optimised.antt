@@ -26,9 +26,9 @@ use Rattle.redex_outside.specs.Voices.{Voice}
 use Rattle.read_lays.proofs.Programs.{program_lies}
 use Rattle.layout_written.proofs.Falling.{read_ascends}
 use Rattle.layout_written.proofs.Written.{interned_lies}
-use Rattle.rounds_bridge.specs.Owed.{IsSound, Owes}
-use Rattle.rounds_bridge.proofs.Inlining.{inlining_owes}
-use Rattle.silence_bridge.proofs.Optimised.{silent_sound}
+use Rattle.headline.specs.Owed.{IsSound, Owes}
+use Rattle.headline.proofs.Inlining.{inlining_owes}
+use Rattle.headline.proofs.Optimised.{silent_sound}
 use Rattle.layout_rounds.specs.Lays.{Lays}
 use Rattle.layout_rounds.proofs.Rounds.{rounds_lay, silent_lays, inlining_lays}
 

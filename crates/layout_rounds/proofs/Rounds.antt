@@ -28,10 +28,10 @@ use Rattle.layout_steps.proofs.Passes.{pass_lies}
 use Rattle.layout_steps.proofs.Silenced.{silent_lies}
 use Rattle.layout_inlined.proofs.Inlined.{inlined_lies}
 use Rattle.layout_written.specs.Ascending.{TextsAscend}
-use Rattle.rounds_bridge.specs.Owed.{IsSound, Owes}
-use Rattle.rounds_bridge.proofs.Inlining.{inlining_owes}
-use Rattle.rounds_bridge.proofs.Keeping.{each_keeps}
-use Rattle.rounds_bridge.proofs.Owing.{steps_owe}
+use Rattle.headline.specs.Owed.{IsSound, Owes}
+use Rattle.headline.proofs.Inlining.{inlining_owes}
+use Rattle.headline.proofs.Keeping.{each_keeps}
+use Rattle.headline.proofs.Owing.{steps_owe}
 use Rattle.layout_rounds.specs.Lays.{Lays}
 use Rattle.layout_rounds.proofs.Texts.{kept_ascend, staticised_ascend}
 

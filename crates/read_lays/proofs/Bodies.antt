@@ -70,15 +70,15 @@ far_still ss ts s n (i ∷ is) e =
 -- the last of the positions that begin before a unit
 below_last : (unit : ℕ) (ss : List ℕ) (m : ℕ) → count_below unit ss ≡ suc m → (u : ℕ) × (slice_get ss m ≡ Some u) × (u < unit)
 below_last unit [] m e = absurd (omega (arith, e))
-below_last unit (s ∷ ss) m e = by (ltb s unit) refl e
+below_last unit (s ∷ ss) m e = by (ltb s unit) refl e (λ k. below_last unit ss k)
   where
-    further : (m : ℕ) → count_below unit ss ≡ m → s < unit → (u : ℕ) × (slice_get (s ∷ ss) m ≡ Some u) × (u < unit)
-    further zero e lt = (s, refl, lt)
-    further (suc m) e lt = below_last unit ss m e
+    further : (m : ℕ) → count_below unit ss ≡ m → s < unit → ((k : ℕ) → count_below unit ss ≡ suc k → (u : ℕ) × (slice_get ss k ≡ Some u) × (u < unit)) → (u : ℕ) × (slice_get (s ∷ ss) m ≡ Some u) × (u < unit)
+    further zero e lt later = (s, refl, lt)
+    further (suc m) e lt later = later m e
 
-    by : (b : Bool) → ltb s unit ≡ b → cond b (suc (count_below unit ss)) 0 ≡ suc m → (u : ℕ) × (slice_get (s ∷ ss) m ≡ Some u) × (u < unit)
-    by true h g = further m (omega (arith, g)) (ltb-true s unit h)
-    by false h g = absurd (omega (arith, g))
+    by : (b : Bool) → ltb s unit ≡ b → cond b (suc (count_below unit ss)) 0 ≡ suc m → ((k : ℕ) → count_below unit ss ≡ suc k → (u : ℕ) × (slice_get ss k ≡ Some u) × (u < unit)) → (u : ℕ) × (slice_get (s ∷ ss) m ≡ Some u) × (u < unit)
+    by true h g later = further m (omega (arith, g)) (ltb-true s unit h) later
+    by false h g later = absurd (omega (arith, g))
 
 module _ (bytes : List ℕ) (are : AreBytes bytes) (places : Places) (lists types : ℕ) (ss : List ℕ) (base : ℕ) (begins : (k u : ℕ) → slice_get places.starts k ≡ Some u → start ss k + base ≡ u) where
   region_near : (t : Try) (r : Region) → t.count < 65536 → covers places t ≡ true → IsRegion bytes places lists types t r → IsNear ss r
@@ -102,7 +102,7 @@ module _ (bytes : List ℕ) (are : AreBytes bytes) (places : Places) (lists type
     pub near : All (IsNear ss) rs
     pub few : length rs ≤ n
 
-  listing : (t : Try) (r : Region) → t.offset < 65536 → IsRegion bytes places lists types t r → Listing bytes places lists types
+  abbrev listing : (t : Try) (r : Region) → t.offset < 65536 → IsRegion bytes places lists types t r → Listing bytes places lists types
   listing t r small is = record {
     region = r;
     offset = t.offset;

@@ -171,8 +171,8 @@ module _ (places : Places) (ss : List ℕ) (base : ℕ) (begins : (k u : ℕ) �
     three m e h = three_at op f n low narrow first second room m e h
 
     plain_lies : (is_branch op || (is_call op || has_payload op)) ≡ false → Lies k n (plain op f)
-    plain_lies no =
-        let a = neither_of (is_branch op) (is_call op || has_payload op) no in
+    plain_lies other =
+        let a = neither_of (is_branch op) (is_call op || has_payload op) other in
         let b = neither_of (is_call op) (has_payload op) a.1 in
         of_fits k n (plain op f) (plain_fits op f n low narrow first second room b.0 a.0 b.1)
 
@@ -236,12 +236,12 @@ module _ (places : Places) (ss : List ℕ) (base : ℕ) (begins : (k u : ℕ) �
       if_near : from_to op 0x32 0x3d ≡ true → spans_far (start ss k) (start ss target) ≡ false
       if_near h =
           let small = all_fit h in
-          let d = near_by 32767 (cond (from_to op 0x32 0x37) (short f.c) (short f.b)) (if_offset h) (either (from_to op 0x32 0x37) (short_fits f.c small.c) (short_fits f.b small.b)) in
+          let d = near_by 32767 (cond (from_to op 0x32 0x37) (short f.c) (short f.b)) (if_offset h) (either (from_to op 0x32 0x37) (short f.c) (short f.b) (short_fits f.c small.c) (short_fits f.b small.b)) in
           not_far (start ss k) (start ss target) d.0 d.1
         where
-          either : (b : Bool) {x y : ℤ} → within (negsuc 32767) (pos 32767) x ≡ true → within (negsuc 32767) (pos 32767) y ≡ true → within (negsuc 32767) (pos 32767) (cond b x y) ≡ true
-          either true h g = h
-          either false h g = g
+          either : (b : Bool) (x y : ℤ) → within (negsuc 32767) (pos 32767) x ≡ true → within (negsuc 32767) (pos 32767) y ≡ true → within (negsuc 32767) (pos 32767) (cond b x y) ≡ true
+          either true x y h g = h
+          either false x y h g = g
 
       branch_lies : is_branch op ≡ true → Lies k n (branch_form op f target)
       branch_lies is = by (from_to op 0x28 0x2a) (from_to op 0x32 0x37) refl
@@ -252,7 +252,7 @@ module _ (places : Places) (ss : List ℕ) (base : ℕ) (begins : (k u : ℕ) �
           by false false e = let h = behind (from_to op 0x28 0x2a) (from_to op 0x32 0x3d) is e in record { room = two_units h; near = if_near h }
 
   insn_lies : (k n : ℕ) (p : Piece) (i : Insn) → slice_get places.starts k ≡ Some p.start → AreUnits p.text → length p.text ≤ n → IsInsn places p i → Lies k n i
-  insn_lies k n p i here are long (Plain f has no is) = subst (Lies k n) (sym is) (plain_lies k n p f here has are long no)
+  insn_lies k n p i here are long (Plain f has other is) = subst (Lies k n) (sym is) (plain_lies k n p f here has are long other)
   insn_lies k n p i here are long (Branch f has branch b) = subst (Lies k n) (sym b.is) (branch_lies k n p f here has are long b.target b.goes.unit b.goes.is b.goes.begins b.moves branch)
   insn_lies k n p i here are long (Call f has call few is) = subst (Lies k n) (sym is) (call_lies k n p f here has are long call)
   insn_lies k n p i here are long (Fill f has op_is h) = subst (Lies k n) (sym h.is) (of_fits k n _ (record { units = three k n p f here has are long 0x26 op_is fill_room; no_goto = refl; no_condition = refl }))

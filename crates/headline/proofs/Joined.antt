@@ -28,6 +28,7 @@ use Rattle.redex_cli.specs.Finished.{Finished, FinishedOf, IsOutputOf, Leaves, L
 use Rattle.redex_cli.specs.Refusals.{OutputBy}
 use Rattle.redex_cli.specs.Tables.{IsTableWith}
 use Rattle.redex_cli.specs.declared.fetching.Inputs.{Inputs}
+use Rattle.headline.proofs.LaidOut.{left_lies}
 use Rattle.headline.specs.Headline.{Headline, KeepsMeaning, Shrinks}
 
 -- rules alone shut no method, and what a library shuts is shut by the definition
@@ -77,6 +78,7 @@ module _ (p r : Program) (o : Outside) (rounds spared : ℕ) (voices : List Voic
         shown = optimised_shows p accepted.hierarchy well graph.resolved graph.acyclic graph.unsplit o accepted.types r leaves.origins (length voices) spared rounds given leaves.answers done holds;
         formed = (optimised_sound p accepted.hierarchy well graph.resolved graph.acyclic graph.unsplit o accepted.types r leaves.origins (length voices) spared rounds given leaves.answers done).formed;
         typed = (optimised_sound p accepted.hierarchy well graph.resolved graph.acyclic graph.unsplit o accepted.types r leaves.origins (length voices) spared rounds given leaves.answers done).typed;
+        lays = left_lies p r o rounds spared voices given accepted false leaves;
         reached = optimised_reached p accepted.hierarchy well graph.resolved graph.acyclic graph.unsplit o accepted.types r leaves.origins (length voices) spared rounds given leaves.answers done;
         folded = optimised_folded p accepted.hierarchy well graph.resolved graph.acyclic graph.unsplit o accepted.types r leaves.origins (length voices) spared rounds given leaves.answers done;
         bound = optimised_bound p accepted.hierarchy well graph.resolved graph.acyclic graph.unsplit o accepted.types r leaves.origins (length voices) spared rounds given leaves.answers done;
@@ -97,6 +99,7 @@ module _ (p r : Program) (o : Outside) (rounds spared : ℕ) (voices : List Voic
         shown = inlined_shows p accepted.hierarchy well graph.resolved graph.acyclic graph.unsplit o accepted.types r leaves.origins voices leaves.news spared rounds given leaves.answers done holds;
         formed = (inlined_sound p accepted.hierarchy well graph.resolved graph.acyclic graph.unsplit o accepted.types r leaves.origins voices leaves.news spared rounds given leaves.answers done).formed;
         typed = (inlined_sound p accepted.hierarchy well graph.resolved graph.acyclic graph.unsplit o accepted.types r leaves.origins voices leaves.news spared rounds given leaves.answers done).typed;
+        lays = left_lies p r o rounds spared voices given accepted true leaves;
         reached = inlined_reached p accepted.hierarchy well graph.resolved graph.acyclic graph.unsplit o accepted.types r leaves.origins voices leaves.news spared rounds given leaves.answers done;
         folded = inlined_folded p accepted.hierarchy well graph.resolved graph.acyclic graph.unsplit o accepted.types r leaves.origins voices leaves.news spared rounds given leaves.answers done;
         bound = inlined_bound p accepted.hierarchy well graph.resolved graph.acyclic graph.unsplit o accepted.types r leaves.origins voices leaves.news spared rounds given leaves.answers done;

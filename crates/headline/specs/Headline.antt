@@ -8,6 +8,7 @@ use Rattle.pass_defs.specs.Typed.{IsTyped}
 use Rattle.program_model.specs.ProgramRules.{is_well_formed}
 use Rattle.program_model.specs.declared.pass.Outside.{Outside}
 use Rattle.program_model.specs.declared.program.Program.{Program}
+use Rattle.dex_defs.specs.LaysOut.{LaysOut}
 use Rattle.dex_read.specs.File.{program_at}
 use Rattle.dex_write.specs.Written.{IsWritten}
 use Rattle.dead_code.specs.Dead.{is_quiet_field}
@@ -50,8 +51,8 @@ pub record AreAdmitted (voices : List Voice) (given : List Bool) (program : Prog
   pub replied : HasRun turns voices news given answers
 
 -- What is left of a program shows what the program shows without its silent calls in the admitted methods, to every framework, under every
--- script and float table that fit, and is well-formed and typed. Advisers who reply so were asked which methods may be rewritten: these are
--- admitted. Facts that are certified of what is left leave nothing to write in their bodies (`NoneLeft` of const_prop), where the
+-- script and float table that fit, and is well-formed and typed and lays out. Advisers who reply so were asked which methods may be rewritten:
+-- these are admitted. Facts that are certified of what is left leave nothing to write in their bodies (`NoneLeft` of const_prop), where the
 -- superclass of no interface is a class of the program that is none, no call to name another method (`NoneLeft` of devirt), no method that
 -- could be static (`NoneLeft` of staticise), and no call and no division that does nothing (`NoneIdle` of quiet_code), or there are no such
 -- facts, or none were asked for, since no method is admitted or a kept constructor is none of its class (`KeepsForms` of pipeline). In
@@ -68,6 +69,7 @@ pub record KeepsMeaning (inline : Bool) (voices : List Voice) (given : List Bool
   pub shown : SameShown (silenced (named program) (outer_of program outside) (admitted_in program admitted)) (named left) (outer_of program outside)
   pub formed : is_well_formed left ≡ true
   pub typed : IsTyped (named left)
+  pub lays : LaysOut left
   pub reached : outside.shrink ≡ true → NoneUnreached outside left
   pub folded : NoneKnown outside admitted left ⊎ KeepsForms outside admitted left
   pub bound : NoneBindable outside admitted left ⊎ KeepsForms outside admitted left

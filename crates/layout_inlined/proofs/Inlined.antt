@@ -50,8 +50,8 @@ module _ (i : Inliner) (c : Caller) (cells : ℕ) where
   tries_room : (n : ℕ) (old new : List (Option Callee)) (rows : List Row) → Tries i c cells n old rows new → Roomy old → Roomy new
   tries_room n old _ _ (Unsuited none) h = h
   tries_room n old _ _ (Suited y new rows _ candidate with_it (Unasked lacks)) h = h
-  tries_room n old _ _ (Suited y new rows _ candidate with_it (Refused row room asked no)) h = h
-  tries_room n old _ _ (Suited y new rows _ candidate with_it (Agreed row room asked yes)) h = inr room
+  tries_room n old _ _ (Suited y new rows _ candidate with_it (Refused row room asked other)) h = h
+  tries_room n old _ _ (Suited y new rows _ candidate with_it (Agreed row room asked agreed)) h = inr room
 
   tried_room : (n : ℕ) (rows : List Row) (chosen : List (Option Callee)) → HasTried i c cells n rows chosen → Roomy chosen
   tried_room _ _ _ Untried = inl refl

@@ -3,6 +3,7 @@ use Rattle.std.proofs.Common.{◌≡◌, inl, inr, ℕ, zero, suc, ◌+◌, ◌-
 use Rattle.std.specs.Prelude.{ℤ, pos, negsuc, ◌-ℤ◌, nat_eq, nat_le, Contains, slice_get, slice_index, slice_index_or, if◌then◌else◌}
 use Rattle.std.specs.List.{flat_map, list_any}
 use Rattle.std.proofs.lemmas.Bool.{cases_lt, leb-true}
+use Rattle.std.proofs.lemmas.Int.{ints}
 use Rattle.std.proofs.lemmas.List.{length-append}
 use Rattle.lemmas.proofs.Lists.{map_long, contains_here, contains_there, got_short}
 use Rattle.dex_base.specs.Leb.{uleb_text, sleb_text}
@@ -53,29 +54,32 @@ steps_same numbers e (i ∷ is) = ap (λ s. s ∷ map (step_of numbers) is) (ste
 
 ends_later : (at : ℕ) (is : List Insn) → min at 18446744073709551615 ≤ payload_end at is
 ends_later at [] = omega arith
-ends_later at (i ∷ is) = by (nat_eq (units_behind i) 0)
+ends_later at (i ∷ is) = by (nat_eq (units_behind i) 0) (ends_later at is) (ends_later (capped (even_place at + units_behind i)) is)
   where
-    by : (b : Bool) → min at 18446744073709551615 ≤ (if b then payload_end at is else payload_end (capped (even_place at + units_behind i)) is)
-    by true = ends_later at is
-    by false = let r = ends_later (capped (even_place at + units_behind i)) is in omega (arith, r)
+    by : (b : Bool) → min at 18446744073709551615 ≤ payload_end at is → min (capped (even_place at + units_behind i)) 18446744073709551615 ≤ payload_end (capped (even_place at + units_behind i)) is
+        → min at 18446744073709551615 ≤ (if b then payload_end at is else payload_end (capped (even_place at + units_behind i)) is)
+    by true r s = r
+    by false r s = omega (arith, s)
 
 -- ---- lists
 
 lists_same : (before xs : List Text) → all_lists before xs ≡ distinct before xs
 lists_same before [] = refl
-lists_same before (x ∷ xs) = by (list_any (is_same x) before)
+lists_same before (x ∷ xs) = by (list_any (is_same x) before) (lists_same before xs) (lists_same (before ++ x ∷ []) xs)
   where
-    by : (b : Bool) → all_lists (if b then before else before ++ x ∷ []) xs ≡ (if b then distinct before xs else distinct (before ++ x ∷ []) xs)
-    by true = lists_same before xs
-    by false = lists_same (before ++ x ∷ []) xs
+    by : (b : Bool) → all_lists before xs ≡ distinct before xs → all_lists (before ++ x ∷ []) xs ≡ distinct (before ++ x ∷ []) xs
+        → all_lists (if b then before else before ++ x ∷ []) xs ≡ (if b then distinct before xs else distinct (before ++ x ∷ []) xs)
+    by true r s = r
+    by false r s = s
 
 few_lists : (before xs : List Text) → length (distinct before xs) ≤ length before + length xs
 few_lists before [] = omega arith
-few_lists before (x ∷ xs) = by (list_any (is_same x) before)
+few_lists before (x ∷ xs) = by (list_any (is_same x) before) (few_lists before xs) (few_lists (before ++ x ∷ []) xs)
   where
-    by : (b : Bool) → length (if b then distinct before xs else distinct (before ++ x ∷ []) xs) ≤ length before + suc (length xs)
-    by true = let r = few_lists before xs in omega (arith, r)
-    by false = let r = few_lists (before ++ x ∷ []) xs in let l = length-append before (x ∷ []) in omega (arith, r, l)
+    by : (b : Bool) → length (distinct before xs) ≤ length before + length xs → length (distinct (before ++ x ∷ []) xs) ≤ length (before ++ x ∷ []) + length xs
+        → length (if b then distinct before xs else distinct (before ++ x ∷ []) xs) ≤ length before + suc (length xs)
+    by true r s = omega (arith, r)
+    by false r s = let l = length-append before (x ∷ []) in omega (arith, s, l)
 
 all_before : (k : ℕ) (xs : List Text) → bytes_before k xs + max k (longest xs) ≡ k + total xs
 all_before k [] = omega arith
@@ -89,7 +93,7 @@ size_same n (Some rest) l = let e : min n 2147483647 ≡ n = omega (arith, l) in
   where
     turned : (n : ℕ) → pos 0 -ℤ pos n ≡ minus n
     turned zero = refl
-    turned (suc n) = refl
+    turned (suc n) = omega (arith, ints)
 
 -- the places of positions, where the layout has few units
 pub record Places (numbers : Renumber) (sizes starts : List ℕ) (end : ℕ) (is : List Insn) : Type 0 where

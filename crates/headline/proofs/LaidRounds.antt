@@ -23,7 +23,7 @@ use Rattle.inline_calls.specs.Asked.{Row}
 use Rattle.inline_kept.proofs.Stayed.{inlined_stays}
 use Rattle.dex_defs.specs.LaysOut.{LaysOut}
 use Rattle.layout_steps.proofs.Passes.{pass_lies}
-use Rattle.layout_inlined.proofs.Inlined.{inlined_lies}
+use Rattle.layout_steps.proofs.Inlined.{inlined_lies}
 use Rattle.layout_written.specs.Ascending.{TextsAscend}
 use Rattle.headline.specs.Owed.{IsSound, Owes}
 use Rattle.headline.proofs.Keeping.{each_keeps}

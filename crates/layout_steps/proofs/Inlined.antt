@@ -39,7 +39,7 @@ use Rattle.inline_calls.specs.Rooms.{HasRoom, spliced_by, new_of}
 use Rattle.inline_kept.proofs.Looked.{looked_long, looked_at}
 use Rattle.dex_defs.specs.LaysOut.{LaysOutMethod, LaysOutBody, LaysOut}
 use Rattle.layout_law.proofs.Methods.{MethodLies, ClassLies, got_all, all_got, contained}
-use Rattle.layout_inlined.proofs.Short.{Inside, short_lies}
+use Rattle.layout_steps.proofs.Short.{Inside, short_lies}
 
 -- ---- what is accepted has room
 

@@ -28,6 +28,7 @@ use Rattle.redex_cli.specs.Finished.{Finished, FinishedOf, IsOutputOf, Leaves, L
 use Rattle.redex_cli.specs.Refusals.{OutputBy}
 use Rattle.redex_cli.specs.Tables.{IsTableWith}
 use Rattle.redex_cli.specs.declared.fetching.Inputs.{Inputs}
+use Rattle.headline.proofs.LaidOut.{left_lies, written_left_lies}
 use Rattle.headline.specs.Headline.{Headline, KeepsMeaning, Shrinks}
 use Rattle.headline.proofs.Rising.{names_rise_for, is_spelled}
 
@@ -80,6 +81,7 @@ module _ (p r : Program) (o : Outside) (rounds spared : ℕ) (voices : List Voic
         typed = (optimised_sound p accepted.hierarchy well graph.resolved graph.acyclic graph.unsplit o accepted.types r leaves.origins (length voices) spared rounds given leaves.answers done).typed;
         once = (optimised_sound p accepted.hierarchy well graph.resolved graph.acyclic graph.unsplit o accepted.types r leaves.origins (length voices) spared rounds given leaves.answers done).once;
         grounded = (optimised_sound p accepted.hierarchy well graph.resolved graph.acyclic graph.unsplit o accepted.types r leaves.origins (length voices) spared rounds given leaves.answers done).grounded;
+        lays = left_lies p r o rounds spared voices given accepted false leaves;
         reached = optimised_reached p accepted.hierarchy well graph.resolved graph.acyclic graph.unsplit o accepted.types r leaves.origins (length voices) spared rounds given leaves.answers done;
         folded = optimised_folded p accepted.hierarchy well graph.resolved graph.acyclic graph.unsplit o accepted.types r leaves.origins (length voices) spared rounds given leaves.answers done;
         bound = optimised_bound p accepted.hierarchy well graph.resolved graph.acyclic graph.unsplit o accepted.types r leaves.origins (length voices) spared rounds given leaves.answers done;
@@ -102,6 +104,7 @@ module _ (p r : Program) (o : Outside) (rounds spared : ℕ) (voices : List Voic
         typed = (inlined_sound p accepted.hierarchy well graph.resolved graph.acyclic graph.unsplit o accepted.types r leaves.origins voices leaves.news spared rounds given leaves.answers done).typed;
         once = (inlined_sound p accepted.hierarchy well graph.resolved graph.acyclic graph.unsplit o accepted.types r leaves.origins voices leaves.news spared rounds given leaves.answers done).once;
         grounded = (inlined_sound p accepted.hierarchy well graph.resolved graph.acyclic graph.unsplit o accepted.types r leaves.origins voices leaves.news spared rounds given leaves.answers done).grounded;
+        lays = left_lies p r o rounds spared voices given accepted true leaves;
         reached = inlined_reached p accepted.hierarchy well graph.resolved graph.acyclic graph.unsplit o accepted.types r leaves.origins voices leaves.news spared rounds given leaves.answers done;
         folded = inlined_folded p accepted.hierarchy well graph.resolved graph.acyclic graph.unsplit o accepted.types r leaves.origins voices leaves.news spared rounds given leaves.answers done;
         bound = inlined_bound p accepted.hierarchy well graph.resolved graph.acyclic graph.unsplit o accepted.types r leaves.origins voices leaves.news spared rounds given leaves.answers done;
@@ -132,7 +135,8 @@ shrinks inline voices tells inputs output summary f =
       are_told = f.are_told;
       left = f.shrunk.left;
       written = f.shrunk.written;
-      spells = is_spelled f.shrunk.left output f.shrunk.written kept.formed kept.once kept.grounded (names_rise_for inline inputs.file f.program f.shrunk.left kept.admitted f.reads accepted.formed kept.stays);
+      spells = is_spelled f.shrunk.left output f.shrunk.written kept.formed kept.once kept.grounded (names_rise_for inline inputs.file f.program f.shrunk.left kept.admitted f.reads accepted.formed kept.stays)
+          (written_left_lies f.program f.shrunk.left f.outside f.shrunk.rounds f.shrunk.spared f.told [] accepted inline inputs.file output f.reads f.shrunk.leaves kept.formed f.shrunk.written);
       keeps = kept;
     }
 

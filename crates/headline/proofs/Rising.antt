@@ -23,6 +23,7 @@ use Rattle.written_sets.proofs.Low.{class_low}
 use Rattle.written_spelled.proofs.Whole.{written_is_valid}
 use Rattle.class_defs.specs.ClassGraph.{IsTwice, IsAncestor}
 use Rattle.dex_write.specs.Written as writer
+use Rattle.dex_defs.specs.LaysOut.{LaysOut}
 use Rattle.dex_defs.specs.Written.{written_by}
 use Rattle.stay_law.specs.Stays.{Stands, NoMoreRegisters, FewRegisters}
 use Rattle.headline.specs.Headline.{StaysFor, IsSpelled}
@@ -78,10 +79,10 @@ names_rise_for false bytes p q admitted reads formed s = names_rise bytes p q No
 names_rise_for true bytes p q admitted reads formed s = names_rise bytes p q FewRegisters admitted reads formed s
 
 -- what is written for a program in whose annotations names rise
-pub is_spelled : (p : Program) (bytes : List ℕ) (w : writer.IsWritten p bytes) → is_well_formed p ≡ true → ((class : ℕ) → IsTwice p class → ⊥) → ((class : ℕ) → IsAncestor p class class → ⊥) → NamesRise p → IsSpelled p bytes
-is_spelled p bytes w formed once grounded rise = record {
+pub is_spelled : (p : Program) (bytes : List ℕ) (w : writer.IsWritten p bytes) → is_well_formed p ≡ true → ((class : ℕ) → IsTwice p class → ⊥) → ((class : ℕ) → IsAncestor p class class → ⊥) → NamesRise p → LaysOut (written_by w.interner p) → IsSpelled p bytes
+is_spelled p bytes w formed once grounded rise lays = record {
   spelled = written_by w.interner p;
   is = record { interner = w.interner; used = w.interned; is = refl };
+  valid = (written_is_valid p bytes w formed once grounded rise lays).valid;
   signed = w.sealed.signature;
-  valid = λ lays. (written_is_valid p bytes w formed once grounded rise lays).valid;
 }

@@ -8,9 +8,9 @@ use Rattle.pass_defs.specs.Typed.{IsTyped}
 use Rattle.program_model.specs.ProgramRules.{is_well_formed}
 use Rattle.program_model.specs.declared.pass.Outside.{Outside}
 use Rattle.program_model.specs.declared.program.Program.{Program}
+use Rattle.dex_defs.specs.LaysOut.{LaysOut}
 use Rattle.dex_read.specs.File.{program_at}
 use Rattle.dex_write.specs.Written.{IsWritten}
-use Rattle.dex_defs.specs.LaysOut.{LaysOut}
 use Rattle.dex_defs.specs.Valid.{IsSigned, IsValidFor}
 use Rattle.dex_defs.specs.Written as meant
 use Rattle.class_defs.specs.ClassGraph.{IsTwice, IsAncestor}
@@ -54,8 +54,9 @@ pub record AreAdmitted (voices : List Voice) (given : List Bool) (program : Prog
   pub replied : HasRun turns voices news given answers
 
 -- What is left of a program shows what the program shows without its silent calls in the admitted methods, to every framework, under every
--- script and float table that fit, and is well-formed and typed; no class of it is there twice or above itself. Advisers who reply so were asked which methods may be rewritten: these are
--- admitted. Facts that are certified of what is left leave nothing to write in their bodies (`NoneLeft` of const_prop), where the
+-- script and float table that fit, and is well-formed and typed and lays out; no class of it is there twice or above itself. Advisers who
+-- reply so were asked which methods may be rewritten: these are admitted. Facts that are certified of what is left leave nothing to write
+-- in their bodies (`NoneLeft` of const_prop), where the
 -- superclass of no interface is a class of the program that is none, no call to name another method (`NoneLeft` of devirt), no method that
 -- could be static (`NoneLeft` of staticise), and no call and no division that does nothing (`NoneIdle` of quiet_code), or there are no such
 -- facts, or none were asked for, since no method is admitted or a kept constructor is none of its class (`KeepsForms` of pipeline). In
@@ -74,6 +75,7 @@ pub record KeepsMeaning (inline : Bool) (voices : List Voice) (given : List Bool
   pub typed : IsTyped (named left)
   pub once : (class : ℕ) → IsTwice left class → ⊥
   pub grounded : (class : ℕ) → IsAncestor left class class → ⊥
+  pub lays : LaysOut left
   pub reached : outside.shrink ≡ true → NoneUnreached outside left
   pub folded : NoneKnown outside admitted left ⊎ KeepsForms outside admitted left
   pub bound : NoneBindable outside admitted left ⊎ KeepsForms outside admitted left
@@ -86,13 +88,12 @@ pub record KeepsMeaning (inline : Bool) (voices : List Voice) (given : List Bool
   pub stays : StaysFor inline admitted program left
 
 -- The written program of what is left has the entries that are used, in order, and the classes, each behind those above it. The output is
--- signed, and where the bodies of the written program lay out (`LaysOut` of dex_defs: 16 bits count regions and the offsets of handler
--- lists, and branches reach), it is a valid file that spells this program.
+-- a valid file that spells it, and signed.
 pub record IsSpelled (left : Program) (output : List ℕ) : Type 0 where
   pub spelled : Program
   pub is : meant.IsWritten left spelled
+  pub valid : IsValidFor output spelled
   pub signed : IsSigned output
-  pub valid : LaysOut spelled → IsValidFor output spelled
 
 -- The file spells a program, the rules that their text spells make a table of it, which is closed, with the methods shut that the
 -- library shuts where there is one, and the output is the file that is written for a program that keeps its meaning, when advisers who

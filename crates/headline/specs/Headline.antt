@@ -56,8 +56,8 @@ pub record AreAdmitted (voices : List Voice) (given : List Bool) (program : Prog
 -- What is left of a program shows what the program shows without its silent calls in the admitted methods, to every framework, under every
 -- script and float table that fit, and is well-formed and typed and lays out; no class of it is there twice or above itself. Advisers who
 -- reply so were asked which methods may be rewritten: these are admitted. Facts that are certified of what is left leave nothing to write
--- in their bodies (`NoneLeft` of const_prop), where the
--- superclass of no interface is a class of the program that is none, no call to name another method (`NoneLeft` of devirt), no method that
+-- in their bodies (`NoneLeft` of const_prop), where the superclass of no interface is a class of the program that is none, no call to name
+-- another method (`NoneLeft` of devirt), no method that
 -- could be static (`NoneLeft` of staticise), and no call and no division that does nothing (`NoneIdle` of quiet_code), or there are no such
 -- facts, or none were asked for, since no method is admitted or a kept constructor is none of its class (`KeepsForms` of pipeline). In
 -- their bodies, whose positions and regions 32 bits number, every position is reached, is no goto to the next one and no nop, but where the

@@ -14,4 +14,8 @@ pub mod Unfaulted
 pub mod StayingSilenced
 pub mod Optimised
 pub mod Inlined
+pub mod LaidTexts
+pub mod LaidRounds
+pub mod LaidOut
+pub mod Rising
 pub mod Joined

@@ -21,6 +21,8 @@
 //! - `Unfaulted`: where a hierarchy was built, the class graph has no fault (`unfaulted`); a program with one `silence`
 //!   leaves whole.
 //! - `Optimised`: the rounds that follow, and `Inlined`: the same where calls are inlined before them.
+//! - `LaidRounds`: what each pass keeps all rounds keep, of a program that lays out and whose texts ascend (`LaidTexts`); and `LaidOut`:
+//!   so what is left of a program that was read lays out, and so does what is written for it.
 //!
 //! `run` of redex_cli says what the output's name holds: the bytes that are written for what removal and silence leave of the
 //! program that the file spells. [`laws::headline`] joins both, and

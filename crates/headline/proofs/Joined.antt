@@ -11,6 +11,9 @@ use Rattle.removal_law.specs.Reach.{ShutsHold}
 use Rattle.reach_bridge.proofs.Unshut.{unshut}
 use Rattle.library_bridge.proofs.Narrowing.{narrowed_holds}
 use Rattle.command_line.specs.Spelling.{Spells}
+use Rattle.dex_defs.specs.Spells as dex
+use Rattle.spelled_law.proofs.OnceFile.{spells_once}
+use Rattle.spelled_law.proofs.Whole.{read_is_spelled}
 use Rattle.command_line.specs.declared.command.Tell.{Tell}
 use Rattle.command_line.specs.declared.command.CommandWords.{CommandWords}
 use Rattle.command_line.specs.declared.command.CommandWords.TheVariants.{Nothing, Optimise, Check, Live, Trace, Workload}
@@ -125,10 +128,13 @@ keeps true voices given p r o rounds spared accepted holds leaves = keeps_inline
 shrinks : (inline : Bool) (voices : List Voice) (tells : List Tell) (inputs : Inputs) (output summary : List ℕ) → Finished inline voices tells inputs output summary → Shrinks inline voices tells inputs output
 shrinks inline voices tells inputs output summary f =
     let accepted = f.accepted in
+    let means : dex.Spells inputs.file f.program = read_is_spelled inputs.file f.program f.small f.reads in
     let kept : KeepsMeaning inline f.told [] f.program f.outside f.shrunk.left =
     keeps inline f.told [] f.program f.shrunk.left f.outside f.shrunk.rounds f.shrunk.spared accepted (table_holds inputs.rules inputs.library f.program f.outside accepted.formed accepted.graph.once f.table) f.shrunk.leaves in record {
       program = f.program;
       reads = f.reads;
+      means = means;
+      only = λ other spelled. spells_once inputs.file other f.program f.small spelled means;
       outside = f.outside;
       table = f.table;
       told = f.told;

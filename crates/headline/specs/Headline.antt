@@ -11,6 +11,7 @@ use Rattle.program_model.specs.declared.program.Program.{Program}
 use Rattle.dex_defs.specs.LaysOut.{LaysOut}
 use Rattle.dex_read.specs.File.{program_at}
 use Rattle.dex_write.specs.Written.{IsWritten}
+use Rattle.dex_defs.specs.Spells as dex
 use Rattle.dex_defs.specs.Valid.{IsSigned, IsValidFor}
 use Rattle.dex_defs.specs.Written as meant
 use Rattle.class_defs.specs.ClassGraph.{IsTwice, IsAncestor}
@@ -95,12 +96,14 @@ pub record IsSpelled (left : Program) (output : List ℕ) : Type 0 where
   pub valid : IsValidFor output spelled
   pub signed : IsSigned output
 
--- The file spells a program, the rules that their text spells make a table of it, which is closed, with the methods shut that the
+-- The file spells a program and no other, the rules that their text spells make a table of it, which is closed, with the methods shut that the
 -- library shuts where there is one, and the output is the file that is written for a program that keeps its meaning, when advisers who
 -- reply so at first were told this and then asked.
 pub record Shrinks (inline : Bool) (voices : List Voice) (tells : List Tell) (inputs : Inputs) (output : List ℕ) : Type 0 where
   pub program : Program
   pub reads : program_at inputs.file ≡ Ok program
+  pub means : dex.Spells inputs.file program
+  pub only : (other : Program) → dex.Spells inputs.file other → other ≡ program
   pub outside : Outside
   pub table : IsTableWith inputs.rules inputs.library program outside
   pub told : List Voice

@@ -394,7 +394,6 @@ fn optimise_input(
 }
 
 /// Optimises a file by its rules, and by its library where there is one.
-#[tactic(auto, using(crate::proofs::FinishedLemmas::finished))]
 pub fn optimise_file(
     alloc: Global,
     inputs: Inputs,

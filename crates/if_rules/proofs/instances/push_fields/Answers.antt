@@ -1,0 +1,14 @@
+use native.Mathlib.Omega.{arith}
+use Rattle.if_rules.proofs.Grows.{fields_none, fields_more, fields_all}
+use Rattle.if_rules.proofs.instances.push_fields.Goals as goal
+
+pub loop-place-init : goal.loop-place-init
+loop-place-init c = λ rs g m names uses lines of. fields_none c.args.program.now rs c.args.at.now.number c.args.at.now.class c.args.out.now.items
+
+pub loop-place-preserved : goal.loop-place-preserved
+loop-place-preserved c = λ rs g m names uses lines of. fields_more c.args.program.now rs c.args.at.now.number c.args.at.now.class c.loop-place.place c.args.out.now.items c.loop-place.out.items c.push_field.new.out.items
+    (c.loop-place.invariant rs g m names uses lines of) (c.in_ok-push_field.ensures rs g m names uses lines of)
+
+pub returns : goal.returns
+returns c = λ rs g m names uses lines of. fields_all c.args.program.now rs c.args.at.now.number c.args.at.now.class c.loop-place.place _ c.args.out.now.items c.loop-place.out.items (omega (arith, c.loop-place-test.false, c.len-place-end.ensures))
+    (c.loop-place.invariant rs g m names uses lines of)

@@ -1,7 +1,7 @@
 -- Instances one behind the other.
-use Rattle.std.proofs.Common.{◌≡◌, ◌⊎◌, inl, inr, ◌<◌, ◌≤◌, ◌+◌, ℕ, zero, suc, Bool, true, false, ◌||◌, List, [], ◌∷◌, ◌++◌, map, length, Vec, Option, Some, None, Contains, slice_get, refl, sym, ap, subst, ◌∙◌, eq-or-lt_of_le, arith}
-use Rattle.std.specs.List.{flat_map, list_any}
-use Rattle.std.specs.declared.alloc.Global.{Global}
+use Rattle.std.proofs.Common.{◌≡◌, ◌⊎◌, inl, inr, ◌<◌, ◌≤◌, ◌+◌, ℕ, zero, suc, Bool, true, false, ◌||◌, List, [], ◌∷◌, ◌++◌, map, get_or, length, Vec, Some, None, Contains, slice_get, refl, sym, ap, subst, ◌∙◌, eq-or-lt_of_le, arith}
+use Rattle.std.specs.List.{flat_map, list_all, list_any}
+use Rattle.class_defs.proofs.WellFormed.{and_left, and_right}
 use Rattle.std.proofs.lemmas.List.Elements.{Contains-append_left, Contains-append_right, Contains-append_cases, Contains-push, Contains-push_cases}
 use Rattle.std.proofs.lemmas.Option.{slice_get_within}
 use Rattle.dalvik_defs.specs.Naming.{field_at, method_at, named, named_class, named_field, named_method}
@@ -11,10 +11,11 @@ use Rattle.program_model.specs.declared.program.Method.{Method as OwnMethod}
 use Rattle.program_model.specs.declared.program.Program.{Program}
 use Rattle.rule_defs.specs.Kept.{lines_of, matches_class}
 use Rattle.rule_defs.specs.Members.{matches_field, matches_method}
-use Rattle.rule_text.specs.Related.{AreBoth, AreMembersOf, IsMemberOf}
-use Rattle.rule_text.specs.Rules.{MemberRule, ClassRule}
+use Rattle.rule_text.specs.Related.{AreEach, IsMemberOf}
+use Rattle.rule_text.specs.Rules.{MemberRule}
 use Rattle.rule_text.specs.declared.rules.MemberRule.{MemberRule as ReadMember}
 use Rattle.keep_rules.proofs.EachLemmas.{each_length}
+use Rattle.keep_rules.specs.Fits.{has_field_name, has_method_name, has_names}
 use Rattle.if_text.specs.Items.{IfRule}
 use Rattle.if_text.specs.Parts.{parts_of}
 use Rattle.if_text.specs.Readings.{IsIfOf}
@@ -30,6 +31,7 @@ use Rattle.if_rules.specs.Matching.{IsMatchedAt, AreMatched}
 use Rattle.if_rules.specs.declared.instances.Choice.{Choice}
 use Rattle.if_rules.specs.declared.instances.Choice.TheVariants as choice
 use Rattle.if_rules.specs.declared.instances.Instance.{Instance}
+use Rattle.if_rules.proofs.Lives.{all_at}
 
 same_some : {X : Type 0} (x y : X) → Some x ≡ Some y → x ≡ y
 same_some x y e = cc
@@ -323,15 +325,30 @@ pub class_none : (p : Program) (rs : List IfRule) (read : ReadIf) (number place 
 class_none p rs read number place class old g uses none =
     grew_no p rs read number place class (OfPlace number place) old g (λ n k d is. (is.0, is.1)) (λ n k d t is could. no_line p g.rule class d t uses none could)
 
--- a condition of which not one line alone was read has none alone
-pub more_lines : (read : Option (Vec ReadMember Global)) (v : Vec ReadMember Global) (k : ClassRule) (m : MemberRule) → read ≡ Some v → (length v.items ≡ 1 → ⊥) → AreBoth AreMembersOf read k.members → lines_of k ≡ m ∷ [] → ⊥
-more_lines read v k m is many are lines = by k.members refl (subst (λ r. AreBoth AreMembersOf r k.members) is are)
-  where
-    by : (ms : Option (List MemberRule)) → k.members ≡ ms → AreBoth AreMembersOf (Some v) ms → ⊥
-    by None e are = absurd are
-    by (Some ms) e are =
-        let same : ms ≡ m ∷ [] = sym (ap (λ o. elim o as (λ o. List MemberRule) [ Some ms ↦ ms | None ↦ [] ]) e) ∙ lines in
-        many (each_length IsMemberOf v.items ms are ∙ ap length same)
+-- not one line alone
+pub more_lines : (read : List ReadMember) (ms : List MemberRule) (m : MemberRule) → (length read ≡ 1 → ⊥) → AreEach IsMemberOf read ms → ms ≡ m ∷ [] → ⊥
+more_lines read ms m many are is = many (each_length IsMemberOf read ms are ∙ ap length is)
+
+-- the line that stands alone
+pub record OnlyLine (read : ReadMember) (ms : List MemberRule) : Type 0 where
+  pub one : MemberRule
+  pub is : ms ≡ one ∷ []
+  pub related : IsMemberOf read one
+
+pub only_line : (read : List ReadMember) (r : ReadMember) (ms : List MemberRule) → length read ≡ 1 → r ≡ get_or read 0 r → AreEach IsMemberOf read ms → OnlyLine r ms
+only_line [] r ms size is are = absurd (omega (arith, size))
+only_line (x ∷ []) r [] size is are = absurd are
+only_line (x ∷ []) r (m ∷ []) size is are = record { one = m; is = refl; related = subst (λ y. IsMemberOf y m) (sym is) are.0 }
+only_line (x ∷ []) r (m ∷ k ∷ ms) size is are = absurd are.1
+only_line (x ∷ y ∷ read) r ms size is are = absurd (omega (arith, size))
+
+-- ---- what is known of the members of a class
+
+pub method_known : (p : Program) (class : Class) (k : ℕ) (m : OwnMethod) → has_names p class ≡ true → slice_get class.methods k ≡ Some m → has_method_name p m ≡ true
+method_known p class k m names at = all_at (has_method_name p) class.methods k m (and_left (list_all (has_method_name p) class.methods) (list_all (has_field_name p) class.fields) names) at
+
+pub field_known : (p : Program) (class : Class) (k : ℕ) (f : OwnField) → has_names p class ≡ true → slice_get class.fields k ≡ Some f → has_field_name p f ≡ true
+field_known p class k f names at = all_at (has_field_name p) class.fields k f (and_right (list_all (has_method_name p) class.methods) (list_all (has_field_name p) class.fields) names) at
 
 -- the class at a place
 pub given : (p : Program) (rs : List IfRule) (read : ReadIf) (number place : ℕ) (class : Class) (r : IfRule) → slice_get rs number ≡ Some r → IsIfOf read r → IsMatchedAt p r.condition place → slice_get p.classes place ≡ Some class → IsGiven p rs read number place class

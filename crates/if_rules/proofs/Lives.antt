@@ -1,8 +1,12 @@
 -- Loops that ask for some live member, or for each line.
-use Rattle.std.proofs.Common.{◌≡◌, ℕ, zero, suc, Bool, true, false, ◌&&◌, ◌||◌, List, [], ◌∷◌, Some, None, slice_get, refl, sym, ap, subst, ◌∙◌}
+use Rattle.std.proofs.Common.{◌≡◌, ◌<◌, ◌-◌, ℕ, zero, suc, Bool, true, false, ◌&&◌, ◌||◌, List, [], ◌∷◌, take, drop, get_or, length, Some, None, slice_get, refl, sym, ap, subst, ◌∙◌, arith}
 use Rattle.std.specs.List.{list_all, list_any}
+use Rattle.std.proofs.lemmas.List.{take_all}
 use Rattle.class_defs.proofs.WellFormed.{and_left, and_right}
 use Rattle.rule_text.specs.Related.{AreEach}
+
+same_some : {X : Type 0} (x y : X) → Some x ≡ Some y → x ≡ y
+same_some x y e = cc
 
 -- ---- some one of those that are left
 
@@ -60,15 +64,25 @@ end_by P t ss (s ∷ left) are is = absurd are
 pub all_end : {R S : Type 0} (P : R → S → Type 0) (t : S → Bool) (now : List R) (ss : List S) → now ≡ [] → AllLeft P t now ss → true ≡ list_all t ss
 all_end P t now ss none l = end_by P t ss l.left (subst (λ (rs : List _). AreEach P rs l.left) none l.are) l.is
 
+-- the first of a list, and what is behind it
+pub split_first : {X : Type 0} (xs : List X) (x : X) → 0 < length xs → x ≡ get_or xs 0 x → xs ≡ x ∷ take (length xs - 1) (drop 1 xs)
+split_first [] x some is = absurd (omega (arith, some))
+split_first (y ∷ ys) x some is =
+    let e : length (y ∷ ys) - 1 ≡ length ys = omega arith in
+    ap (λ z. z ∷ ys) (sym is) ∙ ap (λ zs. x ∷ zs) (sym (ap (λ k. take k ys) e ∙ take_all (length ys) ys (omega arith)))
+
+-- what holds of all holds of the one at a place
+pub all_at : {X : Type 0} (t : X → Bool) (xs : List X) (k : ℕ) (x : X) → list_all t xs ≡ true → slice_get xs k ≡ Some x → t x ≡ true
+all_at t [] k x all at = cc
+all_at t (y ∷ ys) zero x all at = ap t (sym (same_some y x at)) ∙ and_left (t y) (list_all t ys) all
+all_at t (y ∷ ys) (suc k) x all at = all_at t ys k x (and_right (t y) (list_all t ys) all) at
+
 -- ---- what belongs to the one at a place
 
 pub record EachThere {R S : Type 0} (P : R → S → Type 0) (ss : List S) (k : ℕ) (r : R) : Type 0 where
   pub one : S
   pub is : slice_get ss k ≡ Some one
   pub related : P r one
-
-same_some : {X : Type 0} (x y : X) → Some x ≡ Some y → x ≡ y
-same_some x y e = cc
 
 pub each_there : {R S : Type 0} (P : R → S → Type 0) (rs : List R) (ss : List S) (k : ℕ) (r : R) → AreEach P rs ss → slice_get rs k ≡ Some r → EachThere P ss k r
 each_there P [] ss k r are is = cc

@@ -26,7 +26,7 @@ use Rattle.rule_text.specs.declared.fault.RuleFault.TheVariants as fault
 use Rattle.rule_text.specs.declared.rules.Entry.{Entry as ReadEntry}
 use Rattle.rule_text.specs.declared.rules.Rules.{Rules as ReadRules}
 use Rattle.if_text.specs.Items.{IfRule, Item, plain_of, ifs_of}
-use Rattle.if_rules.specs.Added.{is_live_method, is_live_field, is_met, are_live, holds_in, holds, AreSpelled, Rules, Nothing, AddsText, left_of, IsDone, AddsRound, AddsBy, IsSoFar}
+use Rattle.if_rules.specs.Added.{is_live_method, is_live_field, is_met, are_live, holds_in, holds_at, holds, AreSpelled, Rules, Nothing, AddsText, left_of, IsDone, AddsRound, AddsBy, IsSoFar}
 use Rattle.if_rules.specs.Fired.{ComeFrom, Nowhere, Behind, Fires, Plain, Round, AreAdded, SpellsNone, IsSettled, IsLiveBy, IsTableOf, With}
 use Rattle.if_rules.specs.Instances.{Texts, instance_text, is_on, names_of, uses_line, IsLiveClass, IsLiveMethod, IsLiveField, IsMet, ByMethod, ByField, Holds, OfClass, OfMethod, OfField}
 use Rattle.if_rules.specs.Listed.{Could, OfEach as CouldEach, OfMethod as CouldMethod, OfField as CouldField, IsPair, IsInstance, HasInstance, AreInstances}
@@ -34,6 +34,7 @@ use Rattle.if_rules.specs.Matched.{field_texts, method_texts}
 use Rattle.if_rules.specs.declared.instances.Choice.{Choice}
 use Rattle.if_rules.specs.declared.instances.Choice.TheVariants as choice
 use Rattle.if_rules.specs.declared.instances.Instance.{Instance}
+use Rattle.if_rules.proofs.Lives.{all_at}
 
 -- ---- the rules of a text
 
@@ -79,7 +80,7 @@ clash e = cc
 same_some : {X : Type 0} (x y : X) → Some x ≡ Some y → x ≡ y
 same_some x y e = cc
 
-contains_at : {X : Type 0} (xs : List X) (k : ℕ) (x : X) → slice_get xs k ≡ Some x → Contains xs x
+pub contains_at : {X : Type 0} (xs : List X) (k : ℕ) (x : X) → slice_get xs k ≡ Some x → Contains xs x
 contains_at xs k x is = (k, slice_get_within xs k x is, get_or_from_slice_get xs k x x is)
 
 -- something in a list passes the test
@@ -107,11 +108,6 @@ passes_any t (y ∷ ys) (suc k) x at is = or_true (t y) (list_any t ys) (passes_
     or_true : (a b : Bool) → b ≡ true → (a || b) ≡ true
     or_true true b e = refl
     or_true false b e = e
-
-all_at : {X : Type 0} (t : X → Bool) (xs : List X) (k : ℕ) (x : X) → list_all t xs ≡ true → slice_get xs k ≡ Some x → t x ≡ true
-all_at t [] k x all at = cc
-all_at t (y ∷ ys) zero x all at = ap t (sym (same_some y x at)) ∙ and_left (t y) (list_all t ys) all
-all_at t (y ∷ ys) (suc k) x all at = all_at t ys k x (and_right (t y) (list_all t ys) all) at
 
 all_from : {X : Type 0} (t : X → Bool) (xs : List X) → ((k : ℕ) (x : X) → slice_get xs k ≡ Some x → t x ≡ true) → list_all t xs ≡ true
 all_from t [] each = refl
@@ -206,11 +202,14 @@ holds_is p s rs i r class is at =
 pub holds_no_rule : (p : Program) (s : LiveSet) (rs : List IfRule) (i : Instance) → slice_get rs i.rule ≡ None → false ≡ holds p s rs i
 holds_no_rule p s rs i none = sym (ap (λ o. elim o as (λ o. Bool) [ Some r ↦ elim (slice_get p.classes i.class) [ Some class ↦ holds_in p s r class i.choice | None ↦ false ] | None ↦ false ]) none)
 
-pub holds_no_class : (p : Program) (s : LiveSet) (rs : List IfRule) (i : Instance) (r : IfRule) → slice_get rs i.rule ≡ Some r → slice_get p.classes i.class ≡ None → false ≡ holds p s rs i
-holds_no_class p s rs i r is none = sym (
-    ap (λ o. elim o as (λ o. Bool) [ Some r ↦ elim (slice_get p.classes i.class) [ Some class ↦ holds_in p s r class i.choice | None ↦ false ] | None ↦ false ]) is
-    ∙ ap (λ o. elim o as (λ o. Bool) [ Some class ↦ holds_in p s r class i.choice | None ↦ false ]) none
-    )
+pub holds_rule : (p : Program) (s : LiveSet) (rs : List IfRule) (i : Instance) (r : IfRule) → slice_get rs i.rule ≡ Some r → holds p s rs i ≡ holds_at p s r i
+holds_rule p s rs i r is = ap (λ o. elim o as (λ o. Bool) [ Some r ↦ holds_at p s r i | None ↦ false ]) is
+
+pub holds_class : (p : Program) (s : LiveSet) (r : IfRule) (i : Instance) (class : Class) → slice_get p.classes i.class ≡ Some class → holds_at p s r i ≡ holds_in p s r class i.choice
+holds_class p s r i class at = ap (λ o. elim o as (λ o. Bool) [ Some class ↦ holds_in p s r class i.choice | None ↦ false ]) at
+
+pub holds_no_class : (p : Program) (s : LiveSet) (r : IfRule) (i : Instance) → slice_get p.classes i.class ≡ None → false ≡ holds_at p s r i
+holds_no_class p s r i none = sym (ap (λ o. elim o as (λ o. Bool) [ Some class ↦ holds_in p s r class i.choice | None ↦ false ]) none)
 
 -- the rule of an instance that holds does so
 instance_holds : (p : Program) (s : LiveSet) (rs : List IfRule) (i : Instance) → (is : IsInstance p rs i) → holds p s rs i ≡ true → HoldsSo p s is.pair.rule i.text.items
@@ -401,6 +400,29 @@ round_add p s rs instances past count old mid new before half after i at instanc
   done = λ es k j there off on. subst (λ xs. IsDone xs j.text.items) (append_assoc es r.rules text.rules)
       (done_by p s rs instances past count old mid new before half i text.rules at is text.are r es k j there off on (same_or k past));
 }
+
+-- one of either kind, with what was noted of it
+pub round_one : (p : Program) (s : LiveSet) (rs : List IfRule) (instances : List Instance) (past count n : ℕ) (old mid new : List Bool) (before half after : List ReadEntry) (i : Instance) (was b : Bool) → slice_get instances past ≡ Some i → IsInstance p rs i
+    → was ≡ is_on mid past → past < length mid → b ≡ (not was && holds p s rs i) → (b ≡ true → AddsText i.text.items half after) → (b ≡ false → after ≡ half) → (b ≡ true → new ≡ set mid past true) → (b ≡ true → n ≡ 1)
+    → (b ≡ false → new ≡ mid) → (b ≡ false → n ≡ 0) → AddsRound p s rs instances past count old mid before half → AddsRound p s rs instances (past + 1) (count + n) old new before after
+round_one p s rs instances past count n old mid new before half after i was true at instance is inside tells adds stays on counts off none r =
+    subst (λ n. AddsRound p s rs instances (past + 1) (count + n) old new before after) (sym (counts refl))
+    (round_add p s rs instances past count old mid new before half after i at instance (and_right (not was) (holds p s rs i) (sym tells)) inside (on refl) (adds refl) r)
+round_one p s rs instances past count n old mid new before half after i was false at instance is inside tells adds stays on counts off none r =
+    let same : count ≡ count + n = let zero_is : n ≡ 0 = none refl in omega (arith, zero_is) in
+    subst (λ k. AddsRound p s rs instances (past + 1) k old new before after) same
+    (subst (λ bs. AddsRound p s rs instances (past + 1) count old bs before after) (sym (off refl)) (round_stay p s rs instances past count old mid before half after i was at is tells (stays refl) r))
+
+pub left_one : (past n : ℕ) (mid new : List Bool) (was b : Bool) → was ≡ is_on mid past → past < length mid → (b ≡ true → was ≡ false) → (b ≡ true → new ≡ set mid past true) → (b ≡ true → n ≡ 1) → (b ≡ false → new ≡ mid) → (b ≡ false → n ≡ 0) → n + left_of new ≡ left_of mid
+left_one past n mid new was true is inside fresh on counts off none =
+    let less : left_of (set mid past true) + 1 ≡ left_of mid = left_set mid past inside (sym is ∙ fresh refl) in
+    let new_is : left_of new ≡ left_of (set mid past true) = ap left_of (on refl) in
+    let one_is : n ≡ 1 = counts refl in
+    omega (arith, less, new_is, one_is)
+left_one past n mid new was false is inside fresh on counts off none =
+    let new_is : left_of new ≡ left_of mid = ap left_of (off refl) in
+    let none_is : n ≡ 0 = none refl in
+    omega (arith, new_is, none_is)
 
 -- ---- all rounds
 

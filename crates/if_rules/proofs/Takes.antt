@@ -1,5 +1,5 @@
 -- What the wildcards of types and members matched.
-use Rattle.std.proofs.Common.{◌≡◌, ◌+◌, ◌-◌, ◌/◌, ℕ, zero, suc, Bool, true, false, if◌then◌else◌, List, [], ◌∷◌, ◌++◌, map, drop, length, codes, refl, sym, ap, subst, ◌∙◌, arith, length-append}
+use Rattle.std.proofs.Common.{◌≡◌, ◌+◌, ◌-◌, ◌/◌, ℕ, zero, suc, Bool, true, false, if◌then◌else◌, List, [], ◌∷◌, ◌++◌, map, drop, get_or, length, codes, refl, sym, ap, subst, ◌∙◌, arith, length-append}
 use Rattle.std.specs.Cmp.Lexicographic.{bytes_decides}
 use Rattle.std.proofs.lemmas.List.{append-nil, append_assoc}
 use Rattle.dalvik_defs.specs.Names.{Text, item_of}
@@ -21,7 +21,7 @@ use Rattle.rule_text.specs.Spelling.{word_eq}
 use Rattle.rule_text.specs.Tokens.{Word}
 use Rattle.if_text.specs.Wildcards.{bare}
 use Rattle.if_text.proofs.Counts.{any_left, bare_of, no_word}
-use Rattle.if_rules.specs.Matched.{java, name_texts, item_texts, depth_of, type_texts, types_texts, argument_texts, method_texts, field_texts}
+use Rattle.if_rules.specs.Matched.{java, name_texts, item_texts, depth_of, type_texts, types_texts, argument_texts, method_texts, field_texts, class_texts}
 
 -- ---- items
 
@@ -53,14 +53,14 @@ letter_texts u w t is =
 pub letter_item : (P : List Text → Type 0) (x : ItemPattern) (u : ℕ) (w : Word) (t : Text) → x ≡ item.Letter u → IsItemOf x w → P [] → P (item_texts w t)
 letter_item P x u w t e is says = subst P (letter_texts u w t (subst (λ x. IsItemOf x w) e is)) says
 
-class_texts : (p : NamePattern) (w : Word) (t : Text) → IsItemOf (item.Class p) w → name_texts named.Class w (inner (item_of t)) ≡ item_texts w t
-class_texts p w t is =
+item_named : (p : NamePattern) (w : Word) (t : Text) → IsItemOf (item.Class p) w → name_texts named.Class w (inner (item_of t)) ≡ item_texts w t
+item_named p w t is =
     other_by w t (name_texts named.Class w (inner (item_of t))) (word_eq w (codes "***")) (word_eq w (codes "%")) false refl refl is.1 is.2 is.3 (λ e. absurd (clash (sym e))) (λ e. refl)
 
 pub class_item : (P : List Text → Type 0) (x : ItemPattern) (p : NamePattern) (w : Word) (t : Text) → x ≡ item.Class p → IsItemOf x w → (IsPatternOf p w → P (name_texts named.Class w (inner (item_of t)))) → P (item_texts w t)
 class_item P x p w t e is says =
     let here : IsItemOf (item.Class p) w = subst (λ x. IsItemOf x w) e is in
-    subst P (class_texts p w t here) (says here.0)
+    subst P (item_named p w t here) (says here.0)
 
 -- ---- types
 
@@ -201,3 +201,29 @@ field_by P _ _ _ name kind (OfField t p k n of is) says = says k n of is
 pub spelled_field : (P : List Text → Type 0) (x : ReadWhat) (t : TypePattern) (p : NamePattern) (w : What) (name kind : Text) → x ≡ what.Field t p → IsWhatOf x w
     → ((k n : Word) → IsTypeOf t k → IsPatternOf p n → P (type_texts k kind ++ name_texts named.Member n name)) → P (field_texts w name kind)
 spelled_field P x t p w name kind e is says = field_by P t p w name kind (subst (λ x. IsWhatOf x w) e is) says
+
+-- ---- the name of a class
+
+-- with what is said of the texts of the only name it is said of those of the class
+pub only_name : (P : List Text → Type 0) (names : List NamePattern) (n : NamePattern) (ws : List Word) (t : Text) → length names ≡ 1 → n ≡ get_or names 0 n → AreEach IsPatternOf names ws
+    → ((w : Word) → IsPatternOf n w → P (name_texts named.Class w (inner (item_of t)))) → P (class_texts ws t)
+only_name P [] n ws t size is are says = absurd (omega (arith, size))
+only_name P (x ∷ []) n [] t size is are says = absurd are
+only_name P (x ∷ []) n (w ∷ []) t size is are says = says w (subst (λ y. IsPatternOf y w) (sym is) are.0)
+only_name P (x ∷ []) n (w ∷ v ∷ ws) t size is are says = absurd are.1
+only_name P (x ∷ y ∷ names) n ws t size is are says = absurd (omega (arith, size))
+
+pub other_names : (names : List NamePattern) (ws : List Word) (t : Text) → (length names ≡ 1 → ⊥) → AreEach IsPatternOf names ws → [] ≡ class_texts ws t
+other_names names [] t many are = refl
+other_names [] (w ∷ []) t many are = absurd are
+other_names (n ∷ []) (w ∷ []) t many are = absurd (many refl)
+other_names (n ∷ m ∷ names) (w ∷ []) t many are = absurd are.1
+other_names names (w ∷ v ∷ ws) t many are = refl
+
+-- ---- texts behind texts
+
+pub both_added : (old mid new a b : List Text) → mid ≡ old ++ a → new ≡ mid ++ b → new ≡ old ++ (a ++ b)
+both_added old mid new a b first then = then ∙ ap (λ x. x ++ b) first ∙ append_assoc old a b
+
+pub three_added : (old mid new a b c : List Text) → mid ≡ old ++ (a ++ b) → new ≡ mid ++ c → new ≡ old ++ (a ++ (b ++ c))
+three_added old mid new a b c first then = both_added old mid new (a ++ b) c first then ∙ ap (λ x. old ++ x) (append_assoc a b c)

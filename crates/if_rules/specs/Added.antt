@@ -40,11 +40,12 @@ are_live p s r class (choice.Field k) = elim (slice_get class.fields k) [ Some f
 abbrev pub holds_in : Program → LiveSet → IfRule → Class → Choice → Bool
 holds_in p s r class c = is_on s.classes.items class.name && are_live p s r class c
 
+-- of this rule, and of one of these
+abbrev pub holds_at : Program → LiveSet → IfRule → Instance → Bool
+holds_at p s r i = elim (slice_get p.classes i.class) [ Some class ↦ holds_in p s r class i.choice | None ↦ false ]
+
 abbrev pub holds : Program → LiveSet → List IfRule → Instance → Bool
-holds p s rs i = elim (slice_get rs i.rule) [
-  | Some r ↦ elim (slice_get p.classes i.class) [ Some class ↦ holds_in p s r class i.choice | None ↦ false ]
-  | None ↦ false
-]
+holds p s rs i = elim (slice_get rs i.rule) [ Some r ↦ holds_at p s r i | None ↦ false ]
 
 -- ---- what is added
 

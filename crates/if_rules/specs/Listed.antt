@@ -94,9 +94,3 @@ OfRule number n k d = n ≡ number
 
 abbrev pub OfRules : ℕ → ℕ → ℕ → Choice → Type 0
 OfRules past n k d = n < past
-
--- the line that was read is the only one
-pub record IsOnly (read : ReadMember) (lines : List MemberRule) : Type 0 where
-  pub line : MemberRule
-  pub is : lines ≡ line ∷ []
-  pub related : IsMemberOf read line

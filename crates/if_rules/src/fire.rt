@@ -1,6 +1,6 @@
 //! The table of rules some of which have a condition.
 
-ghost use Rattle.std.specs.Prelude.{◌≡◌, ◌<◌, ◌+◌, ◌^◌, ◌&&◌, Contains, List, [], true, false, not, length, replicate, IfOk, OnOk};
+ghost use Rattle.std.specs.Prelude.{◌≡◌, ◌<◌, ◌≤◌, ◌+◌, ◌^◌, ◌&&◌, Contains, List, [], true, false, not, length, replicate, set, IfOk, OnOk};
 ghost use Rattle.hierarchy.specs.Shapes.{IsResolved};
 ghost use Rattle.program_model.specs.ProgramRules.{is_well_formed};
 ghost use Rattle.rule_text.specs.Related.{AreEach};
@@ -76,6 +76,23 @@ fn add_one(
     Ok(true)
 }
 
+/// Notes that the instance at a place was added, if it was, and answers how many were.
+fn note(added: &mut [bool], place: usize, one: bool) -> usize
+    requires { place < length added.old }
+    ensures size { length added.new ≡ length added.old }
+    ensures few { result ≤ 1 }
+    ensures on { one ≡ true → added.new ≡ set added.old place true }
+    ensures counts { one ≡ true → result ≡ 1 }
+    ensures off { one ≡ false → added.new ≡ added.old }
+    ensures none { one ≡ false → result ≡ 0 }
+{
+    if one {
+        added[place] = true;
+        return 1;
+    }
+    0
+}
+
 /// Adds the rules of each instance that holds and wasn't added, and answers how many there were.
 fn add_each(
     alloc: Global,
@@ -106,10 +123,7 @@ fn add_each(
             entries,
             &mut row,
         )?;
-        if one {
-            added[place] = true;
-            count += 1;
-        }
+        count += note(added, place, one);
     }
     Ok(count)
 }

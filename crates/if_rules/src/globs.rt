@@ -137,7 +137,7 @@ fn glob_texts(
     while let [piece, behind @ ..] = left {
         let count = taken(named, *piece, behind, rest, row)?;
         push_text(alloc, named, *piece, &rest[..count], out)?;
-        rest = &rest[count..];
+        rest = behind_units(rest, count);
         left = behind;
     }
     Ok(())

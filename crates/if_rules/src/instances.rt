@@ -1,19 +1,19 @@
 //! The instances that the rules with conditions may have in a program, whatever is live.
 
-ghost use Rattle.std.specs.Prelude.{◌≡◌, ◌<◌, ◌^◌, ◌∷◌, [], List, true, false, length, slice_get, Some, IfOk, IfSome, IfNone, OnOk};
+ghost use Rattle.std.specs.Prelude.{◌≡◌, ◌<◌, ◌^◌, ◌∷◌, [], List, true, false, length, slice_get, Some, IfOk, OnOk};
 ghost use Rattle.hierarchy.specs.Shapes.{IsOf};
 ghost use Rattle.program_model.specs.ProgramRules.{is_well_formed};
 ghost use Rattle.keep_rules.specs.Fits.{has_names};
 ghost use Rattle.if_rules.specs.Matching.{IsMatchedAt};
 ghost use Rattle.rule_defs.specs.Kept.{lines_of};
-ghost use Rattle.rule_text.specs.Related.{AreEach, AreBoth, AreMembersOf, IsMemberOf};
+ghost use Rattle.rule_text.specs.Related.{AreEach, IsMemberOf};
 ghost use Rattle.rule_text.specs.Rules as meant;
 ghost use Rattle.if_text.specs.Items.{IfRule as Meant};
 ghost use Rattle.if_text.specs.Readings.{IsIfOf};
 ghost use Rattle.if_rules.specs.Filled.{texts_in};
 ghost use Rattle.if_rules.specs.Instances.{names_of, uses_line, words_bytes};
 ghost use Rattle.if_rules.specs.Lists.{lists_of};
-ghost use Rattle.if_rules.specs.Listed.{AreInstances, Grew, IsGiven, IsOnly, OfChoice, OfFields, OfMethods, OfPlace, OfRule, PushesOne};
+ghost use Rattle.if_rules.specs.Listed.{AreInstances, Grew, IsGiven, OfChoice, OfFields, OfMethods, OfPlace, OfRule, PushesOne};
 ghost use Rattle.if_rules.specs.declared.instances.Choice.TheVariants as choice;
 
 use crate::fill::{Texts, filled, uses_line};
@@ -204,18 +204,43 @@ fn push_fields(
     Ok(())
 }
 
-/// The line of a condition that has one alone.
-fn only_line(members: &Option<Vec<MemberRule>>) -> Option<&MemberRule>
-    ensures some { (k : meant.ClassRule) → AreBoth AreMembersOf members.now k.members → IfSome result (λ line. IsOnly line.now (lines_of k)) }
-    ensures none { (k : meant.ClassRule) (m : meant.MemberRule) → AreBoth AreMembersOf members.now k.members → IfNone result (lines_of k ≡ m ∷ [] → ⊥) }
+/// The lines of a condition.
+pub fn lines_of(rule: &IfRule) -> &[MemberRule]
+    ensures { (r : Meant) → IsIfOf rule.now r → AreEach IsMemberOf result.now (lines_of r.condition) }
 {
-    match members {
-        Some(lines) => match lines.as_slice() {
-            [line] => Some(line),
-            _ => None,
-        },
-        None => None,
+    match &rule.condition.members {
+        Some(lines) => lines.as_slice(),
+        None => &[],
     }
+}
+
+/// Whether a reference of the rule names a wildcard of its line.
+fn asks_line(rule: &IfRule) -> bool
+    ensures { (r : Meant) → IsIfOf rule.now r → result ≡ uses_line r }
+{
+    uses_line(rule.slots.as_slice(), rule.words.as_slice())
+}
+
+/// Adds the instances of the members that a line matches, where there is one line alone.
+fn push_lines(
+    alloc: Global,
+    at: &Place<'_>,
+    lines: &[MemberRule],
+    program: &Program,
+    class: &Class,
+    row: &mut Vec<bool>,
+    out: &mut Vec<Instance>,
+) -> Result<(), AllocError>
+    ensures { (rs : List Meant) (g : IsGiven program.now rs at.now.rule.now at.now.number at.now.class class.now) → has_names program.now class.now ≡ true
+        → uses_line g.rule ≡ true → AreEach IsMemberOf lines.now (lines_of g.rule.condition) → OnOk result (Grew program.now rs (OfPlace at.now.number at.now.class) out.old.items out.new.items) }
+{
+    let one = lines.len() == 1;
+    if !one {
+        return Ok(());
+    }
+    let line = &lines[0];
+    push_methods(alloc, at, line, program, class, row, out)?;
+    push_fields(alloc, at, line, program, class, row, out)
 }
 
 /// Adds the instances of a class that the condition matches.
@@ -230,17 +255,11 @@ fn push_class(
     ensures { (rs : List Meant) (g : IsGiven program.now rs at.now.rule.now at.now.number at.now.class class.now) → has_names program.now class.now ≡ true
         → OnOk result (Grew program.now rs (OfPlace at.now.number at.now.class) out.old.items out.new.items) }
 {
-    let uses = uses_line(at.rule.slots.as_slice(), at.rule.words.as_slice());
+    let uses = asks_line(at.rule);
     if !uses {
         return push_each(alloc, at, program, class, row, out);
     }
-    match only_line(&at.rule.condition.members) {
-        Some(line) => {
-            push_methods(alloc, at, line, program, class, row, out)?;
-            push_fields(alloc, at, line, program, class, row, out)
-        }
-        None => Ok(()),
-    }
+    push_lines(alloc, at, lines_of(at.rule), program, class, row, out)
 }
 
 /// Adds the instances of the class at a place.

@@ -5,16 +5,15 @@ ghost use Rattle.std.specs.List.{list_all, list_any};
 ghost use Rattle.dalvik_defs.specs.Naming.{named_field, named_method};
 ghost use Rattle.keep_rules.specs.Fits.{has_field_name, has_method_name, has_names};
 ghost use Rattle.program_model.specs.ProgramRules.{is_well_formed};
-ghost use Rattle.rule_defs.specs.Kept.{lines_of};
 ghost use Rattle.rule_defs.specs.Members.{matches_field, matches_method};
 ghost use Rattle.rule_text.specs.Related.{AreEach, IsMemberOf};
 ghost use Rattle.rule_text.specs.Rules as meant;
 ghost use Rattle.if_text.specs.Items.{IfRule as Meant};
 ghost use Rattle.if_text.specs.Readings.{IsIfOf};
-ghost use Rattle.if_rules.specs.Added.{are_live, holds, holds_in, is_met};
+ghost use Rattle.if_rules.specs.Added.{are_live, holds, holds_at, holds_in, is_met};
 ghost use Rattle.if_rules.specs.Instances.{is_on};
 
-use crate::instances::{Choice, Instance};
+use crate::instances::{Choice, Instance, lines_of};
 use call_graph::LiveSet;
 use if_text::IfRule;
 use keep_rules::{field_fits, method_fits};
@@ -160,16 +159,6 @@ fn are_met(
     Ok(true)
 }
 
-/// The lines of a condition.
-fn lines_of(rule: &IfRule) -> &[MemberRule]
-    ensures { (r : Meant) → IsIfOf rule.now r → AreEach IsMemberOf result.now (lines_of r.condition) }
-{
-    match &rule.condition.members {
-        Some(lines) => lines.as_slice(),
-        None => &[],
-    }
-}
-
 /// Whether the method at a place of the class is live.
 fn has_live_method(methods: &[Method], place: usize, live: &LiveSet) -> bool
     ensures { result ≡ elim (slice_get methods.now place) [ Some m ↦ is_on live.now.methods.items m.name | None ↦ false ] }
@@ -225,6 +214,22 @@ fn holds_in(
     has_members(rule, choice, program, class, live, row)
 }
 
+/// Whether an instance of a rule holds.
+fn holds_at(
+    rule: &IfRule,
+    instance: &Instance,
+    program: &Program,
+    live: &LiveSet,
+    row: &mut Vec<bool>,
+) -> Result<bool, AllocError>
+    ensures { (r : Meant) → is_well_formed program.now ≡ true → IsIfOf rule.now r → IfOk result (λ there. there ≡ holds_at program.now live.now r instance.now) }
+{
+    match program.classes.as_slice().get(instance.class) {
+        Some(class) => holds_in(rule, instance.choice, program, class, live, row),
+        None => Ok(false),
+    }
+}
+
 /// Whether an instance holds.
 pub fn holds(
     rules: &[IfRule],
@@ -235,11 +240,8 @@ pub fn holds(
 ) -> Result<bool, AllocError>
     ensures { (rs : List Meant) → is_well_formed program.now ≡ true → AreEach IsIfOf rules.now rs → IfOk result (λ there. there ≡ holds program.now live.now rs instance.now) }
 {
-    let Some(rule) = rules.get(instance.rule) else {
-        return Ok(false);
-    };
-    match program.classes.as_slice().get(instance.class) {
-        Some(class) => holds_in(rule, instance.choice, program, class, live, row),
+    match rules.get(instance.rule) {
+        Some(rule) => holds_at(rule, instance, program, live, row),
         None => Ok(false),
     }
 }

@@ -127,16 +127,39 @@ fn typed_texts(
     alloc: Global,
     kind: &TypePattern,
     name: &NamePattern,
-    descriptor: &[u16],
-    units: &[u16],
+    program: &Program,
+    own: u32,
+    string: u32,
     row: &mut Vec<bool>,
     out: &mut Vec<Vec<u16>>,
 ) -> Result<(), AllocError>
     ensures { (k w : Word) → IsTypeOf kind.now k → IsPatternOf name.now w
-        → OnOk result (lists_of out.new.items ≡ lists_of out.old.items ++ (type_texts k descriptor.now ++ name_texts named.Member w units.now)) }
+        → OnOk result (lists_of out.new.items ≡ lists_of out.old.items ++ (type_texts k (type_at program.now own) ++ name_texts named.Member w (text_at program.now string))) }
 {
-    type_texts(alloc, kind, descriptor, row, out)?;
+    type_texts(alloc, kind, descriptor(program, own), row, out)?;
+    let units = string_units(program, string);
     name_texts(alloc, name, Named::Member, units, row, out)
+}
+
+/// Adds what the wildcards of a result, a name and arguments matched in a method of this name, with a proto.
+fn member_texts(
+    alloc: Global,
+    kind: &TypePattern,
+    name: &NamePattern,
+    arguments: &Arguments,
+    program: &Program,
+    string: u32,
+    proto: &Proto,
+    row: &mut Vec<bool>,
+    out: &mut Vec<Vec<u16>>,
+) -> Result<(), AllocError>
+    ensures { (k w : Word) (a : meant.Arguments) → IsTypeOf kind.now k → IsPatternOf name.now w → AreArgumentsOf arguments.now a
+        → OnOk result (lists_of out.new.items ≡ lists_of out.old.items ++ (type_texts k (type_at program.now proto.now.result)
+            ++ (name_texts named.Member w (text_at program.now string) ++ argument_texts a (map (type_at program.now) proto.now.parameters)))) }
+{
+    typed_texts(alloc, kind, name, program, proto.result, string, row, out)?;
+    let kinds = proto.parameters.as_slice();
+    argument_texts(alloc, arguments, program, kinds, row, out)
 }
 
 /// Adds what the wildcards of a line matched in a method of this name, with the result and the parameters of a proto.
@@ -144,41 +167,27 @@ fn spelled_texts(
     alloc: Global,
     what: &What,
     program: &Program,
-    name: u32,
+    string: u32,
     proto: &Proto,
     row: &mut Vec<bool>,
     out: &mut Vec<Vec<u16>>,
 ) -> Result<(), AllocError>
     ensures { (w : meant.What) → IsWhatOf what.now w
-        → OnOk result (lists_of out.new.items ≡ lists_of out.old.items ++ method_texts w (text_at program.now name) (signature_of program.now proto.now)) }
+        → OnOk result (lists_of out.new.items ≡ lists_of out.old.items ++ method_texts w (text_at program.now string) (signature_of program.now proto.now)) }
 {
     match what {
         What::All | What::Fields | What::Methods | What::Field { .. } => Ok(()),
-        What::Init(arguments) => argument_texts(
-            alloc,
-            arguments,
-            program,
-            proto.parameters.as_slice(),
-            row,
-            out,
-        ),
+        What::Init(arguments) => {
+            let kinds = proto.parameters.as_slice();
+            argument_texts(alloc, arguments, program, kinds, row, out)
+        }
         What::Method {
             result,
-            name: pattern,
+            name,
             arguments,
-        } => {
-            let kind = descriptor(program, proto.result);
-            let units = string_units(program, name);
-            typed_texts(alloc, result, pattern, kind, units, row, out)?;
-            argument_texts(
-                alloc,
-                arguments,
-                program,
-                proto.parameters.as_slice(),
-                row,
-                out,
-            )
-        }
+        } => member_texts(
+            alloc, result, name, arguments, program, string, proto, row, out,
+        ),
     }
 }
 
@@ -200,6 +209,24 @@ fn named_method_texts(
     }
 }
 
+/// Adds what the wildcards of a line matched in the method with a number.
+fn numbered_method_texts(
+    alloc: Global,
+    what: &What,
+    program: &Program,
+    method: u32,
+    row: &mut Vec<bool>,
+    out: &mut Vec<Vec<u16>>,
+) -> Result<(), AllocError>
+    ensures { (w : meant.What) → has_signature program.now (slice_get program.now.methods method) ≡ true → IsWhatOf what.now w
+        → OnOk result (lists_of out.new.items ≡ lists_of out.old.items ++ method_texts w (method_at program.now method).name (method_at program.now method).signature) }
+{
+    match program.methods.as_slice().get(method as usize) {
+        Some(name) => named_method_texts(alloc, what, program, name, row, out),
+        None => Ok(()),
+    }
+}
+
 /// What the wildcards of a line matched in the method with a number.
 pub fn method_texts(
     alloc: Global,
@@ -212,9 +239,7 @@ pub fn method_texts(
         → IfOk result (λ out. lists_of out.items ≡ method_texts w (method_at program.now method).name (method_at program.now method).signature) }
 {
     let mut out = Vec::new(alloc);
-    if let Some(name) = program.methods.as_slice().get(method as usize) {
-        named_method_texts(alloc, what, program, name, row, &mut out)?;
-    }
+    numbered_method_texts(alloc, what, program, method, row, &mut out)?;
     Ok(out)
 }
 
@@ -231,12 +256,28 @@ fn named_field_texts(
         → OnOk result (lists_of out.new.items ≡ lists_of out.old.items ++ field_texts w (text_at program.now field.now.name) (type_at program.now field.now.kind)) }
 {
     match what {
-        What::Field { kind, name } => {
-            let descriptor = descriptor(program, field.kind);
-            let units = string_units(program, field.name);
-            typed_texts(alloc, kind, name, descriptor, units, row, out)
-        }
+        What::Field { kind, name } => typed_texts(
+            alloc, kind, name, program, field.kind, field.name, row, out,
+        ),
         What::All | What::Fields | What::Methods | What::Init(_) | What::Method { .. } => Ok(()),
+    }
+}
+
+/// Adds what the wildcards of a line matched in the field with a number.
+fn numbered_field_texts(
+    alloc: Global,
+    what: &What,
+    program: &Program,
+    field: u32,
+    row: &mut Vec<bool>,
+    out: &mut Vec<Vec<u16>>,
+) -> Result<(), AllocError>
+    ensures { (w : meant.What) → nat_lt field (length program.now.fields) ≡ true → IsWhatOf what.now w
+        → OnOk result (lists_of out.new.items ≡ lists_of out.old.items ++ field_texts w (field_at program.now field).name (field_at program.now field).kind) }
+{
+    match program.fields.as_slice().get(field as usize) {
+        Some(name) => named_field_texts(alloc, what, program, name, row, out),
+        None => Ok(()),
     }
 }
 
@@ -252,10 +293,26 @@ pub fn field_texts(
         → IfOk result (λ out. lists_of out.items ≡ field_texts w (field_at program.now field).name (field_at program.now field).kind) }
 {
     let mut out = Vec::new(alloc);
-    if let Some(name) = program.fields.as_slice().get(field as usize) {
-        named_field_texts(alloc, what, program, name, row, &mut out)?;
-    }
+    numbered_field_texts(alloc, what, program, field, row, &mut out)?;
     Ok(out)
+}
+
+/// Adds what the wildcards of a class's name matched, where there is one name alone.
+fn push_class_texts(
+    alloc: Global,
+    names: &[NamePattern],
+    descriptor: &[u16],
+    row: &mut Vec<bool>,
+    out: &mut Vec<Vec<u16>>,
+) -> Result<(), AllocError>
+    ensures { (ws : List Word) → AreEach IsPatternOf names.now ws → OnOk result (lists_of out.new.items ≡ lists_of out.old.items ++ class_texts ws descriptor.now) }
+{
+    let one = names.len() == 1;
+    if !one {
+        return Ok(());
+    }
+    let name = &names[0];
+    name_texts(alloc, name, Named::Class, inside(descriptor), row, out)
 }
 
 /// What the wildcards of a class's name matched, where there is one name alone.
@@ -268,11 +325,6 @@ pub fn class_texts(
     ensures { (ws : List Word) → AreEach IsPatternOf names.now ws → IfOk result (λ out. lists_of out.items ≡ class_texts ws descriptor.now) }
 {
     let mut out = Vec::new(alloc);
-    match names {
-        [name] => {
-            name_texts(alloc, name, Named::Class, inside(descriptor), row, &mut out)?;
-            Ok(out)
-        }
-        _ => Ok(out),
-    }
+    push_class_texts(alloc, names, descriptor, row, &mut out)?;
+    Ok(out)
 }

@@ -151,7 +151,8 @@ fn add_by(
     ensures size { length added.new ≡ length added.old }
     ensures counts { IfOk result (λ count. count + left_of added.new ≡ left_of added.old) }
     ensures ifs { rules.new.ifs.items ≡ rules.old.ifs.items }
-    ensures adds { (rs : List Meant) → is_well_formed program.now ≡ true → IsResolved program.now hierarchy.now → AreEach IsIfOf rules.old.ifs.items rs → ((i : Given) → Contains instances.now i → IsInstance program.now rs i)
+    ensures adds { (rs : List Meant) → is_well_formed program.now ≡ true → IsResolved program.now hierarchy.now → AreEach IsIfOf rules.old.ifs.items rs
+        → ((i : Given) → Contains instances.now i → IsInstance program.now rs i)
         → IfOk result (AddsBy program.now table.now rs instances.now added.old added.new rules.old.plain.entries.items rules.new.plain.entries.items) }
 {
     let live = live_members(alloc, program, hierarchy, table)?;
@@ -194,7 +195,8 @@ fn settle(
             hierarchy,
             &table,
         )?;
-        if count == 0 {
+        let done = count == 0;
+        if done {
             return Ok(table);
         }
         left -= count;
@@ -204,7 +206,6 @@ fn settle(
 /// What the rules keep of the program, by number: the table of the rules without a condition, and of the instances of those with one that hold
 /// where something is live by such a table. Without a rule that has a condition it is the table of the rules. Where it is answered, the rules
 /// of the instances stand behind those without a condition. The only error is want of memory.
-#[tactic(auto, using(crate::proofs::Tables::without))]
 pub fn outside_of(
     alloc: Global,
     rules: &mut IfRules,
@@ -217,7 +218,8 @@ pub fn outside_of(
     requires classes { length program.now.classes < 2 ^ 32 }
     ensures { (items : List Item) → is_well_formed program.now ≡ true → IsResolved program.now hierarchy.now → AreRead items rules.old → IfOk result (IsTableOf program.now items) }
 {
-    if rules.ifs.is_empty() {
+    let bare = rules.ifs.is_empty();
+    if bare {
         return table_of(alloc, &rules.plain, program, hierarchy);
     }
     let instances = instances_of(alloc, rules.ifs.as_slice(), program, hierarchy)?;

@@ -155,7 +155,7 @@ fn member_texts(
 ) -> Result<(), AllocError>
     ensures { (k w : Word) (a : meant.Arguments) → IsTypeOf kind.now k → IsPatternOf name.now w → AreArgumentsOf arguments.now a
         → OnOk result (lists_of out.new.items ≡ lists_of out.old.items ++ (type_texts k (type_at program.now proto.now.result)
-            ++ (name_texts named.Member w (text_at program.now string) ++ argument_texts a (map (type_at program.now) proto.now.parameters)))) }
+        ++ (name_texts named.Member w (text_at program.now string) ++ argument_texts a (map (type_at program.now) proto.now.parameters)))) }
 {
     typed_texts(alloc, kind, name, program, proto.result, string, row, out)?;
     let kinds = proto.parameters.as_slice();

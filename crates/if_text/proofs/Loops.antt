@@ -119,6 +119,15 @@ many_names (n ∷ []) (w ∷ []) many are = absurd (many refl)
 many_names (n ∷ m ∷ names) (w ∷ []) many are = absurd are.1
 many_names names (w ∷ v ∷ ws) many are = refl
 
+-- with what is said of the slots of the only name it is said of those of the names
+pub only_name : (P : List Source → Type 0) (names : List NamePattern) (n : NamePattern) (ws : List Word) → length names ≡ 1 → n ≡ get_or names 0 n → AreEach IsPatternOf names ws
+    → ((w : Word) → IsPatternOf n w → P (numbered (λ i. Name i) 0 (name_wilds w))) → P (name_slots ws)
+only_name P [] n ws size is are says = absurd (omega (arith, size))
+only_name P (x ∷ []) n [] size is are says = absurd are
+only_name P (x ∷ []) n (w ∷ []) size is are says = says w (subst (λ y. IsPatternOf y w) (sym is) are.0)
+only_name P (x ∷ []) n (w ∷ v ∷ ws) size is are says = absurd are.1
+only_name P (x ∷ y ∷ names) n ws size is are says = absurd (omega (arith, size))
+
 -- where there is not one line alone
 pub many_lines : (read : Option (Vec ReadMember Global)) (v : Vec ReadMember Global) (ms : Option (List MemberRule)) → read ≡ Some v → (length v.items ≡ 1 → ⊥) → AreBoth AreMembersOf read ms → members_slots ms ≡ []
 many_lines read v ms is many are = by ms (subst (λ r. AreBoth AreMembersOf r ms) is are)
@@ -129,6 +138,7 @@ many_lines read v ms is many are = by ms (subst (λ r. AreBoth AreMembersOf r ms
     lines (r ∷ []) (m ∷ []) many are = absurd (many refl)
     lines (r ∷ q ∷ rs) (m ∷ []) many are = absurd are.1
     lines rs (m ∷ k ∷ ms) many are = refl
+
     by : (ms : Option (List MemberRule)) → AreBoth AreMembersOf (Some v) ms → members_slots ms ≡ []
     by None are = absurd are
     by (Some ms) are = lines v.items ms many are

@@ -180,10 +180,12 @@ fn push_blank_names(out: &mut Vec<Source>, names: &[NamePattern]) -> Result<(), 
 fn push_class_names(out: &mut Vec<Source>, names: &[NamePattern]) -> Result<(), AllocError>
     ensures { (ws : List Word) → AreEach IsPatternOf names.now ws → OnOk result (out.new.items ≡ out.old.items ++ name_slots ws) }
 {
-    match names {
-        [name] => push_names(out, name_wilds(name)),
-        _ => push_blank_names(out, names),
+    let one = names.len() == 1;
+    if !one {
+        return push_blank_names(out, names);
     }
+    let name = &names[0];
+    push_names(out, name_wilds(name))
 }
 
 /// Adds the slots of what is asked of the ancestors.

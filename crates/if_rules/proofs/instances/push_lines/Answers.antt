@@ -12,4 +12,4 @@ returns c = λ rs g names uses are.
     let only : OnlyLine c.index-lines-0.result (lines_of g.rule.condition) = only_line c.args.lines.now c.index-lines-0.result (lines_of g.rule.condition) c.if-not-one.false c.index-lines-0.is are in
     on_ok_weaker c.push_fields.result
     (class_members c.args.program.now rs c.args.at.now.rule.now c.args.at.now.number c.args.at.now.class c.args.class.now c.args.out.now.items c.push_methods.new.out.items c.push_fields.new.out.items g uses
-      (c.in_ok-push_methods.ensures rs g only.one names uses only.is only.related)) (c.push_fields.ensures rs g only.one names uses only.is only.related)
+    (c.in_ok-push_methods.ensures rs g only.one names uses only.is only.related)) (c.push_fields.ensures rs g only.one names uses only.is only.related)

@@ -15,4 +15,4 @@ returns c = λ rs g m names uses lines of at.
     let known : has_method_name c.args.program.now c.args.method.now ≡ true = method_known c.args.program.now c.args.class.now c.args.place c.args.method.now names at in
     on_ok_weaker c.push_instance.result
     (method_grew c.args.program.now rs c.args.at.now.rule.now c.args.at.now.number c.args.at.now.class c.args.class.now m c.args.place c.args.method.now (record { name = lists_of c.in_ok-name.name.items; line = lists_of c.in_ok-own.own.items })
-      c.args.out.now.items c.push_instance.new.out.items g uses lines at (sym (c.in_ok-fits.ensures m known of) ∙ c.if-not-fits.false) (c.in_ok-name.ensures g.rule g.related) (c.in_ok-own.ensures m.what known of.what)) c.push_instance.ensures
+    c.args.out.now.items c.push_instance.new.out.items g uses lines at (sym (c.in_ok-fits.ensures m known of) ∙ c.if-not-fits.false) (c.in_ok-name.ensures g.rule g.related) (c.in_ok-own.ensures m.what known of.what)) c.push_instance.ensures

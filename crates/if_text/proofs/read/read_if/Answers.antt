@@ -12,7 +12,7 @@ use Rattle.if_text.proofs.read.read_if.Goals as goal
 pub returns-in_err-words-clause-halt : goal.returns-in_err-words-clause-halt
 returns-in_err-words-clause-halt c = λ begin e is.
     let reads : Reads IsClassOf is_class_rule class_rule_words c.args.tokens.now (suc begin) c.read_class.new.at c.in_ok-condition.condition =
-        subst (λ n. Reads IsClassOf is_class_rule class_rule_words c.args.tokens.now n c.read_class.new.at c.in_ok-condition.condition) e c.in_ok-condition.ensures.step in
+    subst (λ n. Reads IsClassOf is_class_rule class_rule_words c.args.tokens.now n c.read_class.new.at c.in_ok-condition.condition) e c.in_ok-condition.ensures.step in
     let whole : EndsWhole InHead c.args.tokens.now (suc begin) c.read_class.new.at = subst (λ n. EndsWhole InHead c.args.tokens.now n c.read_class.new.at) e c.in_ok-condition.ensures.whole in
     let halts : HaltsKept c.args.tokens.now c.args.hidden.now c.in_ok-slots.slots.items c.read_class.new.at c.read_kept.new.at c.in_err-words.field-0.0 = search rules in
     let h = kept_halts c.args.tokens.now c.args.hidden.now c.in_ok-slots.slots.items begin c.read_class.new.at c.read_kept.new.at reads.thing c.in_err-words.field-0.0 (c.in_ok-slots.ensures reads.thing reads.related)

@@ -49,5 +49,5 @@ returns-clause-step c =
     let past : length c.in_ok-words.words.items ≤ c.first_bad-bad.result = search rules in
     let before : list_all (λ parts. list_all (is_good_in c.args.slots.now) parts.items) (take c.first_bad-bad.result c.in_ok-words.words.items) ≡ true = search rules in
     let good : list_all (λ parts. list_all (is_good_in c.args.slots.now) parts.items) c.in_ok-words.words.items ≡ true =
-        sym (ap (list_all (λ parts. list_all (is_good_in c.args.slots.now) parts.items)) (take_all c.first_bad-bad.result c.in_ok-words.words.items past)) ∙ before in
+    sym (ap (list_all (λ parts. list_all (is_good_in c.args.slots.now) parts.items)) (take_all c.first_bad-bad.result c.in_ok-words.words.items past)) ∙ before in
     kept_read c.args.tokens.now c.args.hidden.now c.args.slots.now c.args.at.now c.read_entry.new.at _ c.in_ok-words.words c.in_ok-_rule._rule refl le option one whole found good

@@ -1,14 +1,13 @@
 -- How many wildcards what was read has.
-use Rattle.std.proofs.Common.{◌≡◌, ◌⊎◌, inl, inr, ℕ, zero, suc, ◌+◌, Bool, true, false, ◌&&◌, ◌||◌, nat_eq, List, [], ◌∷◌, ◌++◌, map, codes, refl, sym, ap, subst, ◌∙◌, arith}
+use Rattle.std.proofs.Common.{◌≡◌, ◌⊎◌, inl, inr, ℕ, zero, suc, ◌+◌, Bool, true, false, ◌&&◌, ◌||◌, nat_eq, List, [], ◌∷◌, ◌++◌, map, codes, refl, sym, ap, ◌∙◌, arith}
 use Rattle.std.specs.List.{list_any}
 use Rattle.std.specs.Cmp.Lexicographic.{bytes_decides}
 use Rattle.rule_text.specs.declared.pattern.NamePattern.{NamePattern}
 use Rattle.rule_text.specs.declared.pattern.Piece.{Piece}
 use Rattle.rule_text.specs.declared.pattern.Piece.TheVariants as piece
-use Rattle.rule_text.specs.declared.rules.ItemPattern.{ItemPattern}
 use Rattle.rule_text.specs.declared.rules.ItemPattern.TheVariants as item
 use Rattle.rule_text.specs.declared.rules.TypePattern.{TypePattern}
-use Rattle.rule_text.specs.Pieces.{primitives, is_letter_of, is_primitive_word, ends_in_brackets}
+use Rattle.rule_text.specs.Pieces.{primitives, is_primitive_word, ends_in_brackets}
 use Rattle.rule_text.specs.Related.{IsPatternOf, IsItemOf, IsTypeOf, brackets}
 use Rattle.rule_text.specs.Spelling.{word_eq}
 use Rattle.rule_text.specs.Tokens.{Word}

@@ -1,15 +1,14 @@
 -- Where reading a rule with a condition halts.
 use Rattle.std.proofs.Common.{◌≡◌, ◌<◌, ◌≤◌, ◌-◌, ℕ, zero, suc, Bool, true, false, ◌&&◌, ◌||◌, List, [], ◌∷◌, map, drop, length, Vec, Option, Some, None, is_some, refl, sym, ap, subst, ◌∙◌, arith, length-drop}
-use Rattle.std.specs.List.{list_all, list_any}
 use Rattle.std.specs.declared.alloc.Global.{Global}
 use Rattle.std.proofs.lemmas.List.{length-map}
-use Rattle.rule_text.specs.Halts.{is_known, HaltsBefore, IsRefusedEntry}
+use Rattle.rule_text.specs.Halts.{is_known, HaltsBefore}
 use Rattle.rule_text.specs.Places.{InHead, is_keep}
 use Rattle.rule_text.specs.Reads.{Reads}
 use Rattle.rule_text.specs.Refusals.{IsRefused, EndsWhole}
 use Rattle.rule_text.specs.Related.{IsClassOf}
 use Rattle.rule_text.specs.Rules.{ClassRule}
-use Rattle.rule_text.specs.Spelling.{word_eq, keep_word, begins_option, begins_rule, is_class_rule, class_rule_words}
+use Rattle.rule_text.specs.Spelling.{word_eq, keep_word, is_class_rule, class_rule_words}
 use Rattle.rule_text.specs.Steps.{AtSyntax, BeginOtherwise, first_word, words_at}
 use Rattle.rule_text.specs.Tokens.{Word}
 use Rattle.rule_text.specs.Words.{IsNameOf}
@@ -22,9 +21,9 @@ use Rattle.rule_text.specs.declared.stop.Stop.{Stop}
 use Rattle.rule_text.specs.declared.stop.Stop.TheVariants as stop
 use Rattle.rule_text.specs.declared.token.Token.{Token as Lexed}
 use Rattle.if_text.specs.Faults.{is_if_at, IsConditionTo, IsRefusedItem, InEntry, InCondition, NoRule, InKept, AtReference, HaltsItem}
-use Rattle.if_text.specs.Items.{IfRule, are_good, if_word}
+use Rattle.if_text.specs.Items.{if_word}
 use Rattle.if_text.specs.Steps.{good_words, ReadsKept, ReadsIf, IsNotKept, NoOption, Refused, Bad, HaltsKept}
-use Rattle.if_text.specs.Wildcards.{slots, is_good_in}
+use Rattle.if_text.specs.Wildcards.{slots}
 use Rattle.if_text.specs.declared.parts.Part.{Part}
 use Rattle.if_text.specs.declared.slots.Source.{Source}
 use Rattle.if_text.specs.declared.rules.IfRule.{IfRule as ReadIf}

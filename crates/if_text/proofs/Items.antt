@@ -1,20 +1,19 @@
 -- What was read of a text with conditions.
-use Rattle.std.proofs.Common.{◌≡◌, ◌⊎◌, inl, inr, ◌<◌, ◌≤◌, ◌+◌, ◌-◌, ℕ, zero, suc, Bool, true, false, ◌&&◌, ◌||◌, if◌then◌else◌, List, [], ◌∷◌, ◌++◌, map, take, drop, length, Option, Some, None, refl, sym, ap, subst, ◌∙◌, arith, take-append-drop, drop-drop, length-append}
+use Rattle.std.proofs.Common.{◌≡◌, ◌<◌, ◌≤◌, ◌+◌, ◌-◌, ℕ, zero, suc, Bool, true, false, ◌&&◌, ◌||◌, if◌then◌else◌, List, [], ◌∷◌, ◌++◌, map, take, drop, length, refl, sym, ap, subst, ◌∙◌, arith, take-append-drop, drop-drop}
 use Rattle.std.specs.List.{flat_map, list_all}
 use Rattle.std.specs.Str.{IsUtf8}
 use Rattle.std.specs.Cmp.Lexicographic.{bytes_decides}
 use Rattle.std.proofs.lemmas.List.{append-nil, append_assoc, append_cancel_right, drop-map, length-map}
 use Rattle.rule_text.specs.Fronts.{AreTokensOf}
-use Rattle.rule_text.specs.Halts.{is_known, IsRefusedEntry, HaltsBefore}
 use Rattle.rule_text.specs.Places.{Between, is_keep}
 use Rattle.rule_text.specs.Reads.{Reads}
 use Rattle.rule_text.specs.ReadEntries.{IsReading}
 use Rattle.rule_text.specs.Refusals.{EndsWhole}
 use Rattle.rule_text.specs.Related.{AreEach, AreEntriesOf, IsEntryOf}
 use Rattle.rule_text.specs.Rules.{Entry, Setting, Keep, Assume}
-use Rattle.rule_text.specs.Spelling.{word_eq, begins_option, begins_rule, setting_word, keep_word, entry_words, class_rule_words, is_entry, is_rule, spelled, count_rules}
-use Rattle.rule_text.specs.Steps.{AtSyntax, first_word, words_at}
-use Rattle.rule_text.specs.Tokens.{Word, words_of}
+use Rattle.rule_text.specs.Spelling.{word_eq, begins_rule, setting_word, keep_word, entry_words, class_rule_words, is_entry, is_rule, spelled, count_rules}
+use Rattle.rule_text.specs.Steps.{first_word, words_at}
+use Rattle.rule_text.specs.Tokens.{Word}
 use Rattle.rule_text.specs.declared.rules.Entry.{Entry as ReadEntry}
 use Rattle.rule_text.specs.declared.rules.KeepKind.{KeepKind}
 use Rattle.rule_text.specs.declared.rules.KeepKind.TheVariants as keep
@@ -28,8 +27,8 @@ use Rattle.rule_text.specs.declared.token.Tokens.{Tokens}
 use Rattle.rule_text.proofs.EntryLemmas.{words_from}
 use Rattle.rule_text.proofs.ReadLemmas.{each_more, spelled_more}
 use Rattle.rule_text.proofs.StepLemmas.{end_at}
-use Rattle.if_text.specs.Faults.{AreMasked, is_if_at, IsConditionTo, IsKeptTo, ItemsTo, OfNone, OfEntry, OfIf, IsRefusedItem, InEntry, begins_item, StandsBefore, IsRefusedAt, IsOptionAt, IsRuleAt, HaltsItem, HaltsItems}
-use Rattle.if_text.specs.Items.{IfRule, Item, Plain, If, if_word, item_words, IsKeepRule, are_good, IsIfRule, IsItem, AreItems, count_items, SpellsItems, plain_of, ifs_of}
+use Rattle.if_text.specs.Faults.{AreMasked, is_if_at, IsConditionTo, IsKeptTo, ItemsTo, OfNone, OfEntry, OfIf, begins_item, StandsBefore, IsOptionAt, HaltsItem, HaltsItems}
+use Rattle.if_text.specs.Items.{IfRule, Item, Plain, If, if_word, item_words, IsKeepRule, IsItem, AreItems, count_items, plain_of, ifs_of}
 use Rattle.if_text.specs.Parts.{masked}
 use Rattle.if_text.specs.Readings.{AreRead, IsIfOf, IsIfReading}
 use Rattle.if_text.specs.Steps.{ReadsIf, ReadsTo, ReadsCounted, ReadsFew, AddsItem}

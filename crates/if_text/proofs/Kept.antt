@@ -1,8 +1,7 @@
 -- What was read of a keep rule with references.
-use Rattle.std.proofs.Common.{◌≡◌, ◌<◌, ◌≤◌, ◌+◌, ◌-◌, ℕ, zero, suc, Bool, true, false, ◌&&◌, List, [], ◌∷◌, ◌++◌, map, take, drop, length, slice_index_or, Vec, refl, sym, ap, subst, ◌∙◌, arith, take-append-drop, length-take}
+use Rattle.std.proofs.Common.{◌≡◌, ◌<◌, ◌≤◌, ◌+◌, ◌-◌, ℕ, zero, suc, Bool, true, false, ◌&&◌, List, [], ◌∷◌, ◌++◌, map, take, drop, length, slice_index_or, Vec, refl, sym, ap, subst, ◌∙◌, arith}
 use Rattle.std.specs.List.{list_all}
 use Rattle.std.specs.declared.alloc.Global.{Global}
-use Rattle.std.proofs.lemmas.List.{append_assoc}
 use Rattle.rule_text.specs.Places.{Between, is_keep}
 use Rattle.rule_text.specs.Reads.{Reads}
 use Rattle.rule_text.specs.Refusals.{EndsWhole}
@@ -16,7 +15,7 @@ use Rattle.if_text.specs.Faults.{IsKeptTo}
 use Rattle.if_text.specs.Parts.{parts_of}
 use Rattle.rule_text.specs.declared.stop.Halt.TheVariants as halt
 use Rattle.rule_text.specs.declared.stop.Stop.TheVariants as stop
-use Rattle.if_text.specs.Steps.{good_words, ReadsKept, IsBadAt, Bad, HaltsKept}
+use Rattle.if_text.specs.Steps.{ReadsKept, IsBadAt, Bad, HaltsKept}
 use Rattle.if_text.specs.Wildcards.{is_good_in}
 use Rattle.if_text.specs.declared.parts.Part.{Part}
 use Rattle.if_text.specs.declared.slots.Source.{Source}

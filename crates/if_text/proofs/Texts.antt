@@ -1,18 +1,18 @@
 -- The fault of a text, and whether it has conditions.
-use Rattle.std.proofs.Common.{◌≡◌, ◌⊎◌, inl, inr, ◌<◌, ◌≤◌, ℕ, zero, suc, Bool, true, false, ◌||◌, List, [], ◌∷◌, map, length, refl, sym, ap, subst, ◌∙◌, arith}
+use Rattle.std.proofs.Common.{◌≡◌, inl, inr, ◌<◌, ℕ, Bool, true, false, ◌||◌, List, [], ◌∷◌, map, length, refl, sym, ap, subst, ◌∙◌, arith}
 use Rattle.std.specs.List.{list_any}
 use Rattle.std.specs.Str.{IsUtf8}
 use Rattle.rule_text.specs.Fault.{IsFault}
-use Rattle.rule_text.specs.Fronts.{token_view, AreTokensOf}
+use Rattle.rule_text.specs.Fronts.{AreTokensOf}
 use Rattle.rule_text.specs.Spelling.{word_eq}
-use Rattle.rule_text.specs.Tokens.{Word, words_of}
+use Rattle.rule_text.specs.Tokens.{Word}
 use Rattle.rule_text.specs.declared.fault.RuleFault.{RuleFault}
 use Rattle.rule_text.specs.declared.fault.RuleFault.TheVariants as fault
 use Rattle.rule_text.specs.declared.token.Token.{Token as Lexed}
 use Rattle.rule_text.specs.declared.token.Tokens.{Tokens}
 use Rattle.rule_text.proofs.EntryLemmas.{words_from}
 use Rattle.rule_text.proofs.FaultLemmas.{few_ends}
-use Rattle.if_text.specs.Faults.{AreMasked, IsRefusedAt, IsOptionAt, IsAtLine, IsItemFault, IsFaultIn, HasIfFault, IsIfFault}
+use Rattle.if_text.specs.Faults.{AreMasked, IsItemFault, HasIfFault, IsIfFault}
 use Rattle.if_text.specs.Items.{if_word, has_if}
 use Rattle.if_text.proofs.Items.{word_of}
 

@@ -1,5 +1,5 @@
 -- The fault of a text with conditions: where going through it from one rule or option to the next can't go on.
-use Rattle.std.specs.Prelude.{◌≡◌, ◌⊎◌, ◌<◌, ◌≤◌, ◌+◌, ℕ, suc, Bool, true, false, if◌then◌else◌, ◌||◌, List, [], ◌∷◌, ◌++◌, map, take, length, Option, Some, None, codes}
+use Rattle.std.specs.Prelude.{◌≡◌, ◌⊎◌, ◌<◌, ◌≤◌, ◌+◌, ℕ, suc, Bool, true, false, if◌then◌else◌, ◌||◌, List, [], ◌∷◌, ◌++◌, map, length}
 use Rattle.std.specs.Str.{IsUtf8, IsValidUpTo}
 use Rattle.rule_text.specs.Fault.{IsFault}
 use Rattle.rule_text.specs.Faults.{IsLineOf}

@@ -1,6 +1,6 @@
 -- Rules with conditions (ProGuard manual, "Keep options", -if): `-if`, a class specification, and a keep rule in whose words a reference
 -- may stand wherever a name may. A text spells such rules among rules and options that have no condition.
-use Rattle.std.specs.Prelude.{◌≡◌, ◌≤◌, ℕ, ◌+◌, Bool, true, false, if◌then◌else◌, List, [], ◌∷◌, ◌++◌, map, codes}
+use Rattle.std.specs.Prelude.{◌≡◌, ◌≤◌, ℕ, ◌+◌, Bool, true, if◌then◌else◌, List, [], ◌∷◌, ◌++◌, map, codes}
 use Rattle.std.specs.List.{flat_map, list_all, list_any}
 use Rattle.std.specs.Str.{IsUtf8}
 use Rattle.rule_text.specs.Places.{is_keep}

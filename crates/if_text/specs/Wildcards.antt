@@ -1,7 +1,7 @@
 -- The wildcards of a class specification, in the order of its text, and what a reference may name of them (ProGuard manual, "Class
 -- specifications"). Wildcards are `?`, `*` and `**` in names, and `***` and `%` as types; stars side by side are one. `...`, and a `*`
 -- that names all members, are none.
-use Rattle.std.specs.Prelude.{ℕ, zero, suc, ◌+◌, ◌-◌, Bool, true, false, ◌&&◌, not, if◌then◌else◌, nat_eq, nat_lt, List, [], ◌∷◌, ◌++◌, replicate, length, codes, Option, Some, None, slice_index_or}
+use Rattle.std.specs.Prelude.{ℕ, zero, suc, ◌+◌, ◌-◌, Bool, true, false, ◌&&◌, if◌then◌else◌, nat_eq, nat_lt, List, [], ◌∷◌, ◌++◌, replicate, codes, Option, Some, None, slice_index_or}
 use Rattle.std.specs.List.{flat_map}
 use Rattle.rule_text.specs.declared.pattern.Piece.{Piece}
 use Rattle.rule_text.specs.declared.pattern.Piece.TheVariants as piece

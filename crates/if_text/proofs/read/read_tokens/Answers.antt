@@ -1,4 +1,4 @@
-use Rattle.std.proofs.Common.{◌≡◌, subst, sym, length, rules}
+use Rattle.std.proofs.Common.{length, rules}
 use Rattle.if_text.specs.Faults.{AreMasked, HaltsItems}
 use Rattle.if_text.specs.Steps.{ReadsFew}
 use Rattle.if_text.proofs.Items.{whole_text}

@@ -1,5 +1,5 @@
 mod Fills
-mod Globs
+mod GlobLemmas
 mod Grows
 mod Javas
 mod Lives

@@ -41,7 +41,7 @@ fn read_each(alloc: Global, named: Named, units: &[u16]) -> Result<Vec<u16>, All
 }
 
 /// How many units a wildcard for many takes: up to the first place from which the pieces behind it match the rest.
-#[tactic(auto, using(crate::proofs::Globs::star_here, crate::proofs::Globs::star_more, crate::proofs::Globs::star_end))]
+#[tactic(auto, using(crate::proofs::GlobLemmas::star_here, crate::proofs::GlobLemmas::star_more, crate::proofs::GlobLemmas::star_end))]
 fn star_taken(
     named: Named,
     behind: &[Piece],
@@ -121,7 +121,7 @@ fn push_text(
 }
 
 /// Adds what the wildcards of these pieces match in the text.
-#[tactic(auto, using(crate::proofs::Globs::texts_more))]
+#[tactic(auto, using(crate::proofs::GlobLemmas::texts_more))]
 fn glob_texts(
     alloc: Global,
     named: Named,
@@ -144,7 +144,7 @@ fn glob_texts(
 }
 
 /// What stands behind so many units.
-#[tactic(auto, using(crate::proofs::Globs::none_behind))]
+#[tactic(auto, using(crate::proofs::GlobLemmas::none_behind))]
 pub fn behind_units(text: &[u16], count: usize) -> &[u16]
     ensures { result.now ≡ drop count text.now }
 {
@@ -156,7 +156,7 @@ pub fn behind_units(text: &[u16], count: usize) -> &[u16]
 }
 
 /// Adds what the wildcards of a pattern match in the text.
-#[tactic(auto, using(crate::proofs::Globs::behind_head))]
+#[tactic(auto, using(crate::proofs::GlobLemmas::behind_head))]
 pub fn name_texts(
     alloc: Global,
     pattern: &NamePattern,

@@ -1,6 +1,6 @@
 use Rattle.std.proofs.Common.{◌≡◌, false, drop, rules}
 use Rattle.rule_text.specs.Glob.{matches_of}
-use Rattle.if_rules.proofs.Globs.{star_more}
+use Rattle.if_rules.proofs.GlobLemmas.{star_more}
 use Rattle.if_rules.proofs.globs.star_taken.Goals as goal
 
 pub loop-at-preserved : goal.loop-at-preserved

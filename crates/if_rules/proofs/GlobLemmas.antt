@@ -1,7 +1,7 @@
 -- What wildcards take.
-use Rattle.std.proofs.Common.{◌≡◌, ◌<◌, ◌≤◌, ◌+◌, ℕ, zero, suc, Bool, true, false, List, [], ◌∷◌, ◌++◌, map, take, drop, length, refl, sym, ap, subst, ◌∙◌, arith}
+use Rattle.std.proofs.Common.{◌≡◌, ◌<◌, ◌≤◌, ◌+◌, ◌-◌, ℕ, zero, suc, Bool, true, false, List, [], ◌∷◌, ◌++◌, map, take, drop, length, refl, sym, ap, subst, ◌∙◌, arith}
 use Rattle.std.specs.Prelude.{if◌then◌else◌}
-use Rattle.std.proofs.lemmas.List.{append-nil, append_assoc, drop_all, drop-drop, take_all}
+use Rattle.std.proofs.lemmas.List.{append-nil, append_assoc, drop_all, drop-drop, length-drop, take_all}
 use Rattle.rule_text.specs.Glob.{matches_of}
 use Rattle.rule_text.specs.Pieces.{characters, pieces_of, merged}
 use Rattle.rule_text.specs.Related.{IsPatternOf}
@@ -44,6 +44,10 @@ star_more f text at inside is so_far = so_far ∙ further f text at inside is
 
 pub star_end : (f : List ℕ → Bool) (text : Text) (at : ℕ) → length text ≤ at → star_taken f text ≡ take at text ++ star_taken f (drop at text) → take at text ≡ star_taken f text
 star_end f text at end so_far = sym (so_far ∙ ap (λ xs. take at text ++ star_taken f xs) (drop_all at text end) ∙ append-nil (take at text))
+
+-- what is behind a place
+pub behind_all : (text : Text) (at : ℕ) → take (length text - at) (drop at text) ≡ drop at text
+behind_all text at = let size : length (drop at text) ≡ length text - at = length-drop at text in take_all (length text - at) (drop at text) (omega (arith, size))
 
 -- ---- pieces
 

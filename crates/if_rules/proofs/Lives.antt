@@ -1,5 +1,5 @@
 -- Loops that ask for some live member, or for each line.
-use Rattle.std.proofs.Common.{◌≡◌, ◌<◌, ◌-◌, ℕ, zero, suc, Bool, true, false, ◌&&◌, ◌||◌, List, [], ◌∷◌, take, drop, get_or, length, Some, None, slice_get, refl, sym, ap, subst, ◌∙◌, arith}
+use Rattle.std.proofs.Common.{◌≡◌, ◌<◌, ◌-◌, ℕ, zero, suc, Bool, true, false, ◌&&◌, ◌||◌, List, [], ◌∷◌, take, drop, get_or, slice_index, length, Some, None, slice_get, refl, sym, ap, subst, ◌∙◌, arith}
 use Rattle.std.specs.List.{list_all, list_any}
 use Rattle.std.proofs.lemmas.List.{take_all}
 use Rattle.class_defs.proofs.WellFormed.{and_left, and_right}
@@ -70,6 +70,12 @@ split_first [] x some is = absurd (omega (arith, some))
 split_first (y ∷ ys) x some is =
     let e : length (y ∷ ys) - 1 ≡ length ys = omega arith in
     ap (λ z. z ∷ ys) (sym is) ∙ ap (λ zs. x ∷ zs) (sym (ap (λ k. take k ys) e ∙ take_all (length ys) ys (omega arith)))
+
+pub split_number : (xs : List ℕ) → 0 < length xs → xs ≡ slice_index xs 0 ∷ take (length xs - 1) (drop 1 xs)
+split_number [] some = absurd (omega (arith, some))
+split_number (x ∷ xs) some =
+    let e : length (x ∷ xs) - 1 ≡ length xs = omega arith in
+    ap (λ ys. x ∷ ys) (sym (ap (λ k. take k xs) e ∙ take_all (length xs) xs (omega arith)))
 
 -- what holds of all holds of the one at a place
 pub all_at : {X : Type 0} (t : X → Bool) (xs : List X) (k : ℕ) (x : X) → list_all t xs ≡ true → slice_get xs k ≡ Some x → t x ≡ true

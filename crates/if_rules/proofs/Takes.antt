@@ -223,7 +223,7 @@ other_names names (w ∷ v ∷ ws) t many are = refl
 -- ---- texts behind texts
 
 pub both_added : (old mid new a b : List Text) → mid ≡ old ++ a → new ≡ mid ++ b → new ≡ old ++ (a ++ b)
-both_added old mid new a b first then = then ∙ ap (λ x. x ++ b) first ∙ append_assoc old a b
+both_added old mid new a b first next = next ∙ ap (λ x. x ++ b) first ∙ append_assoc old a b
 
 pub three_added : (old mid new a b c : List Text) → mid ≡ old ++ (a ++ b) → new ≡ mid ++ c → new ≡ old ++ (a ++ (b ++ c))
-three_added old mid new a b c first then = both_added old mid new (a ++ b) c first then ∙ ap (λ x. old ++ x) (append_assoc a b c)
+three_added old mid new a b c first next = both_added old mid new (a ++ b) c first next ∙ ap (λ x. old ++ x) (append_assoc a b c)

@@ -218,7 +218,8 @@ pub fn outside_of(
     requires classes { length program.now.classes < 2 ^ 32 }
     ensures { (items : List Item) → is_well_formed program.now ≡ true → IsResolved program.now hierarchy.now → AreRead items rules.old → IfOk result (IsTableOf program.now items) }
 {
-    let bare = rules.ifs.is_empty();
+    let count = rules.ifs.as_slice().len();
+    let bare = count == 0;
     if bare {
         return table_of(alloc, &rules.plain, program, hierarchy);
     }

@@ -1,6 +1,7 @@
 //! The instances that the rules with conditions may have in a program, whatever is live.
 
 ghost use Rattle.std.specs.Prelude.{◌≡◌, ◌<◌, ◌^◌, ◌∷◌, [], List, true, false, length, slice_get, Some, IfOk, OnOk};
+ghost use Rattle.std.specs.Option.{option_copied};
 ghost use Rattle.hierarchy.specs.Shapes.{IsOf};
 ghost use Rattle.program_model.specs.ProgramRules.{is_well_formed};
 ghost use Rattle.keep_rules.specs.Fits.{has_names};
@@ -49,6 +50,13 @@ struct Place<'p> {
     rule: &'p IfRule,
     number: usize,
     class: usize,
+}
+
+/// The class at a place.
+pub fn class_there(program: &Program, place: usize) -> Option<&Class>
+    ensures { option_copied result ≡ slice_get program.now.classes place }
+{
+    program.classes.as_slice().get(place)
 }
 
 /// What the wildcards of the rule's class name matched.
@@ -273,7 +281,7 @@ fn push_place(
     ensures { (rs : List Meant) (r : Meant) → is_well_formed program.now ≡ true → slice_get rs at.now.number ≡ Some r → IsIfOf at.now.rule.now r → IsMatchedAt program.now r.condition at.now.class
         → OnOk result (Grew program.now rs (OfPlace at.now.number at.now.class) out.old.items out.new.items) }
 {
-    match program.classes.as_slice().get(at.class) {
+    match class_there(program, at.class) {
         Some(class) => push_class(alloc, at, program, class, row, out),
         None => Ok(()),
     }

@@ -2,6 +2,7 @@
 
 ghost use Rattle.std.specs.Prelude.{◌≡◌, ◌&&◌, List, true, false, Some, None, slice_get, IfOk};
 ghost use Rattle.std.specs.List.{list_all, list_any};
+ghost use Rattle.std.specs.Option.{option_copied};
 ghost use Rattle.dalvik_defs.specs.Naming.{named_field, named_method};
 ghost use Rattle.keep_rules.specs.Fits.{has_field_name, has_method_name, has_names};
 ghost use Rattle.program_model.specs.ProgramRules.{is_well_formed};
@@ -13,7 +14,7 @@ ghost use Rattle.if_text.specs.Readings.{IsIfOf};
 ghost use Rattle.if_rules.specs.Added.{are_live, holds, holds_at, holds_in, is_met};
 ghost use Rattle.if_rules.specs.Instances.{is_on};
 
-use crate::instances::{Choice, Instance, lines_of};
+use crate::instances::{Choice, Instance, class_there, lines_of};
 use call_graph::LiveSet;
 use if_text::IfRule;
 use keep_rules::{field_fits, method_fits};
@@ -214,6 +215,13 @@ fn holds_in(
     has_members(rule, choice, program, class, live, row)
 }
 
+/// The rule at a place.
+fn rule_there(rules: &[IfRule], place: usize) -> Option<&IfRule>
+    ensures { option_copied result ≡ slice_get rules.now place }
+{
+    rules.get(place)
+}
+
 /// Whether an instance of a rule holds.
 fn holds_at(
     rule: &IfRule,
@@ -224,7 +232,7 @@ fn holds_at(
 ) -> Result<bool, AllocError>
     ensures { (r : Meant) → is_well_formed program.now ≡ true → IsIfOf rule.now r → IfOk result (λ there. there ≡ holds_at program.now live.now r instance.now) }
 {
-    match program.classes.as_slice().get(instance.class) {
+    match class_there(program, instance.class) {
         Some(class) => holds_in(rule, instance.choice, program, class, live, row),
         None => Ok(false),
     }
@@ -240,7 +248,7 @@ pub fn holds(
 ) -> Result<bool, AllocError>
     ensures { (rs : List Meant) → is_well_formed program.now ≡ true → AreEach IsIfOf rules.now rs → IfOk result (λ there. there ≡ holds program.now live.now rs instance.now) }
 {
-    match rules.get(instance.rule) {
+    match rule_there(rules, instance.rule) {
         Some(rule) => holds_at(rule, instance, program, live, row),
         None => Ok(false),
     }

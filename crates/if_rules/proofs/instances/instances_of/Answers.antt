@@ -12,10 +12,10 @@ loop-number-init c = λ rs formed of_p are. subst (λ (xs : List _). Grew c.args
 
 pub loop-number-preserved : goal.loop-number-preserved
 loop-number-preserved c = λ rs formed of_p are.
-    let inside : c.loop-number.number < length c.args.rules.now = omega (arith, c.loop-number-test.true, c.len-number-end.ensures) in
+    let inside : c.loop-number.number < length c.args.rules.now = omega (arith, c.loop-number-test.true) in
     let at : slice_get c.args.rules.now c.loop-number.number ≡ Some c.index-rules-number.result = slice_get-get_or c.args.rules.now c.loop-number.number c.index-rules-number.result inside ∙ ap (λ r. Some r) (sym c.index-rules-number.is) in
     let there : EachThere IsIfOf rs c.loop-number.number c.index-rules-number.result = each_there IsIfOf c.args.rules.now rs c.loop-number.number c.index-rules-number.result are at in
     rules_more c.args.program.now rs c.loop-number.number [] c.loop-number.out.items c.push_rule.new.out.items (c.loop-number.invariant rs formed of_p are) (c.in_ok-push_rule.ensures rs there.one formed of_p there.is there.related)
 
 pub returns : goal.returns
-returns c = λ rs formed of_p are. rules_all c.args.program.now rs c.loop-number.number c.loop-number.out.items (omega (arith, c.loop-number-test.false, c.len-number-end.ensures, each_length IsIfOf c.args.rules.now rs are)) (c.loop-number.invariant rs formed of_p are)
+returns c = λ rs formed of_p are. rules_all c.args.program.now rs c.loop-number.number c.loop-number.out.items (omega (arith, c.loop-number-test.false, each_length IsIfOf c.args.rules.now rs are)) (c.loop-number.invariant rs formed of_p are)

@@ -11,10 +11,10 @@ use Rattle.if_rules.proofs.fire.outside_of.Goals as goal
 
 pub returns-then-bare : goal.returns-then-bare
 returns-then-bare c = λ items formed resolved read.
-    let none : c.args.rules.now.ifs.items ≡ [] = nil_from_length c.args.rules.now.ifs.items (ap length (sym c.as_slice.ensures.value) ∙ c.if-bare.true) in
+    let none : c.args.rules.now.ifs.items ≡ [] = nil_from_length c.args.rules.now.ifs.items (ap length (sym c.as_slice-count.ensures.value) ∙ c.if-bare.true) in
     IfOk-weaker c.outside_of.result _ _ (λ o table. Without (no_ifs items c.args.rules.now none read) table) (c.outside_of.ensures.table (plain_of items) formed resolved.of read.plain)
 
 pub returns : goal.returns
 returns c = λ items formed resolved read. IfOk-weaker c.settle.result _ _ (λ o settled. With settled)
     (c.settle.ensures items formed resolved read
-    (subst (λ (is : List _). AreInstances c.args.program.now (ifs_of items) is) (sym c.as_slice-3.ensures.value) (c.in_ok-instances.ensures (ifs_of items) formed resolved.of (subst (λ (rs : List _). AreEach IsIfOf rs (ifs_of items)) (sym c.as_slice-2.ensures.value) read.ifs))))
+    (subst (λ (is : List _). AreInstances c.args.program.now (ifs_of items) is) (sym c.as_slice-2.ensures.value) (c.in_ok-instances.ensures (ifs_of items) formed resolved.of (subst (λ (rs : List _). AreEach IsIfOf rs (ifs_of items)) (sym c.as_slice.ensures.value) read.ifs))))

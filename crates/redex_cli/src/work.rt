@@ -10,14 +10,14 @@ ghost use Rattle.dex_read.specs.Faults.{is_free};
 ghost use Rattle.dex_read.specs.File.{program_at};
 ghost use Rattle.dex_read.specs.Kept.{KeepsLimits};
 ghost use Rattle.hierarchy.specs.Shapes.{IsCause, IsResolved};
+ghost use Rattle.if_text.specs.Faults.{IsIfFault};
+ghost use Rattle.if_text.specs.Readings.{IsIfReading};
 ghost use Rattle.program_model.specs.ProgramRules.{is_well_formed};
 ghost use Rattle.redex_outside.specs.Panels.{HasRun};
 ghost use Rattle.stub_library.specs.Stubs.{library_at};
 ghost use Rattle.text_defs.specs.Plays.{play_of};
 ghost use Rattle.redex_cli.specs.Accepted.{IsAccepted, IsOfBytes};
 ghost use Rattle.redex_cli.specs.Files.{AreRead, BytesRefused, FileRefused, HasGraphFault, HasTypeFault, LibraryRefused};
-ghost use Rattle.rule_text.specs.Fault.{IsFault};
-ghost use Rattle.rule_text.specs.ReadEntries.{IsReading};
 ghost use Rattle.redex_cli.specs.Finished.{AreTold, Checks, Finished, IsWorkload, LeavesBy, Shrunk, program_text, sizes_in, turn_told};
 ghost use Rattle.redex_cli.specs.Refusals.{IsLibraryRefusal, LibraryEnds, MadeRefused, ReadRefused, TraceRefused, WorkRefused};
 ghost use Rattle.redex_cli.specs.Lists.{ListsFile};
@@ -36,7 +36,7 @@ use dalvik_model::{Event, run};
 use dex_read::{DexFault, read_dex};
 use dex_write::write_dex;
 use hierarchy::{Hierarchy, HierarchyFault};
-use keep_rules::{RuleFault, Rules, outside_of, read_rules};
+use if_rules::{IfRules, RuleFault, outside_of, read_rules};
 use pipeline::{Outcome, optimise, optimise_inlined};
 use program_model::{Outside, Program};
 use reach::close;
@@ -54,7 +54,7 @@ const WORKLOAD_RULES: &[u8] = b"-keep class ?0 { public static int run(int); }\n
 
 /// A fault of the rules as a status.
 fn rules_status(fault: RuleFault) -> Status
-    ensures refused { (inputs : Inputs) → IsFault inputs.rules fault → WorkRefused inputs result }
+    ensures refused { (inputs : Inputs) → IsIfFault inputs.rules fault → WorkRefused inputs result }
     ensures file { (inputs : Inputs) → BytesRefused inputs result }
 {
     match fault {
@@ -191,14 +191,14 @@ struct Input {
 /// What the rules keep of a program, closed: the table of each text from which they may have been read.
 fn closed_outside(
     alloc: Global,
-    rules: &Rules,
+    rules: &mut IfRules,
     program: &Program,
     hierarchy: &Hierarchy,
 ) -> Result<Outside, AllocError>
     requires limits { KeepsLimits program.now }
     requires formed { is_well_formed program.now ≡ true }
     requires resolved { IsResolved program.now hierarchy.now }
-    ensures { (text : List ℕ) → IsReading text rules.now → IfOk result (IsTableFor text program.now) }
+    ensures { (text : List ℕ) → IsIfReading text rules.old → IfOk result (IsTableFor text program.now) }
 {
     let open = outside_of(alloc, rules, program, hierarchy)?;
     close(alloc, program, hierarchy, &open)
@@ -263,7 +263,7 @@ fn read_input(alloc: Global, inputs: Inputs) -> Result<Input, Status>
     ensures refused { IfErr result (WorkRefused inputs) }
     ensures bytes { IfErr result (BytesRefused inputs) }
 {
-    let rules = match read_rules(alloc, inputs.rules.as_slice()) {
+    let mut rules = match read_rules(alloc, inputs.rules.as_slice()) {
         Ok(rules) => rules,
         Err(fault) => return Err(rules_status(fault)),
     };
@@ -272,7 +272,7 @@ fn read_input(alloc: Global, inputs: Inputs) -> Result<Input, Status>
         Ok(classes) => classes,
         Err(status) => return Err(status),
     };
-    let closed = match closed_outside(alloc, &rules, &program, &hierarchy) {
+    let closed = match closed_outside(alloc, &mut rules, &program, &hierarchy) {
         Ok(closed) => closed,
         Err(_) => return Err(Status::NoMemory),
     };

@@ -9,10 +9,3 @@ ghost use Rattle.dex_defs.specs.LaysOut.{LaysOut};
 pub fn read_lays_out_law()
     ensures { (bytes : List ℕ) (p : Program) → ((i : ℕ) → slice_index bytes i < 256) → program_at bytes ≡ Ok p → LaysOut p }
 {}
-
-/// The same of bytes in memory: after a call, whatever program they spell is known to lay out. It does nothing else.
-pub fn reads_lays_out(bytes: &[u8])
-    ensures { (p : Program) → program_at bytes.now ≡ Ok p → LaysOut p }
-{
-    let _bytes = bytes;
-}

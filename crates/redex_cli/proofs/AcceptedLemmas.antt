@@ -1,6 +1,5 @@
 -- From what the class graph and the verifier say to what a run says of programs.
 use Rattle.std.proofs.Common.{◌≡◌, ◌⊎◌, ℕ, List, true, Ok, inl, inr}
-use Rattle.dex_defs.specs.LaysOut.{LaysOut}
 use Rattle.dex_read.specs.File.{program_at}
 use Rattle.hierarchy.specs.Shapes.{IsAcyclic, IsResolved}
 use Rattle.hierarchy.specs.Splitting.{NoSplit}
@@ -19,10 +18,9 @@ graph_of : (p : Program) (h : Hierarchy) → IsResolved p h → IsAcyclic p → 
 graph_of p h resolved acyclic unsplit = record { resolved = resolved; once = resolved.of.once; acyclic = acyclic; unsplit = unsplit }
 
 pub accepted : (p : Program) (h : Hierarchy) → is_well_formed p ≡ true → (is_well_formed p ≡ true → IsResolved p h) → (is_well_formed p ≡ true → IsAcyclic p)
-    → (is_well_formed p ≡ true → NoSplit p) → TypesAll p h → LaysOut p → IsAccepted p
-accepted p h well resolved acyclic unsplit types lays = record {
+    → (is_well_formed p ≡ true → NoSplit p) → TypesAll p h → IsAccepted p
+accepted p h well resolved acyclic unsplit types = record {
   formed = well;
-  lays = lays;
   hierarchy = h;
   graph = graph_of p h (resolved well) (acyclic well) (unsplit well);
   types = types;

@@ -6,7 +6,6 @@ use Rattle.call_graph.specs.Least.{IsLeastSet}
 use Rattle.call_graph.specs.declared.live_set.LiveSet.{LiveSet}
 use Rattle.command_line.specs.declared.command.Tell.{Tell}
 use Rattle.dex_base.specs.Reading.{Gives}
-use Rattle.dex_defs.specs.LaysOut.{LaysOut}
 use Rattle.dex_read.specs.Faults.{is_free}
 use Rattle.dex_read.specs.File.{program_at}
 use Rattle.dex_read.specs.declared.fault.DexFault.{DexFault}
@@ -37,12 +36,6 @@ pub well_formed_if : (bytes : List ℕ) (result : Result Program DexFault) → (
     → Gives is_free (λ program. program) result (program_at bytes) → IfOk result (λ program. is_well_formed program ≡ true)
 well_formed_if bytes (Ok p) formed gives = formed p gives
 well_formed_if bytes (Err e) formed gives = tt
-
--- and such that lay out
-pub lays_out_if : (bytes : List ℕ) (result : Result Program DexFault) → ((p : Program) → program_at bytes ≡ Ok p → LaysOut p)
-    → Gives is_free (λ program. program) result (program_at bytes) → IfOk result LaysOut
-lays_out_if bytes (Ok p) lays gives = lays p gives
-lays_out_if bytes (Err e) lays gives = tt
 
 pub leaves : (inline : Bool) (voices news : List Voice) (given answers : List Bool) (program : Program) (outside : Outside) (left : Program) (rounds spared : ℕ) (origins : List (List Origin))
     → inline ≡ false → IsOptimisedBy outside program voices news given answers spared left origins rounds → LeavesBy inline voices given program outside left rounds spared

@@ -2,7 +2,6 @@
 use Rattle.std.specs.Prelude.{◌≡◌, ℕ, true}
 use Rattle.class_defs.specs.ClassGraph.{IsTwice}
 use Rattle.dalvik_defs.specs.Naming.{named}
-use Rattle.dex_defs.specs.LaysOut.{LaysOut}
 use Rattle.hierarchy.specs.Shapes.{IsAcyclic, IsResolved}
 use Rattle.hierarchy.specs.Splitting.{NoSplit}
 use Rattle.hierarchy.specs.declared.build.Hierarchy.{Hierarchy}
@@ -21,11 +20,10 @@ pub record IsGraphOf (program : Program) (hierarchy : Hierarchy) : Type 0 where
   pub acyclic : IsAcyclic program
   pub unsplit : NoSplit program
 
--- The program is well-formed and lays out, its class graph is accepted, and each of its bodies is well typed: by the verifier's numbers,
+-- The program is well-formed, its class graph is accepted, and each of its bodies is well typed: by the verifier's numbers,
 -- and by names.
 pub record IsAccepted (program : Program) : Type 0 where
   pub formed : is_well_formed program ≡ true
-  pub lays : LaysOut program
   pub hierarchy : Hierarchy
   pub graph : IsGraphOf program hierarchy
   pub types : TypesAll program hierarchy

@@ -5,7 +5,6 @@ ghost use Rattle.dalvik_defs.specs.Naming.{named};
 ghost use Rattle.dalvik_defs.specs.Outer.{outer_of};
 ghost use Rattle.dalvik_defs.specs.Step.{shows};
 ghost use Rattle.dex_base.specs.Reading.{FailsIf, Gives};
-ghost use Rattle.dex_defs.specs.LaysOut.{LaysOut};
 ghost use Rattle.dex_read.specs.Counts.{CountsInFile};
 ghost use Rattle.dex_read.specs.Faults.{is_free};
 ghost use Rattle.dex_read.specs.File.{program_at};
@@ -42,7 +41,6 @@ use pipeline::{Outcome, optimise, optimise_inlined};
 use program_model::{Outside, Program};
 use reach::close;
 use read_laws::programs::reads_well_formed;
-use read_lays::laws::reads_lays_out;
 use redex_gen::generate;
 use redex_outside::{Adviser, Key, Panel};
 use script_text::{Play, ScriptFault, read_script, write_events};
@@ -141,17 +139,15 @@ struct Classes {
     hierarchy: Hierarchy,
 }
 
-/// The program that the bytes spell, which is well-formed and lays out.
-#[tactic(auto, using(crate::proofs::FinishedLemmas::well_formed_if, crate::proofs::FinishedLemmas::lays_out_if))]
+/// The program that the bytes spell, which is well-formed.
+#[tactic(auto, using(crate::proofs::FinishedLemmas::well_formed_if))]
 fn read_program(alloc: Global, bytes: &[u8]) -> Result<Program, DexFault>
     ensures gives { Gives is_free (λ program. program) result (program_at bytes.now) }
     ensures limits { IfOk result KeepsLimits }
     ensures counts { IfErr result CountsInFile }
     ensures formed { IfOk result (λ program. is_well_formed program ≡ true) }
-    ensures lays { IfOk result LaysOut }
 {
     reads_well_formed(bytes);
-    reads_lays_out(bytes);
     read_dex(alloc, bytes)
 }
 

@@ -6,7 +6,7 @@ use Rattle.redex_cli.proofs.work.read_classes.Goals as goal
 pub returns-in-Ok-verify_all-clause-accepted : goal.returns-in-Ok-verify_all-clause-accepted
 returns-in-Ok-verify_all-clause-accepted c =
     accepted c.in-Ok.program c.in-Ok-build.hierarchy c.in-Ok.ensures.formed c.in-Ok-build.ensures.resolved c.in-Ok-build.ensures.acyclic c.in-Ok-build.ensures.unsplit
-    c.in-Ok-verify_all.ensures.typed c.in-Ok.ensures.lays
+    c.in-Ok-verify_all.ensures.typed
 
 pub returns-in-Err-verify_all-clause-file : goal.returns-in-Err-verify_all-clause-file
 returns-in-Err-verify_all-clause-file c = c.typing_status.ensures.file c.args.file

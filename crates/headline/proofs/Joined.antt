@@ -28,8 +28,9 @@ use Rattle.redex_cli.specs.Finished.{Finished, FinishedOf, IsOutputOf, Leaves, L
 use Rattle.redex_cli.specs.Refusals.{OutputBy}
 use Rattle.redex_cli.specs.Tables.{IsTableWith}
 use Rattle.redex_cli.specs.declared.fetching.Inputs.{Inputs}
-use Rattle.headline.proofs.LaidOut.{left_lies}
+use Rattle.headline.proofs.LaidOut.{left_lies, written_left_lies}
 use Rattle.headline.specs.Headline.{Headline, KeepsMeaning, Shrinks}
+use Rattle.headline.proofs.Rising.{names_rise_for, is_spelled}
 
 -- rules alone shut no method, and what a library shuts is shut by the definition
 table_holds : (rules : List ℕ) (library : Option (List ℕ)) (p : Program) (o : Outside) → is_well_formed p ≡ true → ((class : ℕ) → IsTwice p class → ⊥)
@@ -79,6 +80,8 @@ module _ (p r : Program) (o : Outside) (rounds spared : ℕ) (voices : List Voic
         formed = (optimised_sound p accepted.hierarchy well graph.resolved graph.acyclic graph.unsplit o accepted.types r leaves.origins (length voices) spared rounds given leaves.answers done).formed;
         typed = (optimised_sound p accepted.hierarchy well graph.resolved graph.acyclic graph.unsplit o accepted.types r leaves.origins (length voices) spared rounds given leaves.answers done).typed;
         lays = left_lies p r o rounds spared voices given accepted false leaves;
+        once = (optimised_sound p accepted.hierarchy well graph.resolved graph.acyclic graph.unsplit o accepted.types r leaves.origins (length voices) spared rounds given leaves.answers done).once;
+        grounded = (optimised_sound p accepted.hierarchy well graph.resolved graph.acyclic graph.unsplit o accepted.types r leaves.origins (length voices) spared rounds given leaves.answers done).grounded;
         reached = optimised_reached p accepted.hierarchy well graph.resolved graph.acyclic graph.unsplit o accepted.types r leaves.origins (length voices) spared rounds given leaves.answers done;
         folded = optimised_folded p accepted.hierarchy well graph.resolved graph.acyclic graph.unsplit o accepted.types r leaves.origins (length voices) spared rounds given leaves.answers done;
         bound = optimised_bound p accepted.hierarchy well graph.resolved graph.acyclic graph.unsplit o accepted.types r leaves.origins (length voices) spared rounds given leaves.answers done;
@@ -100,6 +103,8 @@ module _ (p r : Program) (o : Outside) (rounds spared : ℕ) (voices : List Voic
         formed = (inlined_sound p accepted.hierarchy well graph.resolved graph.acyclic graph.unsplit o accepted.types r leaves.origins voices leaves.news spared rounds given leaves.answers done).formed;
         typed = (inlined_sound p accepted.hierarchy well graph.resolved graph.acyclic graph.unsplit o accepted.types r leaves.origins voices leaves.news spared rounds given leaves.answers done).typed;
         lays = left_lies p r o rounds spared voices given accepted true leaves;
+        once = (inlined_sound p accepted.hierarchy well graph.resolved graph.acyclic graph.unsplit o accepted.types r leaves.origins voices leaves.news spared rounds given leaves.answers done).once;
+        grounded = (inlined_sound p accepted.hierarchy well graph.resolved graph.acyclic graph.unsplit o accepted.types r leaves.origins voices leaves.news spared rounds given leaves.answers done).grounded;
         reached = inlined_reached p accepted.hierarchy well graph.resolved graph.acyclic graph.unsplit o accepted.types r leaves.origins voices leaves.news spared rounds given leaves.answers done;
         folded = inlined_folded p accepted.hierarchy well graph.resolved graph.acyclic graph.unsplit o accepted.types r leaves.origins voices leaves.news spared rounds given leaves.answers done;
         bound = inlined_bound p accepted.hierarchy well graph.resolved graph.acyclic graph.unsplit o accepted.types r leaves.origins voices leaves.news spared rounds given leaves.answers done;
@@ -119,7 +124,9 @@ keeps true voices given p r o rounds spared accepted holds leaves = keeps_inline
 
 shrinks : (inline : Bool) (voices : List Voice) (tells : List Tell) (inputs : Inputs) (output summary : List ℕ) → Finished inline voices tells inputs output summary → Shrinks inline voices tells inputs output
 shrinks inline voices tells inputs output summary f =
-    let accepted = f.accepted in record {
+    let accepted = f.accepted in
+    let kept : KeepsMeaning inline f.told [] f.program f.outside f.shrunk.left =
+    keeps inline f.told [] f.program f.shrunk.left f.outside f.shrunk.rounds f.shrunk.spared accepted (table_holds inputs.rules inputs.library f.program f.outside accepted.formed accepted.graph.once f.table) f.shrunk.leaves in record {
       program = f.program;
       reads = f.reads;
       outside = f.outside;
@@ -128,7 +135,9 @@ shrinks inline voices tells inputs output summary f =
       are_told = f.are_told;
       left = f.shrunk.left;
       written = f.shrunk.written;
-      keeps = keeps inline f.told [] f.program f.shrunk.left f.outside f.shrunk.rounds f.shrunk.spared accepted (table_holds inputs.rules inputs.library f.program f.outside accepted.formed accepted.graph.once f.table) f.shrunk.leaves;
+      spells = is_spelled f.shrunk.left output f.shrunk.written kept.formed kept.once kept.grounded (names_rise_for inline inputs.file f.program f.shrunk.left kept.admitted f.reads accepted.formed kept.stays)
+          (written_left_lies f.program f.shrunk.left f.outside f.shrunk.rounds f.shrunk.spared f.told [] accepted inline output f.shrunk.leaves kept.formed f.shrunk.written);
+      keeps = kept;
     }
 
 of_command : (words : List (List ℕ)) (voices : List Voice) (held : Held) (output summary : List ℕ) (command : CommandWords) → Spells words command

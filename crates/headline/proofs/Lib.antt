@@ -17,4 +17,5 @@ pub mod Inlined
 pub mod LaidTexts
 pub mod LaidRounds
 pub mod LaidOut
+pub mod Rising
 pub mod Joined

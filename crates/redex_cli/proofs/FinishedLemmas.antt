@@ -1,6 +1,6 @@
 -- Finished outputs.
 use Rattle.std.proofs.Common.{◌≡◌, ◌≤◌, ℕ, List, [], Bool, length, true, false, Option, None, Some, Result, Ok, Err, refl, subst, sym, inl, inr}
-use Rattle.std.specs.Prelude.{IfOk}
+use Rattle.std.specs.Prelude.{◌<◌, IfOk, slice_index}
 use Rattle.call_graph.specs.Closed.{IsClosedSet}
 use Rattle.call_graph.specs.Least.{IsLeastSet}
 use Rattle.call_graph.specs.declared.live_set.LiveSet.{LiveSet}
@@ -19,7 +19,7 @@ use Rattle.program_model.specs.declared.pass.Origin.{Origin}
 use Rattle.program_model.specs.declared.pass.Outside.{Outside}
 use Rattle.program_model.specs.declared.program.Program.{Program}
 use Rattle.redex_outside.specs.Voices.{Voice}
-use Rattle.redex_cli.specs.Accepted.{IsAccepted}
+use Rattle.redex_cli.specs.Accepted.{IsAccepted, IsOfBytes}
 use Rattle.redex_cli.specs.Files.{AreRead, BytesRefused, FileRefused, HasGraphFault, IsDeclared, IsRead}
 use Rattle.redex_cli.specs.Finished.{AreTold, Checks, Finished, IsWorkload, LeavesBy, Shrunk, program_text, sizes_in, summary_text}
 use Rattle.redex_cli.specs.Lists.{ListsFile, live_text}
@@ -36,6 +36,11 @@ pub well_formed_if : (bytes : List ℕ) (result : Result Program DexFault) → (
     → Gives is_free (λ program. program) result (program_at bytes) → IfOk result (λ program. is_well_formed program ≡ true)
 well_formed_if bytes (Ok p) formed gives = formed p gives
 well_formed_if bytes (Err e) formed gives = tt
+
+-- what is read of bytes
+pub read_if : (bytes : List ℕ) (result : Result Program DexFault) → ((i : ℕ) → slice_index bytes i < 256) → Gives is_free (λ program. program) result (program_at bytes) → IfOk result IsOfBytes
+read_if bytes (Ok p) small gives = record { bytes = bytes; are_bytes = small; reads = gives }
+read_if bytes (Err e) small gives = tt
 
 pub leaves : (inline : Bool) (voices news : List Voice) (given answers : List Bool) (program : Program) (outside : Outside) (left : Program) (rounds spared : ℕ) (origins : List (List Origin))
     → inline ≡ false → IsOptimisedBy outside program voices news given answers spared left origins rounds → LeavesBy inline voices given program outside left rounds spared

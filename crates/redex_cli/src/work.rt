@@ -14,7 +14,7 @@ ghost use Rattle.program_model.specs.ProgramRules.{is_well_formed};
 ghost use Rattle.redex_outside.specs.Panels.{HasRun};
 ghost use Rattle.stub_library.specs.Stubs.{library_at};
 ghost use Rattle.text_defs.specs.Plays.{play_of};
-ghost use Rattle.redex_cli.specs.Accepted.{IsAccepted};
+ghost use Rattle.redex_cli.specs.Accepted.{IsAccepted, IsOfBytes};
 ghost use Rattle.redex_cli.specs.Files.{AreRead, BytesRefused, FileRefused, HasGraphFault, HasTypeFault, LibraryRefused};
 ghost use Rattle.rule_text.specs.Fault.{IsFault};
 ghost use Rattle.rule_text.specs.ReadEntries.{IsReading};
@@ -140,12 +140,13 @@ struct Classes {
 }
 
 /// The program that the bytes spell, which is well-formed.
-#[tactic(auto, using(crate::proofs::FinishedLemmas::well_formed_if))]
+#[tactic(auto, using(crate::proofs::FinishedLemmas::well_formed_if, crate::proofs::FinishedLemmas::read_if))]
 fn read_program(alloc: Global, bytes: &[u8]) -> Result<Program, DexFault>
     ensures gives { Gives is_free (λ program. program) result (program_at bytes.now) }
     ensures limits { IfOk result KeepsLimits }
     ensures counts { IfErr result CountsInFile }
     ensures formed { IfOk result (λ program. is_well_formed program ≡ true) }
+    ensures read { IfOk result IsOfBytes }
 {
     reads_well_formed(bytes);
     read_dex(alloc, bytes)

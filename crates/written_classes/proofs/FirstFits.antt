@@ -45,6 +45,7 @@ use Rattle.names_law.specs.Used.{IsUsed, IsShort}
 use Rattle.written_tables.proofs.Fit.{FitsClass}
 use Rattle.written_tables.proofs.Naming.{value_named}
 use Rattle.written_tables.proofs.In.{In, in_left, in_got, all_in}
+use Rattle.written_order.specs.Rises.{NamesRise}
 use Rattle.written_values.specs.Fitting.{SizesFit, LayerFits, ValueFits}
 use Rattle.written_values.specs.Wide.{IsWideLayer, IsWide, IsWideFirst, WideField, WideClass, HasWideValues}
 use Rattle.written_values.proofs.Values.{array_stands}
@@ -148,7 +149,7 @@ values_stand bytes sizes zero (v ∷ vs) fit f few (Placed a lt h) = absurd (ome
 values_stand bytes sizes (suc k) (v ∷ vs) fit f few (Placed a lt h) = array_stands bytes sizes fit v vs (suc k) f few h
 
 module _ (p : Program) (i : Interner) (few : IsShort p) (h : IsInterned p i) (fits : (k : ℕ) (c : Class) → slice_get p.classes k ≡ Some c → FitsClass p c)
-    (wide : HasWideValues p) (old : Ascends list_below p.strings) (new : Ascends list_below (written_by i p).strings) where
+    (wide : HasWideValues p) (old : NamesRise p) (new : Ascends list_below (written_by i p).strings) where
   abbrev sizes : TableSizes
   sizes = sizes_in (written_by i p)
 

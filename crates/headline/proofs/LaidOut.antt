@@ -26,6 +26,7 @@ use Rattle.read_lays.proofs.Programs.{program_lies}
 use Rattle.redex_outside.specs.Voices.{Voice}
 use Rattle.redex_cli.specs.Accepted.{IsAccepted}
 use Rattle.redex_cli.specs.Finished.{LeavesBy}
+use Rattle.read_lays.proofs.Programs.{program_lies}
 use Rattle.layout_written.proofs.Falling.{read_ascends}
 use Rattle.layout_steps.proofs.Silenced.{silent_lies}
 use Rattle.layout_written.specs.Ascending.{TextsAscend}
@@ -71,15 +72,17 @@ abbrev traced : Program → List (List Origin) → Traced
 traced r origins = record { program = r; origins = origins }
 
 module _ (p r : Program) (o : Outside) (rounds spared : ℕ) (voices : List Voice) (given : List Bool) (a : IsAccepted p) where
+  accepted_lies : LaysOut p
+  accepted_lies = program_lies a.read.bytes a.read.are_bytes p a.read.reads
+
   pub left_lies : (inline : Bool) → LeavesBy inline voices given p o r rounds spared → LaysOut r
   left_lies false leaves =
       let done = leaves.optimised in
-      optimised_lies p a.hierarchy a.formed a.graph.resolved a.graph.acyclic a.graph.unsplit o a.types done.admitted done.silenced done.prepared.silent done.prepared.formed (traced r leaves.origins) rounds done.ran
-      (program_lies a.read.bytes a.read.are_bytes p a.read.reads)
+      optimised_lies p a.hierarchy a.formed a.graph.resolved a.graph.acyclic a.graph.unsplit o a.types done.admitted done.silenced done.prepared.silent done.prepared.formed (traced r leaves.origins) rounds done.ran accepted_lies
   left_lies true leaves =
       let done = leaves.optimised in
       inlined_lies p a.hierarchy a.formed a.graph.resolved a.graph.acyclic a.graph.unsplit o a.types done.admitted done.silenced done.prepared.silent done.prepared.formed done.inlined done.calls done.inlining
-      (traced r leaves.origins) rounds done.ran (program_lies a.read.bytes a.read.are_bytes p a.read.reads)
+      (traced r leaves.origins) rounds done.ran accepted_lies
 
   left_ascends : (inline : Bool) → LeavesBy inline voices given p o r rounds spared → TextsAscend r
   left_ascends false leaves =

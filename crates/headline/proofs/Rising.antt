@@ -78,11 +78,11 @@ pub names_rise_for : (inline : Bool) (bytes : List ℕ) (p q : Program) (admitte
 names_rise_for false bytes p q admitted reads formed s = names_rise bytes p q NoMoreRegisters admitted reads formed s
 names_rise_for true bytes p q admitted reads formed s = names_rise bytes p q FewRegisters admitted reads formed s
 
--- what is written for a program in whose annotations names rise, where the written program lays out
+-- what is written for a program in whose annotations names rise
 pub is_spelled : (p : Program) (bytes : List ℕ) (w : writer.IsWritten p bytes) → is_well_formed p ≡ true → ((class : ℕ) → IsTwice p class → ⊥) → ((class : ℕ) → IsAncestor p class class → ⊥) → NamesRise p → LaysOut (written_by w.interner p) → IsSpelled p bytes
 is_spelled p bytes w formed once grounded rise lays = record {
   spelled = written_by w.interner p;
   is = record { interner = w.interner; used = w.interned; is = refl };
-  signed = w.sealed.signature;
   valid = (written_is_valid p bytes w formed once grounded rise lays).valid;
+  signed = w.sealed.signature;
 }

@@ -11,7 +11,6 @@ use Rattle.program_model.specs.declared.program.Program.{Program}
 use Rattle.dex_defs.specs.LaysOut.{LaysOut}
 use Rattle.dex_read.specs.File.{program_at}
 use Rattle.dex_write.specs.Written.{IsWritten}
-use Rattle.dex_defs.specs.LaysOut.{LaysOut}
 use Rattle.dex_defs.specs.Valid.{IsSigned, IsValidFor}
 use Rattle.dex_defs.specs.Written as meant
 use Rattle.class_defs.specs.ClassGraph.{IsTwice, IsAncestor}
@@ -56,9 +55,10 @@ pub record AreAdmitted (voices : List Voice) (given : List Bool) (program : Prog
 
 -- What is left of a program shows what the program shows without its silent calls in the admitted methods, to every framework, under every
 -- script and float table that fit, and is well-formed and typed and lays out; no class of it is there twice or above itself. Advisers who
--- reply so were asked which methods may be rewritten: these are admitted. Facts that are certified of what is left leave nothing to write in
--- their bodies (`NoneLeft` of const_prop), where the superclass of no interface is a class of the program that is none, no call to name
--- another method (`NoneLeft` of devirt), no method that could be static (`NoneLeft` of staticise), and no call and no division that does nothing (`NoneIdle` of quiet_code), or there are no such
+-- reply so were asked which methods may be rewritten: these are admitted. Facts that are certified of what is left leave nothing to write
+-- in their bodies (`NoneLeft` of const_prop), where the superclass of no interface is a class of the program that is none, no call to name
+-- another method (`NoneLeft` of devirt), no method that
+-- could be static (`NoneLeft` of staticise), and no call and no division that does nothing (`NoneIdle` of quiet_code), or there are no such
 -- facts, or none were asked for, since no method is admitted or a kept constructor is none of its class (`KeepsForms` of pipeline). In
 -- their bodies, whose positions and regions 32 bits number, every position is reached, is no goto to the next one and no nop, but where the
 -- branch behind it goes to it, and none computes what nobody reads; and unless the program names a method of a wide type, no read of a copy
@@ -73,9 +73,9 @@ pub record KeepsMeaning (inline : Bool) (voices : List Voice) (given : List Bool
   pub shown : SameShown (silenced (named program) (outer_of program outside) (admitted_in program admitted)) (named left) (outer_of program outside)
   pub formed : is_well_formed left ≡ true
   pub typed : IsTyped (named left)
-  pub lays : LaysOut left
   pub once : (class : ℕ) → IsTwice left class → ⊥
   pub grounded : (class : ℕ) → IsAncestor left class class → ⊥
+  pub lays : LaysOut left
   pub reached : outside.shrink ≡ true → NoneUnreached outside left
   pub folded : NoneKnown outside admitted left ⊎ KeepsForms outside admitted left
   pub bound : NoneBindable outside admitted left ⊎ KeepsForms outside admitted left
@@ -88,12 +88,12 @@ pub record KeepsMeaning (inline : Bool) (voices : List Voice) (given : List Bool
   pub stays : StaysFor inline admitted program left
 
 -- The written program of what is left has the entries that are used, in order, and the classes, each behind those above it. The output is
--- signed, and a valid file that spells this program.
+-- a valid file that spells it, and signed.
 pub record IsSpelled (left : Program) (output : List ℕ) : Type 0 where
   pub spelled : Program
   pub is : meant.IsWritten left spelled
-  pub signed : IsSigned output
   pub valid : IsValidFor output spelled
+  pub signed : IsSigned output
 
 -- The file spells a program, the rules that their text spells make a table of it, which is closed, with the methods shut that the
 -- library shuts where there is one, and the output is the file that is written for a program that keeps its meaning, when advisers who

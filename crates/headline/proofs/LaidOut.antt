@@ -22,7 +22,6 @@ use Rattle.pipeline.specs.Rounds.{first_of, HaveRunFrom}
 use Rattle.pipeline.specs.Silence.{IsSilent}
 use Rattle.inline_calls.specs.Asked.{Row}
 use Rattle.read_laws.proofs.Told.{is_read}
-use Rattle.read_lays.proofs.Programs.{program_lies}
 use Rattle.redex_outside.specs.Voices.{Voice}
 use Rattle.redex_cli.specs.Accepted.{IsAccepted}
 use Rattle.redex_cli.specs.Finished.{LeavesBy}
@@ -84,16 +83,15 @@ module _ (p r : Program) (o : Outside) (rounds spared : ℕ) (voices : List Voic
       inlined_lies p a.hierarchy a.formed a.graph.resolved a.graph.acyclic a.graph.unsplit o a.types done.admitted done.silenced done.prepared.silent done.prepared.formed done.inlined done.calls done.inlining
       (traced r leaves.origins) rounds done.ran accepted_lies
 
-  left_ascends : (inline : Bool) → LeavesBy inline voices given p o r rounds spared → TextsAscend r
-  left_ascends false leaves =
+  left_ascends : (inline : Bool) → LeavesBy inline voices given p o r rounds spared → TextsAscend p → TextsAscend r
+  left_ascends false leaves t =
       let done = leaves.optimised in
-      optimised_ascends p a.hierarchy a.formed a.graph.resolved a.graph.acyclic a.graph.unsplit o a.types done.admitted done.silenced done.prepared.silent done.prepared.formed (traced r leaves.origins) rounds done.ran
-      (read_rises a.read.bytes p a.read.reads a.formed)
-  left_ascends true leaves =
+      optimised_ascends p a.hierarchy a.formed a.graph.resolved a.graph.acyclic a.graph.unsplit o a.types done.admitted done.silenced done.prepared.silent done.prepared.formed (traced r leaves.origins) rounds done.ran t
+  left_ascends true leaves t =
       let done = leaves.optimised in
       inlined_ascends p a.hierarchy a.formed a.graph.resolved a.graph.acyclic a.graph.unsplit o a.types done.admitted done.silenced done.prepared.silent done.prepared.formed done.inlined done.calls done.inlining
-      (traced r leaves.origins) rounds done.ran (read_rises a.read.bytes p a.read.reads a.formed)
+      (traced r leaves.origins) rounds done.ran t
 
-  -- what is written for what is left of an accepted program lays out
-  pub written_left_lies : (inline : Bool) (output : List ℕ) → LeavesBy inline voices given p o r rounds spared → is_well_formed r ≡ true → (w : IsWritten r output) → LaysOut (written_by w.interner r)
-  written_left_lies inline output leaves well w = interned_lies r w.interner well (left_ascends inline leaves) w.interned (left_lies inline leaves)
+  -- what is written for what is left of a program that was read lays out
+  pub written_left_lies : (inline : Bool) (bytes output : List ℕ) → program_at bytes ≡ Ok p → LeavesBy inline voices given p o r rounds spared → is_well_formed r ≡ true → (w : IsWritten r output) → LaysOut (written_by w.interner r)
+  written_left_lies inline bytes output reads leaves well w = interned_lies r w.interner well (left_ascends inline leaves (read_rises bytes p reads a.formed)) w.interned (left_lies inline leaves)

@@ -70,7 +70,7 @@ by_version bytes false true ea eb = same (Ok V037) (pure V037)
     (λ v h. once v V037 (sym h ∙ is_magic bytes magic_037 eb))
 by_version bytes false false ea eb = record { found = λ v h. absurd (not_both fault.Magic v h); again = λ v h. absurd (no_version bytes v h ea eb) }
 
-finds_version : (bytes : List ℕ) → Finds (λ v. take 8 bytes ≡ magic_of v) (version_at bytes)
+pub finds_version : (bytes : List ℕ) → Finds (λ v. take 8 bytes ≡ magic_of v) (version_at bytes)
 unfolding version_at
 finds_version bytes = by_version bytes (pointwise nat_eq magic_035 (take 8 bytes)) (pointwise nat_eq magic_037 (take 8 bytes)) refl refl
 

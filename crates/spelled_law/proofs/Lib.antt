@@ -1,0 +1,12 @@
+pub mod Values
+pub mod Turning
+pub mod Directories
+pub mod Firsts
+pub mod Starts
+pub mod Codes
+pub mod Members
+pub mod Classes
+pub mod Whole
+pub mod Once
+pub mod OnceCode
+pub mod OnceFile

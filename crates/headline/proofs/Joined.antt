@@ -7,10 +7,14 @@ use Rattle.program_model.specs.ProgramRules.{is_well_formed}
 use Rattle.class_defs.specs.ClassGraph.{IsTwice}
 use Rattle.dalvik_defs.specs.Naming.{named}
 use Rattle.dalvik_defs.specs.Outer.{outer_of}
+use Rattle.dalvik_defs.specs.Silence.{silenced}
 use Rattle.removal_law.specs.Reach.{ShutsHold}
 use Rattle.reach_bridge.proofs.Unshut.{unshut}
 use Rattle.library_bridge.proofs.Narrowing.{narrowed_holds}
 use Rattle.command_line.specs.Spelling.{Spells}
+use Rattle.dex_defs.specs.Spells as dex
+use Rattle.spelled_law.proofs.OnceFile.{spells_once}
+use Rattle.spelled_law.proofs.Whole.{read_is_spelled}
 use Rattle.command_line.specs.declared.command.Tell.{Tell}
 use Rattle.command_line.specs.declared.command.CommandWords.{CommandWords}
 use Rattle.command_line.specs.declared.command.CommandWords.TheVariants.{Nothing, Optimise, Check, Live, Trace, Workload}
@@ -29,8 +33,10 @@ use Rattle.redex_cli.specs.Refusals.{OutputBy}
 use Rattle.redex_cli.specs.Tables.{IsTableWith}
 use Rattle.redex_cli.specs.declared.fetching.Inputs.{Inputs}
 use Rattle.headline.proofs.LaidOut.{left_lies, written_left_lies}
-use Rattle.headline.specs.Headline.{Headline, KeepsMeaning, Shrinks}
+use Rattle.headline.specs.Headline.{Headline, KeepsMeaning, IsSpelled, Shrinks}
+use Rattle.headline.specs.Admitted.{admitted_in}
 use Rattle.headline.proofs.Rising.{names_rise_for, is_spelled}
+use Rattle.written_shown.proofs.Looks.{shown_on}
 
 -- rules alone shut no method, and what a library shuts is shut by the definition
 table_holds : (rules : List ℕ) (library : Option (List ℕ)) (p : Program) (o : Outside) → is_well_formed p ≡ true → ((class : ℕ) → IsTwice p class → ⊥)
@@ -125,19 +131,25 @@ keeps true voices given p r o rounds spared accepted holds leaves = keeps_inline
 shrinks : (inline : Bool) (voices : List Voice) (tells : List Tell) (inputs : Inputs) (output summary : List ℕ) → Finished inline voices tells inputs output summary → Shrinks inline voices tells inputs output
 shrinks inline voices tells inputs output summary f =
     let accepted = f.accepted in
+    let means : dex.Spells inputs.file f.program = read_is_spelled inputs.file f.program f.small f.reads in
     let kept : KeepsMeaning inline f.told [] f.program f.outside f.shrunk.left =
-    keeps inline f.told [] f.program f.shrunk.left f.outside f.shrunk.rounds f.shrunk.spared accepted (table_holds inputs.rules inputs.library f.program f.outside accepted.formed accepted.graph.once f.table) f.shrunk.leaves in record {
+    keeps inline f.told [] f.program f.shrunk.left f.outside f.shrunk.rounds f.shrunk.spared accepted (table_holds inputs.rules inputs.library f.program f.outside accepted.formed accepted.graph.once f.table) f.shrunk.leaves in
+    let spells : IsSpelled f.shrunk.left output = is_spelled f.shrunk.left output f.shrunk.written kept.formed kept.once kept.grounded (names_rise_for inline inputs.file f.program f.shrunk.left kept.admitted f.reads accepted.formed kept.stays)
+    (written_left_lies f.program f.shrunk.left f.outside f.shrunk.rounds f.shrunk.spared f.told [] accepted inline inputs.file output f.reads f.shrunk.leaves kept.formed f.shrunk.written) in record {
       program = f.program;
       reads = f.reads;
+      means = means;
+      only = λ other spelled. spells_once inputs.file other f.program f.small spelled means;
       outside = f.outside;
       table = f.table;
       told = f.told;
       are_told = f.are_told;
       left = f.shrunk.left;
       written = f.shrunk.written;
-      spells = is_spelled f.shrunk.left output f.shrunk.written kept.formed kept.once kept.grounded (names_rise_for inline inputs.file f.program f.shrunk.left kept.admitted f.reads accepted.formed kept.stays)
-          (written_left_lies f.program f.shrunk.left f.outside f.shrunk.rounds f.shrunk.spared f.told [] accepted inline inputs.file output f.reads f.shrunk.leaves kept.formed f.shrunk.written);
+      spells = spells;
       keeps = kept;
+      shown = shown_on (silenced (named f.program) (outer_of f.program f.outside) (admitted_in f.program kept.admitted)) (named f.shrunk.left) (named spells.spelled) (outer_of f.program f.outside)
+          (spells.shows (outer_of f.program f.outside)) kept.shown;
     }
 
 of_command : (words : List (List ℕ)) (voices : List Voice) (held : Held) (output summary : List ℕ) (command : CommandWords) → Spells words command

@@ -68,11 +68,12 @@ shrunk inline voices given program outside before after left rounds spared outpu
 
 -- the file is found to have so many bytes, and the advisers were told and not yet asked
 pub finished : (inline : Bool) (voices told : List Voice) (tells : List Tell) (given : List Bool) (program : Program) (outside : Outside) (inputs : Inputs) (bytes : ℕ) (output summary : List ℕ) → bytes ≡ length inputs.file
-    → program_at inputs.file ≡ Ok program → IsAccepted program → IsTableWith inputs.rules inputs.library program outside → AreTold tells voices told → given ≡ []
+    → program_at inputs.file ≡ Ok program → ((i : ℕ) → slice_index inputs.file i < 256) → IsAccepted program → IsTableWith inputs.rules inputs.library program outside → AreTold tells voices told → given ≡ []
     → Shrunk inline told given program outside (sizes_in program bytes) output summary → Finished inline voices tells inputs output summary
-finished inline voices told tells given program outside inputs bytes output summary same reads accepted table are_told unasked shrunk = record {
+finished inline voices told tells given program outside inputs bytes output summary same reads small accepted table are_told unasked shrunk = record {
   program = program;
   reads = reads;
+  small = small;
   accepted = accepted;
   outside = outside;
   table = table;

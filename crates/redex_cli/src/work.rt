@@ -1,6 +1,6 @@
 //! What the commands do between fetching and putting: values in, a value or a status out.
 
-ghost use Rattle.std.specs.Prelude.{◌≡◌, ◌<◌, ◌≤◌, ◌^◌, ◌∷◌, [], ℕ, List, true, None, Option, Ok, length, map, vec_len, string_bytes, IfOk, IfErr, OnOk};
+ghost use Rattle.std.specs.Prelude.{◌≡◌, ◌<◌, ◌≤◌, ◌^◌, ◌∷◌, [], ℕ, List, true, None, Option, Ok, length, map, slice_index, vec_len, string_bytes, IfOk, IfErr, OnOk};
 ghost use Rattle.dalvik_defs.specs.Naming.{named};
 ghost use Rattle.dalvik_defs.specs.Outer.{outer_of};
 ghost use Rattle.dalvik_defs.specs.Step.{shows};
@@ -147,6 +147,7 @@ fn read_program(alloc: Global, bytes: &[u8]) -> Result<Program, DexFault>
     ensures counts { IfErr result CountsInFile }
     ensures formed { IfOk result (λ program. is_well_formed program ≡ true) }
     ensures read { IfOk result IsOfBytes }
+    ensures small { OnOk result ((i : ℕ) → slice_index bytes.now i < 256) }
 {
     reads_well_formed(bytes);
     read_dex(alloc, bytes)
@@ -157,6 +158,7 @@ fn read_program(alloc: Global, bytes: &[u8]) -> Result<Program, DexFault>
 fn read_classes(alloc: Global, file: Seq<u8>) -> Result<Classes, Status>
     ensures limits { IfOk result (λ classes. KeepsLimits classes.program) }
     ensures read { IfOk result (λ classes. program_at file ≡ Ok classes.program) }
+    ensures small { OnOk result ((i : ℕ) → slice_index file i < 256) }
     ensures formed { IfOk result (λ classes. is_well_formed classes.program ≡ true) }
     ensures resolved { IfOk result (λ classes. IsResolved classes.program classes.hierarchy) }
     ensures accepted { IfOk result (λ classes. IsAccepted classes.program) }
@@ -252,6 +254,7 @@ fn table_with(
 fn read_input(alloc: Global, inputs: Inputs) -> Result<Input, Status>
     requires { length inputs.rules < 2 ^ 32 }
     ensures program { IfOk result (λ input. program_at inputs.file ≡ Ok input.program) }
+    ensures small { OnOk result ((i : ℕ) → slice_index inputs.file i < 256) }
     ensures formed { IfOk result (λ input. is_well_formed input.program ≡ true) }
     ensures resolved { IfOk result (λ input. IsResolved input.program input.hierarchy) }
     ensures accepted { IfOk result (λ input. IsAccepted input.program) }
@@ -391,7 +394,6 @@ fn optimise_input(
 }
 
 /// Optimises a file by its rules, and by its library where there is one.
-#[tactic(auto, using(crate::proofs::FinishedLemmas::finished))]
 pub fn optimise_file(
     alloc: Global,
     inputs: Inputs,

@@ -1,30 +1,25 @@
 -- A class that is read is the one that its class_def spells.
-use Rattle.std.proofs.Common.{◌≡◌, ◌≤◌, ◌<◌, ◌^◌, ℕ, zero, suc, ◌+◌, ◌*◌, Bool, true, false, not, eqb, List, [], ◌∷◌, ◌++◌, map, length, Ok, Err, refl, sym, ap, subst, ◌∙◌, arith, true≢false}
-use Rattle.std.specs.Prelude.{◌&&◌}
-use Rattle.std.specs.List.{All, AllByRecursion}
+use Rattle.std.proofs.Common.{◌≡◌, ◌<◌, ◌^◌, ℕ, zero, suc, true, false, eqb, List, [], ◌++◌, map, length, Ok, refl, sym, subst, ◌∙◌, arith, true≢false}
+use Rattle.std.specs.List.{AllByRecursion}
 use Rattle.std.proofs.lemmas.Bool.{eqb-true, eq-eqb}
 use Rattle.lemmas.proofs.Bools.{and_parts, not_true}
 use Rattle.lemmas.proofs.Lists.{map_long}
-use Rattle.program_model.specs.MemberRules.{is_static, is_direct}
 use Rattle.program_model.specs.declared.program.Class.{Class}
 use Rattle.program_model.specs.declared.program.Field.{Field}
-use Rattle.program_model.specs.declared.program.Method.{Method}
 use Rattle.program_model.specs.declared.program.Program.{Program}
 use Rattle.dex_defs.specs.ClassData.{IsClassDataOf}
-use Rattle.dex_defs.specs.ClassDefs.{none, HasParts, IsClass}
-use Rattle.dex_read.specs.declared.class_data.Listed.{Listed}
+use Rattle.dex_defs.specs.ClassDefs.{none, IsClass}
 use Rattle.dex_read.specs.declared.class_data.Members.{Members}
 use Rattle.dex_read.specs.declared.class_defs.ClassDef.{ClassDef}
 use Rattle.dex_read.specs.declared.members.Budget.{Budget}
 use Rattle.dex_read.specs.declared.members.Owner.{Owner}
-use Rattle.dex_read.specs.Ascending.{AllAscend}
 use Rattle.dex_read.specs.Classes.{field_with, no_members, root_at, class_at}
 use Rattle.dex_read.specs.Classes as classes
 use Rattle.dex_read.specs.Tables.{sizes_in}
 use Rattle.code_laws.specs.Founds.{Founds}
 use Rattle.code_laws.proofs.Founding.{weaker, done, when, either}
 use Rattle.file_laws.specs.Class.{def_of, IsReadDef}
-use Rattle.file_laws.specs.ClassData.{entry_of, lists_of, FieldSuits, MethodSuits, AreMembers}
+use Rattle.file_laws.specs.ClassData.{lists_of, FieldSuits, MethodSuits, AreMembers}
 use Rattle.file_laws.proofs.ClassData.{founds_members}
 use Rattle.file_laws.proofs.Classes.{founds_def, founds_interfaces}
 use Rattle.read_laws.proofs.ClassReading.{IsRead, class_read}
@@ -32,7 +27,7 @@ use Rattle.spelled_law.proofs.Codes.{IsMade, founds_methods}
 use Rattle.spelled_law.proofs.Directories.{IsMarked, founds_marked, all_defined}
 use Rattle.spelled_law.proofs.Firsts.{Begun, AreBegun, founds_begun, split}
 use Rattle.spelled_law.proofs.Members.{rises_distinct, distinct_append, fields_apart, fields_static, methods_apart, methods_direct, fields_along, own_of, begun_own, none_first, begun_firsts, are_fields, all_static, methods_along, are_methods, all_direct, HasField, IsOwn, HasMethod}
-use Rattle.spelled_law.proofs.Turning.{Along, along_beside, along_split, Distinct, Beside}
+use Rattle.spelled_law.proofs.Turning.{Along, along_beside, along_split, Distinct}
 
 -- ---- class data, or none
 

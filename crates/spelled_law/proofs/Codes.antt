@@ -1,6 +1,5 @@
 -- The code and the lines of a method that are read are those that its code item spells.
-use Rattle.std.proofs.Common.{◌≡◌, ◌≤◌, ◌<◌, ◌^◌, ℕ, zero, suc, ◌+◌, ◌-◌, ◌*◌, Bool, true, false, eqb, List, [], ◌∷◌, ◌++◌, length, min, Option, Some, None, Result, Ok, Err, refl, sym, ap, subst, ◌∙◌, arith, true≢false}
-use Rattle.std.specs.Prelude.{◌==◌}
+use Rattle.std.proofs.Common.{◌≡◌, ◌≤◌, ◌<◌, ◌^◌, ℕ, zero, suc, ◌+◌, ◌-◌, ◌*◌, List, [], ◌∷◌, ◌++◌, length, Option, Some, None, Result, Ok, refl, sym, ap, subst, ◌∙◌, arith, true≢false}
 use Rattle.std.proofs.Math.Nat.{min-le_left}
 use Rattle.std.proofs.lemmas.Bool.{eqb-true, eq-eqb}
 use Rattle.line_tables.specs.Text.{AscendsFrom}
@@ -18,7 +17,7 @@ use Rattle.dex_read.specs.declared.class_data.Members.{Members}
 use Rattle.dex_read.specs.declared.code.CodeItem.{CodeItem}
 use Rattle.dex_read.specs.declared.members.Budget.{Budget}
 use Rattle.dex_read.specs.Classes.{methods_of}
-use Rattle.dex_read.specs.Code.{gap, item_at, frame_at, body_at, lined_at, cells_with, method_with, coded_at, method_at}
+use Rattle.dex_read.specs.Code.{gap, item_at, frame_at, body_at, cells_with, method_with, coded_at, method_at}
 use Rattle.dex_read.specs.Header.{need_at}
 use Rattle.dex_read.specs.Steps.{for_each}
 use Rattle.dex_read.specs.Tables.{sizes_in}

@@ -1,5 +1,5 @@
 -- The directory of annotations that is read stands there, and its members get what stands at their offsets.
-use Rattle.std.proofs.Common.{◌≡◌, ◌<◌, ◌⊎◌, inl, inr, ℕ, zero, suc, ◌+◌, ◌*◌, Bool, true, false, ltb, eqb, List, [], ◌∷◌, ◌++◌, map, length, Option, Some, None, Result, Ok, Err, refl, sym, ap, subst, ◌∙◌, true≢false}
+use Rattle.std.proofs.Common.{◌≡◌, ◌<◌, ◌⊎◌, inl, inr, ℕ, zero, suc, ◌+◌, ◌*◌, Bool, true, false, ltb, eqb, List, [], ◌∷◌, ◌++◌, map, length, Option, Some, None, Ok, refl, sym, ap, subst, ◌∙◌, true≢false}
 use Rattle.std.specs.Prelude.{◌||◌, if◌then◌else◌}
 use Rattle.std.specs.List.{All, AllByRecursion, list_any}
 use Rattle.std.specs.Option.{option_map}
@@ -12,27 +12,24 @@ use Rattle.dex_base.specs.Word.{Is32}
 use Rattle.program_model.specs.declared.program.Field.{Field}
 use Rattle.program_model.specs.declared.program.Method.{Method}
 use Rattle.program_model.specs.declared.program.Program.{Program}
-use Rattle.program_model.specs.declared.value.Mark.{Mark}
 use Rattle.dex_defs.specs.Annotations.{AreMarksOf, AreParameterMarksOf, Directory, no_directory, IsDirectory, IsDirectoryOf, InOrder}
 use Rattle.dex_defs.specs.ClassData.{Entry}
 use Rattle.dex_defs.specs.ClassDefs.{IsDefined}
 use Rattle.dex_read.specs.declared.class_data.Listed.{Listed}
 use Rattle.dex_read.specs.declared.class_data.Members.{Members}
-use Rattle.dex_read.specs.declared.fault.DexFault.{DexFault}
 use Rattle.dex_read.specs.ClassData.{ascends_at, place_in}
 use Rattle.dex_read.specs.Classes.{marked_at}
 use Rattle.dex_read.specs.Directory.{pair_at, found_at, named_at, with_marks, with_own_marks, with_parameter_marks, mark_field, mark_method, mark_parameters, Marked, marked, directory_at}
 use Rattle.dex_read.specs.Header.{need_at}
-use Rattle.dex_read.specs.Steps.{change_at, steps}
+use Rattle.dex_read.specs.Steps.{change_at}
 use Rattle.dex_read.specs.Tables.{sizes_in}
-use Rattle.dex_read.specs.Word.{word_at}
 use Rattle.code_laws.specs.Founds.{Founds}
 use Rattle.code_laws.proofs.Founding.{known, weaker, done, failed, when, either, next}
 use Rattle.code_laws.proofs.Bodies.{whatever}
 use Rattle.file_laws.specs.ClassData.{entry_of}
 use Rattle.file_laws.proofs.Words.{finds_word}
 use Rattle.spelled_law.proofs.Values.{founds_set, founds_sets}
-use Rattle.spelled_law.proofs.Turning.{Over, over_same, over_beside, over_then, Beside, Distinct, Turned, IsStep, AreTurned, founds_turned, pairs_ascend}
+use Rattle.spelled_law.proofs.Turning.{Over, over_same, over_beside, Beside, Distinct, Turned, IsStep, founds_turned, pairs_ascend}
 
 -- ---- one pair
 

@@ -1,12 +1,11 @@
 -- First values that are read are spelled, and the static fields have them in their order.
-use Rattle.std.proofs.Common.{◌≡◌, ◌≤◌, ◌<◌, ◌⊎◌, inl, inr, ℕ, zero, suc, ◌+◌, Bool, true, false, cond, ltb, eqb, List, [], ◌∷◌, ◌++◌, length, Option, Some, None, Result, Ok, Err, refl, sym, ap, subst, ◌∙◌, arith, true≢false, append_assoc}
-use Rattle.std.specs.Prelude.{◌&&◌, slice_get}
+use Rattle.std.proofs.Common.{◌≡◌, ◌≤◌, ◌<◌, ◌⊎◌, inl, inr, ℕ, zero, suc, ◌+◌, Bool, true, cond, ltb, List, [], ◌∷◌, ◌++◌, length, Some, None, Ok, refl, sym, ap, subst, ◌∙◌, arith, true≢false, append_assoc}
+use Rattle.std.specs.Prelude.{slice_get}
 use Rattle.std.proofs.lemmas.Bool.{ltb-true, eqb-true, eq-eqb}
 use Rattle.std.proofs.lemmas.List.{length-append}
 use Rattle.lemmas.proofs.Bools.{and_parts}
 use Rattle.dex_base.specs.Decides.{ChainOf}
 use Rattle.dex_base.specs.Leb.{IsUlebAt}
-use Rattle.program_model.specs.Texts.{is_reference}
 use Rattle.program_model.specs.MemberRules.{field_letter}
 use Rattle.program_model.specs.declared.limits.Counted.TheVariants.{Items}
 use Rattle.program_model.specs.declared.program.Field.{Field}
@@ -16,7 +15,7 @@ use Rattle.program_model.specs.declared.value.EncValue.TheOpen as value
 use Rattle.program_model.specs.declared.value.Element.{Element}
 use Rattle.program_model.specs.declared.value.Note.{Note}
 use Rattle.dex_pools.specs.Items.{spend}
-use Rattle.dex_pools.specs.Value.{value_at, whole_value_at}
+use Rattle.dex_pools.specs.Value.{whole_value_at}
 use Rattle.dex_defs.specs.Values.{IsValue, AreValues, AreValuesOf, suits, tag_of}
 use Rattle.dex_defs.specs.Values as defs
 use Rattle.dex_read.specs.Classes.{begun_at}
@@ -24,7 +23,6 @@ use Rattle.dex_read.specs.Faults.{of_pool}
 use Rattle.dex_read.specs.FirstValues.{layer_is_of, layer_is_zero, is_of, first_of, with_first, takes, give_first, firsts_at}
 use Rattle.dex_read.specs.Steps.{change_at, steps}
 use Rattle.dex_read.specs.Tables.{sizes_in}
-use Rattle.dex_read.specs.Word.{number_at}
 use Rattle.code_laws.specs.Founds.{Founds}
 use Rattle.code_laws.proofs.Founding.{known, weaker, done, when, either, next, lifted}
 use Rattle.code_laws.proofs.Bodies.{whatever}

@@ -1,9 +1,9 @@
 -- The members of a class that is read are those of its class data, with what its directory and its first values say.
-use Rattle.std.proofs.Common.{◌≡◌, ◌≤◌, ◌<◌, ◌⊎◌, inl, inr, ℕ, zero, suc, ◌+◌, Bool, true, false, cond, not, eqb, List, [], ◌∷◌, ◌++◌, map, length, Option, Some, None, is_none, Result, Ok, Err, refl, sym, ap, subst, ◌∙◌, arith, true≢false}
+use Rattle.std.proofs.Common.{◌≡◌, ◌<◌, ◌⊎◌, inl, inr, ℕ, suc, Bool, true, false, cond, eqb, List, [], ◌∷◌, ◌++◌, map, length, Option, Some, None, is_none, refl, sym, ap, subst, ◌∙◌, arith, true≢false}
 use Rattle.std.specs.Prelude.{◌&&◌, ◌||◌, ◌==◌, slice_get}
 use Rattle.std.specs.List.{All, AllByRecursion}
 use Rattle.std.specs.Option.{option_map}
-use Rattle.std.proofs.lemmas.Bool.{eqb-true, eq-eqb}
+use Rattle.std.proofs.lemmas.Bool.{eq-eqb}
 use Rattle.std.proofs.lemmas.List.Elements.{All-nil, All-cons}
 use Rattle.lemmas.proofs.Bools.{and_parts}
 use Rattle.program_model.specs.Texts.{type_text, text_or_none, first_unit, letter_of}
@@ -16,20 +16,18 @@ use Rattle.program_model.specs.declared.program.Field.{Field}
 use Rattle.program_model.specs.declared.program.Method.{Method}
 use Rattle.program_model.specs.declared.program.Program.{Program}
 use Rattle.program_model.specs.declared.value.EncValue.{EncValue, out-EncValue}
-use Rattle.program_model.specs.declared.value.Mark.{Mark}
 use Rattle.dex_defs.specs.Annotations.{Directory, AreMarksOf, AreParameterMarksOf, offset_for}
-use Rattle.dex_defs.specs.ClassDefs.{IsField, AreFields, IsMethod, AreMethods}
+use Rattle.dex_defs.specs.ClassDefs.{AreFields, IsMethod, AreMethods}
 use Rattle.dex_defs.specs.Values.{AreFirsts}
 use Rattle.dex_defs.specs.Values as defs
 use Rattle.dex_read.specs.declared.class_data.Listed.{Listed}
-use Rattle.dex_read.specs.declared.class_data.Members.{Members}
 use Rattle.dex_read.specs.declared.members.Owner.{Owner}
 use Rattle.dex_read.specs.Ascending.{Rises}
-use Rattle.dex_read.specs.ClassData.{agree, place_in, field_suits, method_suits, is_direct_entry}
+use Rattle.dex_read.specs.ClassData.{agree, place_in, is_direct_entry}
 use Rattle.dex_read.specs.Classes.{field_with}
 use Rattle.dex_read.specs.Code.{method_with}
 use Rattle.dex_read.specs.Directory.{with_marks, with_own_marks, with_parameter_marks}
-use Rattle.dex_read.specs.FirstValues.{is_of, with_first}
+use Rattle.dex_read.specs.FirstValues.{is_of}
 use Rattle.dex_read.specs.Tables.{sizes_in}
 use Rattle.file_laws.specs.ClassData.{entry_of, FieldSuits, MethodSuits}
 use Rattle.spelled_law.proofs.Codes.{IsMade}

@@ -1,6 +1,6 @@
 -- What stands at a place is one thing alone: numbers, lists, values and annotations.
-use Rattle.std.proofs.Common.{◌≡◌, ◌≤◌, ◌<◌, ℕ, zero, suc, ◌+◌, ◌*◌, ◌/◌, ◌%◌, ℤ, Bool, true, false, cond, ltb, eqb, List, [], ◌∷◌, length, take, drop, Result, Ok, Err, refl, sym, ap, subst, ◌∙◌, arith}
-use Rattle.std.specs.Prelude.{slice_index, ◌==◌, if◌then◌else◌}
+use Rattle.std.proofs.Common.{◌≡◌, ◌≤◌, ◌<◌, ℕ, zero, suc, ◌+◌, ◌*◌, ℤ, Bool, true, false, cond, ltb, List, [], ◌∷◌, length, take, drop, Result, refl, sym, ap, subst, ◌∙◌, arith}
+use Rattle.std.specs.Prelude.{◌==◌}
 use Rattle.std.specs.Int.{w32}
 use Rattle.std.proofs.lemmas.Bool.{lt-ltb, ltb-true, eqb-true}
 use Rattle.lemmas.proofs.Bools.{untrue}
@@ -13,13 +13,12 @@ use Rattle.dex_base.proofs.LebReading.{is_uleb, is_sleb}
 use Rattle.program_model.specs.declared.value.EncValue.{EncValue}
 use Rattle.program_model.specs.declared.value.EncValue.TheVariants as value
 use Rattle.program_model.specs.declared.value.Element.{Element}
-use Rattle.program_model.specs.declared.value.Note.{Note, Note-F, roll-Note}
+use Rattle.program_model.specs.declared.value.Note.{Note, roll-Note}
 use Rattle.program_model.specs.declared.value.Mark.{Mark}
 use Rattle.dex_pools.specs.declared.scalar.TableSizes.{TableSizes}
 use Rattle.dex_pools.specs.Value.{numeric, naming, zero_extended}
-use Rattle.dex_defs.specs.Here.{Here}
-use Rattle.dex_defs.specs.Values.{tag_at, argument_at, HasTag, HasFew, AreItems, IsElement, IsNote, IsValueIn, Number, Name, Array, Annotation, Null, Boolean, IsValue, AreValuesOf}
-use Rattle.dex_defs.specs.Annotations.{IsMark, IsOffset, IsMarkOf, AreMarks, AreMarksOf, IsSetOf, AreParameterMarks, AreParameterMarksOf, Directory, ArePairs, IsDirectory, IsDirectoryOf}
+use Rattle.dex_defs.specs.Values.{tag_at, argument_at, HasFew, AreItems, IsElement, IsNote, IsValueIn, Number, Name, Array, Annotation, Null, Boolean, IsValue, AreValuesOf}
+use Rattle.dex_defs.specs.Annotations.{IsMark, IsMarkOf, AreMarksOf, IsSetOf, AreParameterMarksOf, Directory, ArePairs, IsDirectoryOf}
 use Rattle.spelled_law.proofs.Values.{with, paired}
 
 -- ---- equal parts

@@ -1,12 +1,12 @@
 -- A code item spells one body alone, and its debug item one list of lines.
-use Rattle.std.proofs.Common.{◌≡◌, ◌≤◌, ◌<◌, ◌^◌, ◌⊎◌, inl, inr, ℕ, zero, suc, ℤ, pos, negsuc, ◌+◌, ◌*◌, ◌%◌, Bool, true, false, cond, leb, ltb, eqb, List, [], ◌∷◌, length, take, drop, Option, Some, None, Result, Ok, refl, sym, ap, subst, ◌∙◌, arith, true≢false}
-use Rattle.std.specs.Prelude.{◌||◌, ◌&&◌, ◌==◌, ◌+ℤ◌, slice_get, slice_index}
-use Rattle.std.specs.List.{AllByRecursion, flat_map}
-use Rattle.std.proofs.lemmas.Bool.{leb-true, eqb-true}
-use Rattle.lemmas.proofs.Bools.{and_parts, or_cases, neither_of, untrue}
+use Rattle.std.proofs.Common.{◌≡◌, ◌≤◌, ◌<◌, ◌^◌, ◌⊎◌, inl, inr, ℕ, zero, suc, ℤ, pos, negsuc, ◌+◌, ◌*◌, Bool, true, false, cond, leb, List, [], ◌∷◌, length, take, drop, Option, Some, None, refl, sym, ap, subst, ◌∙◌, arith}
+use Rattle.std.specs.Prelude.{◌||◌, ◌==◌, slice_get, slice_index}
+use Rattle.std.specs.List.{flat_map}
+use Rattle.std.proofs.lemmas.Bool.{leb-true}
+use Rattle.lemmas.proofs.Bools.{and_parts, or_cases, untrue}
 use Rattle.lemmas.proofs.Options.{some_same}
-use Rattle.dex_base.specs.Decides.{Each, Entries}
-use Rattle.dex_base.specs.Word.{Is16, Is32}
+use Rattle.dex_base.specs.Decides.{Each}
+use Rattle.dex_base.specs.Word.{Is16}
 use Rattle.insn_set.specs.declared.format.Format.{Format}
 use Rattle.insn_set.specs.declared.form.Insn.{Insn}
 use Rattle.insn_set.specs.declared.form.Insn.TheVariants as insn
@@ -15,18 +15,17 @@ use Rattle.program_model.specs.declared.body.Body.{Body}
 use Rattle.program_model.specs.declared.body.Handler.{Handler}
 use Rattle.program_model.specs.declared.body.Region.{Region}
 use Rattle.code_read.specs.declared.fields.Fields.{Fields}
-use Rattle.code_read.specs.Opcodes.{format_at, from_to}
+use Rattle.code_read.specs.Opcodes.{from_to}
 use Rattle.code_read.specs.Fields.{fields_in}
-use Rattle.code_read.specs.Forms.{word, plain}
+use Rattle.code_read.specs.Forms.{plain}
 use Rattle.code_read.specs.Branches.{offset_form, branch_form, call_form, is_branch, is_call}
-use Rattle.code_read.specs.Payloads.{has_payload}
-use Rattle.code_read.specs.Sweep.{Piece, piece_size, instructions, starts_of}
-use Rattle.dex_defs.specs.Sweep.{Places, places_of, IsPiece, PiecesTo, IsSwept}
+use Rattle.code_read.specs.Sweep.{Piece, instructions}
+use Rattle.dex_defs.specs.Sweep.{Places, places_of, IsPiece, PiecesTo}
 use Rattle.dex_defs.specs.Instructions.{opcode, HasFields, GoesTo, IsBranch, IsPayloadOf, double_at, signed_at, AreTargets, IsPacked, IsSparse, unit_bytes, item_at, IsFill, IsInsn, AreInsns}
 use Rattle.dex_defs.specs.Instructions as of
 use Rattle.dex_defs.specs.Handlers.{Try, IsTry, Catches, IsPair, IsRestAt, AreCatches, AreCatchesAt, covering, AreHandlers, IsRest, IsRegion, AreRegions, magnitude}
-use Rattle.dex_defs.specs.CodeItems.{Frame, IsFrame, AreUnits, IsCode, tries_at, lists_at}
-use Rattle.dex_defs.specs.ClassDefs.{IsCodeOf, HasCode}
+use Rattle.dex_defs.specs.CodeItems.{Frame, IsFrame, IsCode, tries_at, lists_at}
+use Rattle.dex_defs.specs.ClassDefs.{HasCode}
 use Rattle.dex_defs.specs.DebugItems.{lines_of}
 use Rattle.spelled_law.proofs.Once.{two, three, four, once_16, once_32, once_sleb, uleb_parts, each_once, chain_once, cons_same}
 use Rattle.spelled_law.proofs.Starts.{some_piece, starts_ascend}

@@ -1,11 +1,9 @@
 -- A class_def spells one class alone, and a file one program.
-use Rattle.std.proofs.Common.{◌≡◌, ◌≤◌, ◌<◌, ◌^◌, ℕ, zero, suc, ◌+◌, ◌-◌, ◌*◌, Bool, true, false, List, [], ◌∷◌, ◌++◌, length, take, drop, min, Option, Some, None, refl, sym, ap, subst, ◌∙◌, arith, true≢false}
+use Rattle.std.proofs.Common.{◌≡◌, ◌≤◌, ◌<◌, ◌^◌, ℕ, zero, suc, ◌+◌, ◌-◌, ◌*◌, Bool, List, [], ◌∷◌, ◌++◌, length, Option, Some, None, refl, sym, ap, subst, ◌∙◌, arith, true≢false}
 use Rattle.std.specs.Prelude.{slice_index, ◌==◌}
 use Rattle.std.specs.List.{All}
 use Rattle.std.proofs.lemmas.List.Elements.{All-head, All-tail}
-use Rattle.dex_base.specs.Decides.{Each, Entries}
-use Rattle.dex_base.specs.Leb.{IsUlebAt}
-use Rattle.dex_base.specs.Word.{Is16, Is32}
+use Rattle.dex_base.specs.Decides.{Each}
 use Rattle.dex_base.proofs.Decides.{ok_is}
 use Rattle.program_model.specs.declared.body.Body.{Body}
 use Rattle.program_model.specs.declared.flags.Flags.{Flags}
@@ -18,23 +16,20 @@ use Rattle.program_model.specs.declared.program.Version.TheVariants.{V035, V037}
 use Rattle.program_model.specs.declared.value.EncValue.{EncValue}
 use Rattle.program_model.specs.declared.value.Mark.{Mark}
 use Rattle.dex_pools.specs.declared.fault.PoolFault.{PoolFault}
-use Rattle.dex_pools.specs.declared.header.Extent.{Extent}
 use Rattle.dex_pools.specs.declared.pools.Pools.{Pools}
 use Rattle.dex_pools.specs.declared.scalar.TableSizes.{TableSizes}
 use Rattle.dex_pools.specs.Marks.{sizes_of}
-use Rattle.dex_pools.specs.PoolTables.{pools_at}
 use Rattle.dex_pools.specs.Spelled.{IsHalfIndex, AreParameters, SpellsPools, parameter_count}
 use Rattle.dex_pools.proofs.PoolReading.{finds_pools}
 use Rattle.dex_defs.specs.Annotations.{Directory, AreMarksOf, IsDirectoryOf}
 use Rattle.dex_defs.specs.ClassData.{Entry, Lists, IsFieldEntry, IsMethodEntry, EntriesTo, IsClassData, IsClassDataOf}
 use Rattle.dex_defs.specs.ClassDefs.{IsField, AreFields, IsMethod, AreMethods, Def, IsDef, none, IsSource, IsClass}
-use Rattle.dex_defs.specs.Header.{magic_of, IsHeader}
+use Rattle.dex_defs.specs.Header.{magic_of}
 use Rattle.dex_defs.specs.Spells.{Spells, pools_of, sizes_in}
 use Rattle.dex_defs.specs.Values.{AreValuesOf, AreFirsts}
 use Rattle.read_laws.proofs.Bounds.{AreBytes, word_below}
 use Rattle.spelled_law.proofs.Once.{two, three, four, once_16, once_32, uleb_parts, each_once, cons_same, marks_once, sets_once, values_once, directory_once}
 use Rattle.spelled_law.proofs.OnceCode.{code_of_once}
-use Rattle.spelled_law.proofs.Values.{with}
 
 -- ---- class data
 

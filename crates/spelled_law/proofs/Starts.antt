@@ -1,5 +1,5 @@
 -- The instructions of a sweep begin one behind another, and regions may be asked for more types.
-use Rattle.std.proofs.Common.{◌≡◌, ◌≤◌, ◌<◌, ◌^◌, ℕ, zero, suc, ◌+◌, ◌*◌, ◌/◌, Bool, true, false, cond, eqb, List, [], ◌∷◌, length, drop, Option, Some, None, refl, sym, ap, subst, ◌∙◌, arith}
+use Rattle.std.proofs.Common.{◌≡◌, ◌≤◌, ◌<◌, ◌^◌, ℕ, suc, ◌+◌, ◌*◌, ◌/◌, Bool, true, false, cond, List, [], ◌∷◌, length, drop, Option, Some, None, subst, arith}
 use Rattle.std.specs.Prelude.{◌==◌, ◌%◌}
 use Rattle.std.specs.Option.{option_map}
 use Rattle.lemmas.proofs.Options.{some_same, before_map}
@@ -12,7 +12,7 @@ use Rattle.program_model.specs.declared.body.Region.{Region}
 use Rattle.code_read.specs.Opcodes.{format_at}
 use Rattle.code_read.specs.Payloads.{payload_size}
 use Rattle.code_read.specs.Sweep.{Piece, payload_kind, piece_size, only_fills, instructions, starts_of}
-use Rattle.dex_defs.specs.Sweep.{Places, IsPiece, PiecesTo}
+use Rattle.dex_defs.specs.Sweep.{Places, PiecesTo}
 use Rattle.dex_defs.specs.Handlers.{Try, AreHandlers, AreRegions}
 
 -- ---- a piece has a unit

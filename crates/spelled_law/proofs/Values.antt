@@ -1,5 +1,5 @@
 -- Values, annotations and sets of annotations that are read are spelled where they stand.
-use Rattle.std.proofs.Common.{◌≡◌, ◌≤◌, ◌<◌, ℕ, zero, suc, ◌+◌, ◌-◌, ◌*◌, ◌/◌, ◌%◌, ◌⊎◌, inl, inr, Bool, true, false, leb, ltb, eqb, List, [], ◌∷◌, length, take, drop, Result, Ok, Err, refl, sym, ap, subst, ◌∙◌, arith, true≢false}
+use Rattle.std.proofs.Common.{◌≡◌, ◌≤◌, ◌<◌, ℕ, zero, suc, ◌+◌, ◌-◌, ◌*◌, ◌/◌, ◌%◌, ◌⊎◌, inl, inr, true, false, eqb, List, [], ◌∷◌, length, take, drop, Result, Ok, refl, sym, ap, subst, ◌∙◌, arith, true≢false}
 use Rattle.std.specs.Prelude.{slice_index, ◌==◌}
 use Rattle.std.specs.Int.{w32}
 use Rattle.std.proofs.lemmas.Bool.{ltb-true, ltb-false, leb-true, eqb-true, eq-eqb}
@@ -18,16 +18,14 @@ use Rattle.program_model.specs.declared.value.Mark.{Mark}
 use Rattle.dex_pools.specs.declared.fault.PoolFault.{PoolFault}
 use Rattle.dex_pools.specs.declared.fault.Table.TheVariants.{Members}
 use Rattle.dex_pools.specs.declared.scalar.TableSizes.{TableSizes}
-use Rattle.dex_pools.specs.Finds.{RunOf, Ascends}
+use Rattle.dex_pools.specs.Finds.{RunOf}
 use Rattle.dex_pools.specs.Items.{spend, count_at}
 use Rattle.dex_pools.specs.Marks.{mark_at, marked_at, mark_below, marks_at, parameter_at, parameters_marks_at}
-use Rattle.dex_pools.specs.Order.{ascends_in}
 use Rattle.dex_pools.specs.Value.{byte_at, few_at, number_index_at, most_argument, is_within, zero_extended, numeric, size_for, naming, named_at, scalar_at, counted, array_in, element_in, element_below, note_in, of_kind, value_in, value_at, whole_note_at}
-use Rattle.dex_pools.specs.Word.{number_at, word_at}
 use Rattle.dex_pools.proofs.Fields.{finds_word, finds_number, finds_ascending}
 use Rattle.dex_defs.specs.Here.{Here}
 use Rattle.dex_defs.specs.Values.{tag_at, argument_at, HasTag, HasFew, AreItems, IsElement, IsNote, IsValueIn, Number, Name, Array, Annotation, Null, Boolean, IsValue}
-use Rattle.dex_defs.specs.Annotations.{IsMark, IsOffset, IsMarkOf, AreMarks, AreMarksOf, IsSetOf, AreParameterMarks, AreParameterMarksOf}
+use Rattle.dex_defs.specs.Annotations.{IsMark, IsMarkOf, AreMarks, AreMarksOf, IsSetOf, AreParameterMarks, AreParameterMarksOf}
 use Rattle.dex_read.specs.Directory.{set_at, sets_at}
 use Rattle.dex_read.specs.Faults.{of_pool}
 use Rattle.dex_read.specs.Tables.{sizes_in}
@@ -53,34 +51,34 @@ each_of Is from s (x ∷ xs) stop h = (h.1, each_of Is (suc from) h.0 xs stop h.
 
 -- ---- bytes
 
-record IsByte (bytes : List ℕ) (at b : ℕ) : Type 0 where
-  inside : at < length bytes
-  is : b ≡ slice_index bytes at
+pub record IsByte (bytes : List ℕ) (at b : ℕ) : Type 0 where
+  pub inside : at < length bytes
+  pub is : b ≡ slice_index bytes at
 
-founds_byte : (bytes : List ℕ) (at : ℕ) → Founds (IsByte bytes at) (byte_at bytes at)
+pub founds_byte : (bytes : List ℕ) (at : ℕ) → Founds (IsByte bytes at) (byte_at bytes at)
 unfolding byte_at
 founds_byte bytes at = weaker (byte_at bytes at) (when _ (done (slice_index bytes at))) (λ y p. record { inside = ltb-true _ _ p.0; is = p.1 })
 
-record IsFew (bytes : List ℕ) (at count : ℕ) (few : List ℕ) : Type 0 where
-  many : length few ≡ count
-  here : Here bytes (at + 1) few
+pub record IsFew (bytes : List ℕ) (at count : ℕ) (few : List ℕ) : Type 0 where
+  pub many : length few ≡ count
+  pub here : Here bytes (at + 1) few
 
 few_is : (bytes : List ℕ) (at count : ℕ) → at + 1 + count ≤ length bytes → length (drop (at + 1) bytes) ≡ count + (length bytes - (at + 1 + count)) → IsFew bytes at count (take count (drop (at + 1) bytes))
 few_is bytes at count h room =
     let long : length (take count (drop (at + 1) bytes)) ≡ count = length-take-le count (drop (at + 1) bytes) (omega (arith, room)) in
     record { many = long; here = record { inside = omega (arith, long, h); is = ap (λ n. take n (drop (at + 1) bytes)) long } }
 
-founds_few : (bytes : List ℕ) (at count : ℕ) → Founds (IsFew bytes at count) (few_at bytes at count)
+pub founds_few : (bytes : List ℕ) (at count : ℕ) → Founds (IsFew bytes at count) (few_at bytes at count)
 unfolding few_at
 founds_few bytes at count = weaker (few_at bytes at count) (when _ (done (take count (drop (at + 1) bytes))))
     (λ y p. let h : at + 1 + count ≤ length bytes = leb-true _ _ p.0 in
     subst (IsFew bytes at count) (sym p.1) (few_is bytes at count h (omega (arith, length-drop (at + 1) bytes, h))))
 
-record IsIndex (bytes : List ℕ) (at size : ℕ) (r : ℕ × ℕ) : Type 0 where
-  is : IsUlebAt bytes at r
-  below : r.0 < size
+pub record IsIndex (bytes : List ℕ) (at size : ℕ) (r : ℕ × ℕ) : Type 0 where
+  pub is : IsUlebAt bytes at r
+  pub below : r.0 < size
 
-founds_index : (bytes : List ℕ) (at size : ℕ) → Founds (IsIndex bytes at size) (number_index_at bytes at size)
+pub founds_index : (bytes : List ℕ) (at size : ℕ) → Founds (IsIndex bytes at size) (number_index_at bytes at size)
 unfolding number_index_at
 founds_index bytes at size = weaker (number_index_at bytes at size) (next (known (finds_number bytes at)) (λ n _. when _ (done n)))
     (λ y p. subst (IsIndex bytes at size) (sym p.2.1) (record { is = p.1; below = ltb-true _ _ p.2.0 }))
@@ -98,7 +96,7 @@ abbrev Spelled : Place → Inner → Type 0
 Spelled Is inner = (s : ℕ × ℕ) → Founds (λ r. Is s.0 (r.0, r.1.0)) (inner s)
 
 module _ (bytes : List ℕ) (sizes : TableSizes) (Is : Place) (inner : Inner) (each : Spelled Is inner) where
-  founds_counted : (i : ℕ) (s : ℕ × ℕ) → Founds (λ r. Is s.0 (r.0, r.1.0)) (counted inner i s)
+  pub founds_counted : (i : ℕ) (s : ℕ × ℕ) → Founds (λ r. Is s.0 (r.0, r.1.0)) (counted inner i s)
   founds_counted i s = weaker (counted inner i s) (next (whatever (spend Items 1 s.1)) (λ behind _. each (s.0, behind))) (λ y q. q.2)
 
   founds_array : (s : ℕ × ℕ) → Founds (λ r. AreItems bytes Is s.0 (r.0, r.1.0)) (array_in inner bytes s)
@@ -111,7 +109,7 @@ module _ (bytes : List ℕ) (sizes : TableSizes) (Is : Place) (inner : Inner) (e
         are = chain_of Is 0 (q.0.1, s.1) y.0 y.1 q.2.1;
       })
 
-  founds_element : (i : ℕ) (s : ℕ × ℕ) → Founds (λ r. IsElement bytes sizes Is s.0 (r.0, r.1.0)) (element_in inner bytes sizes i s)
+  pub founds_element : (i : ℕ) (s : ℕ × ℕ) → Founds (λ r. IsElement bytes sizes Is s.0 (r.0, r.1.0)) (element_in inner bytes sizes i s)
   unfolding element_in
   founds_element i s = weaker (element_in inner bytes sizes i s)
       (next (whatever (spend Items 1 s.1)) (λ behind _. next (founds_index bytes s.0 sizes.strings) (λ name _. next (each (name.1, behind)) (λ v _.
@@ -119,7 +117,7 @@ module _ (bytes : List ℕ) (sizes : TableSizes) (Is : Place) (inner : Inner) (e
       (λ y q. let n = q.2 in let v = n.2 in
       subst (λ (r : Element × (ℕ × ℕ)). IsElement bytes sizes Is s.0 (r.0, r.1.0)) (sym v.2) (record { mid = n.0.1; name = n.1.is; below = n.1.below; value = v.1 }))
 
-  founds_note : (s : ℕ × ℕ) → Founds (λ r. IsNote bytes sizes Is s.0 (r.0, r.1.0)) (note_in inner bytes sizes s)
+  pub founds_note : (s : ℕ × ℕ) → Founds (λ r. IsNote bytes sizes Is s.0 (r.0, r.1.0)) (note_in inner bytes sizes s)
   unfolding note_in
   founds_note s = weaker (note_in inner bytes sizes s)
       (next (founds_index bytes s.0 sizes.types) (λ class _. next (known (finds_number bytes class.1)) (λ count _.
@@ -215,13 +213,13 @@ founds_mark bytes sizes at left = weaker (mark_at bytes sizes at left)
     done (record { visibility = visibility; note = note.0 }, note.1.1))))
     (λ y q. subst (λ (r : Mark × ℕ). IsMark bytes sizes at r.0) (sym q.2.2) (record { inside = q.1.inside; visibility = q.1.is; stop = q.2.0.1.0; note = q.2.1 }))
 
-founds_marked : (bytes : List ℕ) (sizes : TableSizes) (at i left : ℕ) → Founds (λ r. IsMarkOf bytes sizes at i r.0) (marked_at bytes sizes at i left)
+pub founds_marked : (bytes : List ℕ) (sizes : TableSizes) (at i left : ℕ) → Founds (λ r. IsMarkOf bytes sizes at i r.0) (marked_at bytes sizes at i left)
 unfolding marked_at
 founds_marked bytes sizes at i left = weaker (marked_at bytes sizes at i left)
     (next (whatever (spend Items 1 left)) (λ behind _. next (known (finds_word bytes (at + 4 + 4 * i))) (λ offset _. founds_mark bytes sizes offset behind)))
     (λ y q. record { offset = q.2.0; is = q.2.1; is_mark = q.2.2 })
 
-founds_count : (bytes : List ℕ) (at width : ℕ) → Founds (Is32 bytes at) (count_at bytes at width)
+pub founds_count : (bytes : List ℕ) (at width : ℕ) → Founds (Is32 bytes at) (count_at bytes at width)
 unfolding count_at
 founds_count bytes at width = weaker (count_at bytes at width) (next (known (finds_word bytes at)) (λ count _. when _ (done count))) (λ y q. subst (Is32 bytes at) (sym q.2.1) q.1)
 
@@ -254,7 +252,7 @@ founds_set bytes p offset left = either
     (λ e. weaker (Ok ([], left)) (done ([], left)) (λ y q. subst (λ (r : List Mark × ℕ). AreMarksOf bytes (sizes_in p) offset r.0) (sym q) (none_by bytes (sizes_in p) offset (eqb-true _ _ e))))
     (λ e. weaker _ (lifted of_pool (founds_marks bytes (sizes_in p) offset left)) (λ y q. marks_by bytes (sizes_in p) offset y.0 (not_zero offset e) q))
 
-founds_parameter : (bytes : List ℕ) (sizes : TableSizes) (at i left : ℕ) → Founds (λ r. IsSetOf bytes sizes at i r.0) (parameter_at bytes sizes at i left)
+pub founds_parameter : (bytes : List ℕ) (sizes : TableSizes) (at i left : ℕ) → Founds (λ r. IsSetOf bytes sizes at i r.0) (parameter_at bytes sizes at i left)
 unfolding parameter_at
 founds_parameter bytes sizes at i left = weaker (parameter_at bytes sizes at i left)
     (next (whatever (spend Items 1 left)) (λ behind _. next (known (finds_word bytes (at + 4 + 4 * i))) (λ offset _. either {Is = λ (r : List Mark × ℕ). AreMarksOf bytes sizes offset r.0}

@@ -1,8 +1,7 @@
 -- The program that is read is the one that the bytes spell.
-use Rattle.std.proofs.Common.{◌≡◌, ◌≤◌, ◌<◌, ◌^◌, ℕ, zero, suc, ◌+◌, ◌*◌, eqb, List, [], length, Ok, refl, sym, ap, subst, true, false, true≢false, ◌∙◌, arith}
-use Rattle.std.proofs.lemmas.Bool.{eqb-true, eq-eqb}
-use Rattle.dex_base.specs.Decides.{Each, Entries}
-use Rattle.dex_base.specs.Word.{Is32}
+use Rattle.std.proofs.Common.{◌≡◌, ◌≤◌, ◌<◌, ◌^◌, ℕ, ◌+◌, ◌*◌, List, [], length, Ok, refl, sym, ap, subst, ◌∙◌, arith}
+use Rattle.std.proofs.lemmas.Bool.{eqb-true}
+use Rattle.dex_base.specs.Decides.{Entries}
 use Rattle.program_model.specs.declared.program.Class.{Class}
 use Rattle.program_model.specs.declared.program.Program.{Program}
 use Rattle.program_model.specs.declared.program.Version.{Version}
@@ -13,7 +12,7 @@ use Rattle.dex_defs.specs.ClassDefs.{IsClass}
 use Rattle.dex_defs.specs.Header.{IsHeader}
 use Rattle.dex_defs.specs.Spells.{Spells}
 use Rattle.dex_read.specs.declared.members.Budget.{Budget}
-use Rattle.dex_read.specs.File.{tables_with, class_in, table_at, classes_at, head_at, program_at}
+use Rattle.dex_read.specs.File.{tables_with, class_in, table_at, classes_at, program_at}
 use Rattle.dex_read.specs.Tables.{sizes_in}
 use Rattle.code_laws.specs.Founds.{Founds}
 use Rattle.code_laws.proofs.Founding.{known, weaker, done, either, next, founds_run}

@@ -1,4 +1,4 @@
--- Programs that answer look-ups alike have one face and the same bodies, and so they show the same.
+-- Programs that answer look-ups alike have one face and the same bodies, and so the machine takes the same steps.
 use Rattle.std.proofs.Common.{◌≡◌, ℕ, zero, suc, ◌+◌, Bool, true, false, List, [], ◌∷◌, ◌++◌, length, refl, sym, ap, ◌∙◌}
 use std.Path.{fun_ext}
 use Rattle.std.specs.Prelude.{◌&&◌, ◌||◌, not, Option, Some, None, map, filter, find, flat_map, is_some}
@@ -13,6 +13,8 @@ use Rattle.dalvik_defs.specs.Initialised.{is_initialiser, initialiser_key, initi
 use Rattle.dalvik_defs.specs.Face.{Place, place_of, declared_in, finds_virtually, face_of, bodies_of}
 use Rattle.dalvik_defs.specs.Outer.{Outer}
 use Rattle.dalvik_defs.specs.Shown.{SameShown}
+use Rattle.dalvik_defs.specs.State.{opening}
+use Rattle.dalvik_defs.specs.Step.{setting_of, shows_from, shows}
 use Rattle.dalvik_defs.specs.declared.names.Signature.{Signature}
 use Rattle.dalvik_defs.specs.declared.names.MethodKey.{MethodKey}
 use Rattle.dalvik_defs.specs.declared.names.FieldKey.{FieldKey}
@@ -23,7 +25,8 @@ use Rattle.dalvik_defs.specs.declared.program.NamedClass.{NamedClass}
 use Rattle.dalvik_defs.specs.declared.program.NamedProgram.{NamedProgram}
 use Rattle.dalvik_defs.specs.declared.tables.Framework.{Framework}
 use Rattle.dalvik_defs.specs.declared.tables.FrameworkType.{FrameworkType}
-use Rattle.dalvik_defs.proofs.LookUps.{same_by_look_ups}
+use Rattle.dalvik_defs.specs.declared.tables.Floats.{Floats}
+use Rattle.dalvik_defs.specs.declared.script.Move.{Move}
 use Rattle.silence_law.proofs.Heads.{class_case}
 use Rattle.written_shown.proofs.Alike.{bare_method, bare_field, of_proto, AlikeClass, AlikeOption, AllAlike, LooksAlike, both, above_alike, flat_alike, all_alike, at_class, chain_alike, interface_alike}
 
@@ -382,5 +385,15 @@ module _ (p q : NamedProgram) (a : LooksAlike p q) where
       by None (Some d) l = absurd l
       by (Some c) None l = absurd l
 
-  pub alike_shown : (o : Outer) → SameShown p q o
-  alike_shown o = same_by_look_ups p q o (λ f. sym (face_same f)) (sym (fun_ext bodies_at))
+  -- the machine takes the same steps
+  pub alike_shows : (o : Outer) (f : Framework) (floats : Floats) (script : List Move) (n : ℕ) → shows q o f floats script n ≡ shows p o f floats script n
+  alike_shows o f floats script n =
+      ap (λ x. shows_from (record { face = x; outer = o; floats = floats }) (bodies_of q) (opening script) n) (face_same f)
+      ∙ ap (λ b. shows_from (setting_of p o f floats) b (opening script) n) (fun_ext bodies_at)
+
+-- what shows the same as a program shows the same as one of the same steps
+pub shown_on : (x p q : NamedProgram) (o : Outer) → ((f : Framework) (a : Floats) (script : List Move) (n : ℕ) → shows q o f a script n ≡ shows p o f a script n) → SameShown x p o → SameShown x q o
+shown_on x p q o same s = record {
+  there = λ f a script n fit. let r = s.there f a script n fit in (r.0, (r.1.0, r.1.1 ∙ sym (same f a script r.0)));
+  back = λ f a script n fit. let r = s.back f a script n fit in (r.0, (r.1.0, ap (λ l. l ++ r.1.0) (same f a script n) ∙ r.1.1));
+}

@@ -9,9 +9,12 @@ use Rattle.class_defs.specs.ClassGraph.{IsAncestor, IsTwice}
 use Rattle.dalvik_defs.specs.Names.{Text, text_eq}
 use Rattle.dalvik_defs.specs.Naming.{type_at, named_class, named}
 use Rattle.dalvik_defs.specs.Outer.{Outer}
-use Rattle.dalvik_defs.specs.Shown.{SameShown}
+use Rattle.dalvik_defs.specs.Step.{shows}
 use Rattle.dalvik_defs.specs.Under.{class_named}
 use Rattle.dalvik_defs.specs.declared.program.NamedClass.{NamedClass}
+use Rattle.dalvik_defs.specs.declared.script.Move.{Move}
+use Rattle.dalvik_defs.specs.declared.tables.Floats.{Floats}
+use Rattle.dalvik_defs.specs.declared.tables.Framework.{Framework}
 use Rattle.dalvik_defs.proofs.Calm.{text_sound}
 use Rattle.dex_defs.specs.Written.{written_class, class_order, entries, written_by}
 use Rattle.dex_pools.specs.Interned.{IsInterned}
@@ -37,7 +40,7 @@ use Rattle.written_order.specs.Behind.{AllBehind}
 use Rattle.written_order.proofs.Order.{order_is, order_behind, order_every}
 use Rattle.written_order.proofs.Plans.{behind_inside}
 use Rattle.written_shown.proofs.Alike.{AlikeClass, AlikeOption, LooksAlike}
-use Rattle.written_shown.proofs.Looks.{alike_shown}
+use Rattle.written_shown.proofs.Looks.{alike_shows}
 use Rattle.written_shown.proofs.Twins.{Image, image, in_entries, entries_in, finds, is_there, any_there, some_there, order_long}
 use Rattle.written_shown.proofs.Classes.{class_found, class_alike}
 
@@ -148,6 +151,6 @@ module _ (p : Program) (i : Interner) (order : List ℕ) (formed : is_well_forme
     lists = lists_look;
   }
 
-pub written_shown : (p : Program) (i : Interner) (order : List ℕ) (o : Outer) → is_well_formed p ≡ true → ((class : ℕ) → IsTwice p class → ⊥) → ((class : ℕ) → IsAncestor p class class → ⊥) → IsInterned p i → IsOrder p order
-    → SameShown (named p) (named (written_by i p)) o
-written_shown p i order o formed once grounded h ordered = alike_shown (named p) (named (written_by i p)) (looks p i order formed once grounded h ordered) o
+pub written_shows : (p : Program) (i : Interner) (order : List ℕ) → is_well_formed p ≡ true → ((class : ℕ) → IsTwice p class → ⊥) → ((class : ℕ) → IsAncestor p class class → ⊥) → IsInterned p i → IsOrder p order
+    → (o : Outer) (f : Framework) (a : Floats) (script : List Move) (n : ℕ) → shows (named (written_by i p)) o f a script n ≡ shows (named p) o f a script n
+written_shows p i order formed once grounded h ordered o f a script n = alike_shows (named p) (named (written_by i p)) (looks p i order formed once grounded h ordered) o f a script n

@@ -7,6 +7,7 @@ use Rattle.program_model.specs.ProgramRules.{is_well_formed}
 use Rattle.class_defs.specs.ClassGraph.{IsTwice}
 use Rattle.dalvik_defs.specs.Naming.{named}
 use Rattle.dalvik_defs.specs.Outer.{outer_of}
+use Rattle.dalvik_defs.specs.Silence.{silenced}
 use Rattle.removal_law.specs.Reach.{ShutsHold}
 use Rattle.reach_bridge.proofs.Unshut.{unshut}
 use Rattle.library_bridge.proofs.Narrowing.{narrowed_holds}
@@ -32,8 +33,10 @@ use Rattle.redex_cli.specs.Refusals.{OutputBy}
 use Rattle.redex_cli.specs.Tables.{IsTableWith}
 use Rattle.redex_cli.specs.declared.fetching.Inputs.{Inputs}
 use Rattle.headline.proofs.LaidOut.{left_lies, written_left_lies}
-use Rattle.headline.specs.Headline.{Headline, KeepsMeaning, Shrinks}
+use Rattle.headline.specs.Headline.{Headline, KeepsMeaning, IsSpelled, Shrinks}
+use Rattle.headline.specs.Admitted.{admitted_in}
 use Rattle.headline.proofs.Rising.{names_rise_for, is_spelled}
+use Rattle.written_shown.proofs.Looks.{shown_on}
 
 -- rules alone shut no method, and what a library shuts is shut by the definition
 table_holds : (rules : List ℕ) (library : Option (List ℕ)) (p : Program) (o : Outside) → is_well_formed p ≡ true → ((class : ℕ) → IsTwice p class → ⊥)
@@ -130,7 +133,9 @@ shrinks inline voices tells inputs output summary f =
     let accepted = f.accepted in
     let means : dex.Spells inputs.file f.program = read_is_spelled inputs.file f.program f.small f.reads in
     let kept : KeepsMeaning inline f.told [] f.program f.outside f.shrunk.left =
-    keeps inline f.told [] f.program f.shrunk.left f.outside f.shrunk.rounds f.shrunk.spared accepted (table_holds inputs.rules inputs.library f.program f.outside accepted.formed accepted.graph.once f.table) f.shrunk.leaves in record {
+    keeps inline f.told [] f.program f.shrunk.left f.outside f.shrunk.rounds f.shrunk.spared accepted (table_holds inputs.rules inputs.library f.program f.outside accepted.formed accepted.graph.once f.table) f.shrunk.leaves in
+    let spells : IsSpelled f.shrunk.left output = is_spelled f.shrunk.left output f.shrunk.written kept.formed kept.once kept.grounded (names_rise_for inline inputs.file f.program f.shrunk.left kept.admitted f.reads accepted.formed kept.stays)
+    (written_left_lies f.program f.shrunk.left f.outside f.shrunk.rounds f.shrunk.spared f.told [] accepted inline inputs.file output f.reads f.shrunk.leaves kept.formed f.shrunk.written) in record {
       program = f.program;
       reads = f.reads;
       means = means;
@@ -141,9 +146,10 @@ shrinks inline voices tells inputs output summary f =
       are_told = f.are_told;
       left = f.shrunk.left;
       written = f.shrunk.written;
-      spells = is_spelled f.shrunk.left output f.shrunk.written kept.formed kept.once kept.grounded (names_rise_for inline inputs.file f.program f.shrunk.left kept.admitted f.reads accepted.formed kept.stays)
-          (written_left_lies f.program f.shrunk.left f.outside f.shrunk.rounds f.shrunk.spared f.told [] accepted inline inputs.file output f.reads f.shrunk.leaves kept.formed f.shrunk.written);
+      spells = spells;
       keeps = kept;
+      shown = shown_on (silenced (named f.program) (outer_of f.program f.outside) (admitted_in f.program kept.admitted)) (named f.shrunk.left) (named spells.spelled) (outer_of f.program f.outside)
+          (spells.shows (outer_of f.program f.outside)) kept.shown;
     }
 
 of_command : (words : List (List ℕ)) (voices : List Voice) (held : Held) (output summary : List ℕ) (command : CommandWords) → Spells words command

@@ -21,6 +21,7 @@ use Rattle.written_tables.proofs.In.{all_in, in_got}
 use Rattle.written_order.specs.Rises.{MarksLow, ClassLow, NamesRise}
 use Rattle.written_sets.proofs.Low.{class_low}
 use Rattle.written_spelled.proofs.Whole.{written_is_valid}
+use Rattle.written_shown.proofs.Written.{written_shows}
 use Rattle.class_defs.specs.ClassGraph.{IsTwice, IsAncestor}
 use Rattle.dex_write.specs.Written as writer
 use Rattle.dex_defs.specs.LaysOut.{LaysOut}
@@ -85,4 +86,5 @@ is_spelled p bytes w formed once grounded rise lays = record {
   is = record { interner = w.interner; used = w.interned; is = refl };
   valid = (written_is_valid p bytes w formed once grounded rise lays).valid;
   signed = w.sealed.signature;
+  shows = written_shows p w.interner w.places formed once grounded w.interned w.ordered;
 }

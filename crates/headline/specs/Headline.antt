@@ -1,9 +1,13 @@
 -- What the output of `optimise` is to the rules and the file that it comes from.
 use Rattle.std.specs.Prelude.{◌≡◌, ◌⊎◌, ℕ, Bool, true, false, List, [], length, Ok}
 use Rattle.dalvik_defs.specs.Naming.{named}
-use Rattle.dalvik_defs.specs.Outer.{outer_of}
+use Rattle.dalvik_defs.specs.Outer.{Outer, outer_of}
 use Rattle.dalvik_defs.specs.Shown.{SameShown}
 use Rattle.dalvik_defs.specs.Silence.{silenced}
+use Rattle.dalvik_defs.specs.Step.{shows}
+use Rattle.dalvik_defs.specs.declared.script.Move.{Move}
+use Rattle.dalvik_defs.specs.declared.tables.Floats.{Floats}
+use Rattle.dalvik_defs.specs.declared.tables.Framework.{Framework}
 use Rattle.pass_defs.specs.Typed.{IsTyped}
 use Rattle.program_model.specs.ProgramRules.{is_well_formed}
 use Rattle.program_model.specs.declared.pass.Outside.{Outside}
@@ -89,16 +93,18 @@ pub record KeepsMeaning (inline : Bool) (voices : List Voice) (given : List Bool
   pub stays : StaysFor inline admitted program left
 
 -- The written program of what is left has the entries that are used, in order, and the classes, each behind those above it. The output is
--- a valid file that spells it, and signed.
+-- a valid file that spells it, and signed. Within each number of steps it shows what is left, whatever may be reached from outside.
 pub record IsSpelled (left : Program) (output : List ℕ) : Type 0 where
   pub spelled : Program
   pub is : meant.IsWritten left spelled
   pub valid : IsValidFor output spelled
   pub signed : IsSigned output
+  pub shows : (o : Outer) (f : Framework) (a : Floats) (script : List Move) (n : ℕ) → shows (named spelled) o f a script n ≡ shows (named left) o f a script n
 
 -- The file spells a program and no other, the rules that their text spells make a table of it, which is closed, with the methods shut that the
 -- library shuts where there is one, and the output is the file that is written for a program that keeps its meaning, when advisers who
--- reply so at first were told this and then asked.
+-- reply so at first were told this and then asked. So the program that the output spells shows what the program shows without its silent
+-- calls in the admitted methods.
 pub record Shrinks (inline : Bool) (voices : List Voice) (tells : List Tell) (inputs : Inputs) (output : List ℕ) : Type 0 where
   pub program : Program
   pub reads : program_at inputs.file ≡ Ok program
@@ -112,6 +118,7 @@ pub record Shrinks (inline : Bool) (voices : List Voice) (tells : List Tell) (in
   pub written : IsWritten left output
   pub spells : IsSpelled left output
   pub keeps : KeepsMeaning inline told [] program outside left
+  pub shown : SameShown (silenced (named program) (outer_of program outside) (admitted_in program keeps.admitted)) (named spells.spelled) (outer_of program outside)
 
 -- The words spell `optimise`, and the output is such a one of what the names hold, with advisers who reply so at first.
 pub record Headline (words : List (List ℕ)) (voices : List Voice) (held : Held) (output : List ℕ) : Type 0 where

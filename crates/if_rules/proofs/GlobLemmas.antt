@@ -1,9 +1,6 @@
 -- What wildcards take.
-use Rattle.std.proofs.Common.{◌≡◌, ◌<◌, ◌≤◌, ◌+◌, ◌-◌, ℕ, zero, suc, Bool, true, false, List, [], ◌∷◌, ◌++◌, map, take, drop, length, refl, sym, ap, subst, ◌∙◌, arith}
-use Rattle.std.specs.Prelude.{if◌then◌else◌}
+use Rattle.std.proofs.Common.{◌≡◌, ◌<◌, ◌≤◌, ◌+◌, ◌-◌, ℕ, zero, suc, Bool, true, false, List, [], ◌∷◌, ◌++◌, map, take, drop, length, refl, sym, ap, ◌∙◌, arith}
 use Rattle.std.proofs.lemmas.List.{append-nil, append_assoc, drop_all, drop-drop, length-drop, take_all}
-use Rattle.rule_text.specs.Glob.{matches_of}
-use Rattle.rule_text.specs.Pieces.{characters, pieces_of, merged}
 use Rattle.rule_text.specs.Related.{IsPatternOf}
 use Rattle.rule_text.specs.Tokens.{Word}
 use Rattle.rule_text.specs.declared.pattern.Named.{Named}

@@ -1,5 +1,5 @@
 -- Instances one behind the other.
-use Rattle.std.proofs.Common.{◌≡◌, ◌⊎◌, inl, inr, ◌<◌, ◌≤◌, ◌+◌, ℕ, zero, suc, Bool, true, false, ◌||◌, List, [], ◌∷◌, ◌++◌, map, get_or, length, Vec, Some, None, Contains, slice_get, refl, sym, ap, subst, ◌∙◌, eq-or-lt_of_le, arith}
+use Rattle.std.proofs.Common.{◌≡◌, ◌⊎◌, inl, inr, ◌<◌, ◌≤◌, ◌+◌, ℕ, Bool, true, false, ◌||◌, List, [], ◌∷◌, ◌++◌, map, get_or, length, Some, None, Contains, slice_get, refl, sym, ap, subst, ◌∙◌, eq-or-lt_of_le, arith}
 use Rattle.std.specs.List.{flat_map, list_all, list_any}
 use Rattle.class_defs.proofs.WellFormed.{and_left, and_right}
 use Rattle.std.proofs.lemmas.List.Elements.{Contains-append_left, Contains-append_right, Contains-append_cases, Contains-push, Contains-push_cases}
@@ -20,9 +20,7 @@ use Rattle.if_text.specs.Items.{IfRule}
 use Rattle.if_text.specs.Parts.{parts_of}
 use Rattle.if_text.specs.Readings.{IsIfOf}
 use Rattle.if_text.specs.Wildcards.{slots}
-use Rattle.if_text.specs.declared.parts.Part.{Part}
 use Rattle.if_text.specs.declared.rules.IfRule.{IfRule as ReadIf}
-use Rattle.if_text.specs.declared.slots.Source.{Source}
 use Rattle.if_rules.specs.Instances.{Texts, names_line, parts_bytes, words_bytes, instance_text, names_of, uses_line}
 use Rattle.if_rules.specs.Listed.{Could, OfEach, OfMethod, OfField, IsPair, IsInstance, IsGiven, PushesOne, HasInstance, Grew, AreInstances, OfChoice, OfMethods, OfFields, OfPlace, OfRule, OfRules}
 use Rattle.if_rules.specs.Lists.{lists_of}
@@ -102,16 +100,6 @@ field_text p r class line k f _ _ is at (OfField other j n uses lines there fits
           ∙ ap (λ f. instance_text r (record { name = names_of p r.condition class; line = field_texts line.what (field_at p f.name).name (field_at p f.name).kind })) same_field,
       sym (ap (λ l. matches_field l (named_field p n)) same ∙ ap (λ f. matches_field line (named_field p f)) same_field) ∙ fits,
     )
-
-no_method : (p : Program) (r : IfRule) (class : Class) (k : ℕ) (d : Choice) (t : List ℕ) → slice_get class.methods k ≡ None → Could p r class d t → d ≡ choice.Method k → ⊥
-no_method p r class k _ _ none (OfEach uses) e = cc
-no_method p r class k _ _ none (OfMethod other j n uses lines there fits) e = no_some n (sym there ∙ ap (slice_get class.methods) (ap place_of e) ∙ none)
-no_method p r class k _ _ none (OfField other j f uses lines there fits) e = cc
-
-no_field : (p : Program) (r : IfRule) (class : Class) (k : ℕ) (d : Choice) (t : List ℕ) → slice_get class.fields k ≡ None → Could p r class d t → d ≡ choice.Field k → ⊥
-no_field p r class k _ _ none (OfEach uses) e = cc
-no_field p r class k _ _ none (OfMethod other j n uses lines there fits) e = cc
-no_field p r class k _ _ none (OfField other j f uses lines there fits) e = no_some f (sym there ∙ ap (slice_get class.fields) (ap place_of e) ∙ none)
 
 each_only : (p : Program) (r : IfRule) (class : Class) (d : Choice) (t : List ℕ) → uses_line r ≡ false → Could p r class d t → d ≡ choice.Each
 each_only p r class _ _ none (OfEach uses) = refl
@@ -212,14 +200,6 @@ grew_no p rs read number place class named old g at none = record {
   sound = λ i there. inl there;
   complete = λ n k d t pair is could. absurd (none n k d t is (given_could p rs read number place n k class d t g pair (at n k d is).0 (at n k d is).1 could));
 }
-
-pub no_method_there : (p : Program) (rs : List IfRule) (read : ReadIf) (number place : ℕ) (class : Class) (k : ℕ) (old : List Instance) → IsGiven p rs read number place class → slice_get class.methods k ≡ None → Grew p rs (OfChoice number place (choice.Method k)) old old
-no_method_there p rs read number place class k old g none =
-    grew_no p rs read number place class (OfChoice number place (choice.Method k)) old g (λ n j d is. (is.0, is.1)) (λ n j d t is could. no_method p g.rule class k d t none could is.2)
-
-pub no_field_there : (p : Program) (rs : List IfRule) (read : ReadIf) (number place : ℕ) (class : Class) (k : ℕ) (old : List Instance) → IsGiven p rs read number place class → slice_get class.fields k ≡ None → Grew p rs (OfChoice number place (choice.Field k)) old old
-no_field_there p rs read number place class k old g none =
-    grew_no p rs read number place class (OfChoice number place (choice.Field k)) old g (λ n j d is. (is.0, is.1)) (λ n j d t is could. no_field p g.rule class k d t none could is.2)
 
 pub method_other : (p : Program) (rs : List IfRule) (read : ReadIf) (number place : ℕ) (class : Class) (line : MemberRule) (k : ℕ) (m : OwnMethod) (old : List Instance) (g : IsGiven p rs read number place class) → lines_of g.rule.condition ≡ line ∷ []
     → slice_get class.methods k ≡ Some m → matches_method line (named_method p m) ≡ false → Grew p rs (OfChoice number place (choice.Method k)) old old

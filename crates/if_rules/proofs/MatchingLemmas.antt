@@ -1,5 +1,5 @@
 -- The places of the classes that a class specification matches, one after the other.
-use Rattle.std.proofs.Common.{◌≡◌, ◌⊎◌, inl, inr, ◌<◌, ◌≤◌, ◌+◌, ℕ, Bool, true, false, List, [], ◌∷◌, ◌++◌, length, Some, None, Contains, slice_get, refl, sym, ap, subst, ◌∙◌, eq-or-lt_of_le, arith}
+use Rattle.std.proofs.Common.{◌≡◌, ◌⊎◌, inl, inr, ◌<◌, ◌≤◌, ◌+◌, ℕ, true, false, List, [], ◌∷◌, ◌++◌, length, Some, None, Contains, slice_get, sym, ap, subst, ◌∙◌, eq-or-lt_of_le, arith}
 use Rattle.std.proofs.lemmas.List.Elements.{Contains-append_left, Contains-push, Contains-push_cases}
 use Rattle.std.proofs.lemmas.Option.{slice_get_within}
 use Rattle.program_model.specs.declared.program.Class.{Class}

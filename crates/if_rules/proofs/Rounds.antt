@@ -1,6 +1,5 @@
 -- Rounds of instances that are added.
 use Rattle.std.proofs.Common.{◌≡◌, ◌⊎◌, inl, inr, ◌<◌, ◌≤◌, ◌+◌, ℕ, zero, suc, Bool, true, false, ◌&&◌, ◌||◌, not, if◌then◌else◌, List, [], ◌∷◌, ◌++◌, length, replicate, set, take, drop, Some, None, Contains, slice_get, refl, sym, ap, subst, ◌∙◌, eq-or-lt_of_le, arith}
-use Rattle.std.specs.Prelude.{slice_index_or}
 use Rattle.std.specs.List.{list_all, list_any}
 use Rattle.std.proofs.lemmas.List.{append-nil, append_assoc, get_or-set_same, get_or-set_other}
 use Rattle.std.proofs.lemmas.List.Elements.{Contains-append_left, Contains-append_right}
@@ -11,24 +10,22 @@ use Rattle.dalvik_defs.specs.Naming.{field_at, method_at, named, named_class, na
 use Rattle.keep_rules.specs.Table.{IsTable}
 use Rattle.program_model.specs.declared.pass.Outside.{Outside}
 use Rattle.program_model.specs.declared.program.Class.{Class}
-use Rattle.program_model.specs.declared.program.Field.{Field as OwnField}
-use Rattle.program_model.specs.declared.program.Method.{Method as OwnMethod}
 use Rattle.program_model.specs.declared.program.Program.{Program}
 use Rattle.rule_defs.specs.Kept.{lines_of, matches_class}
 use Rattle.rule_defs.specs.Members.{matches_field, matches_method}
 use Rattle.rule_text.specs.Faults.{SpellsRules}
 use Rattle.rule_text.specs.Fault.{IsFault}
 use Rattle.rule_text.specs.ReadEntries.{IsReading}
-use Rattle.rule_text.specs.Related.{AreEach, AreEntriesOf, IsEntryOf}
+use Rattle.rule_text.specs.Related.{AreEntriesOf}
 use Rattle.rule_text.specs.Rules.{MemberRule, Entry}
 use Rattle.rule_text.specs.declared.fault.RuleFault.{RuleFault}
 use Rattle.rule_text.specs.declared.fault.RuleFault.TheVariants as fault
 use Rattle.rule_text.specs.declared.rules.Entry.{Entry as ReadEntry}
 use Rattle.rule_text.specs.declared.rules.Rules.{Rules as ReadRules}
-use Rattle.if_text.specs.Items.{IfRule, Item, plain_of, ifs_of}
+use Rattle.if_text.specs.Items.{IfRule}
 use Rattle.if_rules.specs.Added.{is_live_method, is_live_field, is_met, are_live, holds_in, holds_at, holds, AreSpelled, Rules, Nothing, AddsText, left_of, IsDone, AddsRound, AddsBy, IsSoFar}
-use Rattle.if_rules.specs.Fired.{ComeFrom, Nowhere, Behind, Fires, Plain, Round, AreAdded, SpellsNone, IsSettled, IsLiveBy, IsTableOf, With}
-use Rattle.if_rules.specs.Instances.{Texts, instance_text, is_on, names_of, uses_line, IsLiveClass, IsLiveMethod, IsLiveField, IsMet, ByMethod, ByField, Holds, OfClass, OfMethod, OfField}
+use Rattle.if_rules.specs.Fired.{ComeFrom, Nowhere, Behind, Plain, Round, AreAdded, SpellsNone, IsSettled}
+use Rattle.if_rules.specs.Instances.{Texts, instance_text, is_on, names_of, IsLiveClass, IsMet, ByMethod, ByField, Holds, OfClass, OfMethod, OfField}
 use Rattle.if_rules.specs.Listed.{Could, OfEach as CouldEach, OfMethod as CouldMethod, OfField as CouldField, IsPair, IsInstance, HasInstance, AreInstances}
 use Rattle.if_rules.specs.Matched.{field_texts, method_texts}
 use Rattle.if_rules.specs.declared.instances.Choice.{Choice}

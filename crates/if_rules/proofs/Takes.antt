@@ -1,26 +1,25 @@
 -- What the wildcards of types and members matched.
-use Rattle.std.proofs.Common.{◌≡◌, ◌+◌, ◌-◌, ◌/◌, ℕ, zero, suc, Bool, true, false, if◌then◌else◌, List, [], ◌∷◌, ◌++◌, map, drop, get_or, length, codes, refl, sym, ap, subst, ◌∙◌, arith, length-append}
+use Rattle.std.proofs.Common.{◌≡◌, ◌+◌, ℕ, zero, suc, Bool, true, false, List, [], ◌∷◌, ◌++◌, map, drop, get_or, length, codes, refl, sym, ap, subst, ◌∙◌, arith, length-append}
 use Rattle.std.specs.Cmp.Lexicographic.{bytes_decides}
-use Rattle.std.proofs.lemmas.List.{append-nil, append_assoc}
+use Rattle.std.proofs.lemmas.List.{append_assoc}
 use Rattle.dalvik_defs.specs.Names.{Text, item_of}
 use Rattle.dalvik_defs.specs.declared.names.Signature.{Signature}
 use Rattle.rule_defs.specs.Patterns.{inner}
 use Rattle.rule_text.specs.declared.pattern.Named.TheVariants as named
 use Rattle.rule_text.specs.declared.pattern.NamePattern.{NamePattern}
 use Rattle.rule_text.specs.declared.rules.Arguments.{Arguments as ReadArguments}
-use Rattle.rule_text.specs.declared.rules.Arguments.TheVariants as arguments
 use Rattle.rule_text.specs.declared.rules.ItemPattern.{ItemPattern}
 use Rattle.rule_text.specs.declared.rules.ItemPattern.TheVariants as item
 use Rattle.rule_text.specs.declared.rules.TypePattern.{TypePattern}
 use Rattle.rule_text.specs.declared.rules.What.{What as ReadWhat}
 use Rattle.rule_text.specs.declared.rules.What.TheVariants as what
-use Rattle.rule_text.specs.Pieces.{primitives, is_primitive_word, ends_in_brackets}
-use Rattle.rule_text.specs.Related.{AreEach, IsPatternOf, IsItemOf, IsTypeOf, AreArgumentsOf, IsWhatOf, OfAll, OfFields, OfMethods, OfInit, OfField, OfMethod, brackets}
-use Rattle.rule_text.specs.Rules.{Arguments, Any, These, What}
+use Rattle.rule_text.specs.Pieces.{is_primitive_word, ends_in_brackets}
+use Rattle.rule_text.specs.Related.{AreEach, IsPatternOf, IsItemOf, IsTypeOf, AreArgumentsOf, IsWhatOf, OfInit, OfField, OfMethod, brackets}
+use Rattle.rule_text.specs.Rules.{Arguments, What}
 use Rattle.rule_text.specs.Spelling.{word_eq}
 use Rattle.rule_text.specs.Tokens.{Word}
 use Rattle.if_text.specs.Wildcards.{bare}
-use Rattle.if_text.proofs.Counts.{any_left, bare_of, no_word}
+use Rattle.if_text.proofs.Counts.{bare_of}
 use Rattle.if_rules.specs.Matched.{java, name_texts, item_texts, depth_of, type_texts, types_texts, argument_texts, method_texts, field_texts, class_texts}
 
 -- ---- items
@@ -44,14 +43,6 @@ any_item P x w t e is says = subst P (ap (λ w. item_texts w t) (sym (subst (λ 
 
 pub primitive_item : (P : List Text → Type 0) (x : ItemPattern) (w : Word) (t : Text) → x ≡ item.Primitive → IsItemOf x w → P (java t ∷ []) → P (item_texts w t)
 primitive_item P x w t e is says = subst P (ap (λ w. item_texts w t) (sym (subst (λ x. IsItemOf x w) e is))) says
-
-letter_texts : (u : ℕ) (w : Word) (t : Text) → IsItemOf (item.Letter u) w → [] ≡ item_texts w t
-letter_texts u w t is =
-    let word : is_primitive_word w ≡ true = any_left (λ q. word_eq q.0 w) (λ q. word_eq q.1 (u ∷ [])) primitives is in
-    other_by w t [] (word_eq w (codes "***")) (word_eq w (codes "%")) true refl refl word (no_word w (codes "***") word refl) (no_word w (codes "%") word refl) (λ e. refl) (λ e. absurd (clash e))
-
-pub letter_item : (P : List Text → Type 0) (x : ItemPattern) (u : ℕ) (w : Word) (t : Text) → x ≡ item.Letter u → IsItemOf x w → P [] → P (item_texts w t)
-letter_item P x u w t e is says = subst P (letter_texts u w t (subst (λ x. IsItemOf x w) e is)) says
 
 item_named : (p : NamePattern) (w : Word) (t : Text) → IsItemOf (item.Class p) w → name_texts named.Class w (inner (item_of t)) ≡ item_texts w t
 item_named p w t is =
@@ -88,9 +79,6 @@ pub record LeftTypes (f : ℕ → Text) (patterns : List TypePattern) (kinds : L
   pub are : AreEach IsTypeOf patterns left
   pub is : out ++ types_texts left (map f kinds) ≡ init ++ types_texts ws (map f all)
 
-pub types_begin : (f : ℕ → Text) (patterns : List TypePattern) (kinds : List ℕ) (init : List Text) (ws : List Word) → AreEach IsTypeOf patterns ws → LeftTypes f patterns kinds init init ws kinds
-types_begin f patterns kinds init ws are = record { left = ws; are = are; is = refl }
-
 more_by : (f : ℕ → Text) (t : TypePattern) (ts : List TypePattern) (k : ℕ) (ks : List ℕ) (out new init : List Text) (ws left : List Word) (all : List ℕ) → ((w : Word) → IsTypeOf t w → new ≡ out ++ type_texts w (f k))
     → AreEach IsTypeOf (t ∷ ts) left → out ++ types_texts left (f k ∷ map f ks) ≡ init ++ types_texts ws (map f all) → LeftTypes f ts ks new init ws all
 more_by f t ts k ks out new init ws [] all more are is = absurd are
@@ -102,83 +90,7 @@ pub types_more : (f : ℕ → Text) (t : TypePattern) (now ts : List TypePattern
 types_more f t now ts k there ks out new init ws all is at more l =
     more_by f t ts k ks out new init ws l.left all more (subst (λ (ps : List TypePattern). AreEach IsTypeOf ps l.left) is l.are) (subst (λ xs. out ++ types_texts l.left (map f xs) ≡ init ++ types_texts ws (map f all)) at l.is)
 
-end_by : (out : List Text) (left : List Word) (ts : List Text) → AreEach IsTypeOf [] left → out ++ types_texts left ts ≡ out
-end_by out [] ts are = append-nil out
-end_by out (w ∷ left) ts are = absurd are
-
-pub types_end : (f : ℕ → Text) (now : List TypePattern) (there : List ℕ) (out init : List Text) (ws : List Word) (all : List ℕ) → now ≡ [] → LeftTypes f now there out init ws all → out ≡ init ++ types_texts ws (map f all)
-types_end f now there out init ws all none l = sym (end_by out l.left (map f there) (subst (λ (ps : List TypePattern). AreEach IsTypeOf ps l.left) none l.are)) ∙ l.is
-
-no_kinds : (left : List Word) → types_texts left [] ≡ []
-no_kinds [] = refl
-no_kinds (w ∷ left) = refl
-
--- no parameter is left
-pub types_short : (f : ℕ → Text) (now : List TypePattern) (there : List ℕ) (out init : List Text) (ws : List Word) (all : List ℕ) → there ≡ [] → LeftTypes f now there out init ws all → out ≡ init ++ types_texts ws (map f all)
-types_short f now there out init ws all none l = sym (ap (λ xs. out ++ types_texts l.left (map f xs)) none ∙ ap (λ xs. out ++ xs) (no_kinds l.left) ∙ append-nil out) ∙ l.is
-
-pub any_arguments : (P : List Text → Type 0) (x : ReadArguments) (a : Arguments) (ts : List Text) → x ≡ arguments.Any → AreArgumentsOf x a → P [] → P (argument_texts a ts)
-any_arguments P x a ts e are says = by a (subst (λ x. AreArgumentsOf x a) e are)
-  where
-    by : (a : Arguments) → AreArgumentsOf arguments.Any a → P (argument_texts a ts)
-    by Any are = says
-    by (These ws) are = absurd are
-
-these_by : (P : List Text → Type 0) (x : ReadArguments) (ps : List TypePattern) (a : Arguments) (ts : List Text) → AreArgumentsOf x a → ((ws : List Word) → a ≡ These ws → P (types_texts ws ts)) → (a ≡ Any → P []) → P (argument_texts a ts)
-these_by P x ps Any ts are says none = none refl
-these_by P x ps (These ws) ts are says none = says ws refl
-
 -- ---- members
-
--- a line that names no types and no names by themselves
-abbrev pub names_nothing : ReadWhat → Bool
-names_nothing what.All = true
-names_nothing what.Fields = true
-names_nothing what.Methods = true
-names_nothing (what.Init read) = false
-names_nothing (what.Field t p) = false
-names_nothing (what.Method t p read) = false
-
-abbrev pub is_field : ReadWhat → Bool
-is_field what.All = false
-is_field what.Fields = false
-is_field what.Methods = false
-is_field (what.Init read) = false
-is_field (what.Field t p) = true
-is_field (what.Method t p read) = false
-
-nothing_named : (x : ReadWhat) (w : What) (name : Text) (s : Signature) → IsWhatOf x w → names_nothing x ≡ true → [] ≡ method_texts w name s
-nothing_named _ _ name s OfAll e = refl
-nothing_named _ _ name s OfFields e = refl
-nothing_named _ _ name s OfMethods e = refl
-nothing_named _ _ name s (OfInit read a are) e = absurd (clash (sym e))
-nothing_named _ _ name s (OfField t p kind word of is) e = absurd (clash (sym e))
-nothing_named _ _ name s (OfMethod t p read kind word a of is are) e = absurd (clash (sym e))
-
-no_method : (x : ReadWhat) (w : What) (name : Text) (s : Signature) → IsWhatOf x w → is_field x ≡ true → [] ≡ method_texts w name s
-no_method _ _ name s OfAll e = absurd (clash (sym e))
-no_method _ _ name s OfFields e = absurd (clash (sym e))
-no_method _ _ name s OfMethods e = absurd (clash (sym e))
-no_method _ _ name s (OfInit read a are) e = absurd (clash (sym e))
-no_method _ _ name s (OfField t p kind word of is) e = refl
-no_method _ _ name s (OfMethod t p read kind word a of is are) e = absurd (clash (sym e))
-
-no_field : (x : ReadWhat) (w : What) (name kind : Text) → IsWhatOf x w → is_field x ≡ false → [] ≡ field_texts w name kind
-no_field _ _ name kind OfAll e = refl
-no_field _ _ name kind OfFields e = refl
-no_field _ _ name kind OfMethods e = refl
-no_field _ _ name kind (OfInit read a are) e = refl
-no_field _ _ name kind (OfField t p word n of is) e = absurd (clash e)
-no_field _ _ name kind (OfMethod t p read k word a of is are) e = refl
-
-pub named_nothing : (P : List Text → Type 0) (x y : ReadWhat) (w : What) (name : Text) (s : Signature) → x ≡ y → names_nothing y ≡ true → IsWhatOf x w → P [] → P (method_texts w name s)
-named_nothing P x y w name s e is of says = subst P (nothing_named x w name s of (ap names_nothing e ∙ is)) says
-
-pub named_field : (P : List Text → Type 0) (x y : ReadWhat) (w : What) (name : Text) (s : Signature) → x ≡ y → is_field y ≡ true → IsWhatOf x w → P [] → P (method_texts w name s)
-named_field P x y w name s e is of says = subst P (no_method x w name s of (ap is_field e ∙ is)) says
-
-pub named_other : (P : List Text → Type 0) (x y : ReadWhat) (w : What) (name kind : Text) → x ≡ y → is_field y ≡ false → IsWhatOf x w → P [] → P (field_texts w name kind)
-named_other P x y w name kind e is of says = subst P (no_field x w name kind of (ap is_field e ∙ is)) says
 
 init_by : (P : List Text → Type 0) (read : ReadArguments) (w : What) (name : Text) (s : Signature) → IsWhatOf (what.Init read) w → ((a : Arguments) → AreArgumentsOf read a → P (argument_texts a s.parameters)) → P (method_texts w name s)
 init_by P _ _ name s (OfInit read a are) says = says a are

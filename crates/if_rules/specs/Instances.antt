@@ -13,7 +13,6 @@ use Rattle.rule_defs.specs.Kept.{lines_of, matches_class}
 use Rattle.rule_defs.specs.Members.{matches_field, matches_method}
 use Rattle.rule_text.specs.Glob.{begins_pair}
 use Rattle.rule_text.specs.Rules.{ClassRule, MemberRule}
-use Rattle.rule_text.specs.Tokens.{Word}
 use Rattle.if_text.specs.Items.{IfRule}
 use Rattle.if_text.specs.Parts.{parts_of}
 use Rattle.if_text.specs.Wildcards.{slots, source_in}

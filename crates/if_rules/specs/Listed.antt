@@ -7,9 +7,7 @@ use Rattle.program_model.specs.declared.program.Method.{Method as OwnMethod}
 use Rattle.program_model.specs.declared.program.Program.{Program}
 use Rattle.rule_defs.specs.Kept.{lines_of, matches_class}
 use Rattle.rule_defs.specs.Members.{matches_field, matches_method}
-use Rattle.rule_text.specs.Related.{IsMemberOf}
 use Rattle.rule_text.specs.Rules.{MemberRule}
-use Rattle.rule_text.specs.declared.rules.MemberRule.{MemberRule as ReadMember}
 use Rattle.if_text.specs.Items.{IfRule}
 use Rattle.if_text.specs.Readings.{IsIfOf}
 use Rattle.if_text.specs.declared.rules.IfRule.{IfRule as ReadIf}

@@ -1,13 +1,13 @@
 -- What the wildcards of a class specification matched: of the ways to match a name the first, in which each wildcard from the left takes as
 -- few characters as it can. A name is written as Java writes it.
-use Rattle.std.specs.Prelude.{ℕ, ◌-◌, ◌/◌, Bool, true, false, if◌then◌else◌, nat_eq, List, [], ◌∷◌, ◌++◌, map, take, drop, length, codes}
+use Rattle.std.specs.Prelude.{ℕ, ◌-◌, ◌/◌, Bool, if◌then◌else◌, nat_eq, List, [], ◌∷◌, ◌++◌, map, take, drop, length, codes}
 use Rattle.rule_text.specs.declared.pattern.Named.{Named}
 use Rattle.rule_text.specs.declared.pattern.Named.TheVariants as named
 use Rattle.rule_text.specs.declared.pattern.Piece.{Piece}
 use Rattle.rule_text.specs.declared.pattern.Piece.TheVariants as piece
 use Rattle.rule_text.specs.Glob.{read_of, begins_pair, matches_of}
 use Rattle.rule_text.specs.Pieces.{characters, pieces_of, merged, primitives, is_primitive_word}
-use Rattle.rule_text.specs.Rules.{Arguments, Any, These, What, All, Fields, Methods, Init, Field, Method}
+use Rattle.rule_text.specs.Rules.{Arguments, Any, These, What, Init, Field, Method}
 use Rattle.rule_text.specs.Spelling.{word_eq}
 use Rattle.rule_text.specs.Tokens.{Word}
 use Rattle.rule_defs.specs.Patterns.{inner}

@@ -1,4 +1,4 @@
-use Rattle.std.proofs.Common.{◌≡◌, ◌+◌, ◌≤◌, List, [], true, length, Contains}
+use Rattle.std.proofs.Common.{◌≡◌, ◌+◌, ◌≤◌, List, true, length, Contains}
 use Rattle.program_model.specs.ProgramRules.{is_well_formed}
 use Rattle.rule_text.specs.Related.{AreEach}
 use Rattle.if_text.specs.Items.{IfRule}

@@ -1,7 +1,7 @@
 use Rattle.std.proofs.Common.{◌≡◌, ◌++◌, subst}
 use Rattle.std.specs.Prelude.{OnOk}
 use Rattle.rule_text.specs.declared.pattern.Named.TheVariants as named
-use Rattle.if_rules.proofs.Takes.{any_item, primitive_item, letter_item, class_item}
+use Rattle.if_rules.proofs.Takes.{any_item, primitive_item, class_item}
 use Rattle.if_rules.specs.Lists.{lists_of}
 use Rattle.if_rules.specs.Matched.{name_texts}
 use Rattle.if_rules.proofs.texts.item_texts.Goals as goal

@@ -1,4 +1,4 @@
-use Rattle.std.proofs.Common.{List, length, map}
+use Rattle.std.proofs.Common.{List, length}
 use Rattle.dalvik_defs.specs.Naming.{type_at}
 use Rattle.rule_text.specs.Related.{AreEach, IsTypeOf}
 use Rattle.rule_text.specs.Tokens.{Word}

@@ -12,7 +12,6 @@ ghost use Rattle.summaries.specs.Certified.{IsCertified};
 
 use crate::cells::number_cells;
 use crate::codes::{Codes, make_codes};
-use crate::quiet::Search;
 use crate::rows::{NONE, Rows, rows_of};
 use crate::sites::{Sites, make_sites};
 use crate::spread::{Ground, Spread};
@@ -92,14 +91,15 @@ fn checked(
     }
 }
 
-/// The facts with their frames and the quiet methods.
-fn with_frames(facts: Facts, frames: Vec<Seq<Option<Frame>>>, quiet: Vec<bool>) -> Facts
-    ensures { result ≡ record facts { frames = frames; quiet = quiet } }
+/// The facts with their frames.
+fn with_frames(facts: Facts, frames: Vec<Seq<Option<Frame>>>) -> Facts
+    ensures { result ≡ record facts { frames = frames } }
 {
     let Facts {
         parameters,
         results,
         fields,
+        quiet,
         any,
         ..
     } = facts;
@@ -153,13 +153,7 @@ fn certified(
     let Some(frames) = checked(alloc, &known, &starts)? else {
         return Ok(None);
     };
-    let search = Search {
-        program: ground.program,
-        hierarchy: ground.hierarchy,
-        codes: ground.codes,
-    };
-    let quiet = search.quiet(alloc, &frames)?;
-    Ok(Some(with_frames(facts, frames, quiet)))
+    Ok(Some(with_frames(facts, frames)))
 }
 
 /// What the search finds.
@@ -229,8 +223,8 @@ fn facts_by(
 }
 
 /// What is known of every run of a program that the framework begins as the table of the outside allows, by the hierarchy of
-/// the program's classes: of each position that a run may come to, of parameters, results and fields, and which methods are
-/// quiet. What is answered has been checked to be closed; where it weren't, nothing is answered. The only error is want of
+/// the program's classes: of each position that a run may come to, and of parameters, results and fields. No method is said
+/// to be quiet. What is answered has been checked to be closed; where it weren't, nothing is answered. The only error is want of
 /// memory.
 pub fn analyse(
     alloc: Global,

@@ -8,6 +8,8 @@ use Rattle.class_defs.specs.ClassGraph.{IsTwice}
 use Rattle.dalvik_defs.specs.Naming.{named}
 use Rattle.dalvik_defs.specs.Outer.{outer_of}
 use Rattle.dalvik_defs.specs.Silence.{silenced}
+use Rattle.if_text.specs.Items.{Item}
+use Rattle.if_rules.specs.Fired.{IsTableOf, Without, With}
 use Rattle.removal_law.specs.Reach.{ShutsHold}
 use Rattle.reach_bridge.proofs.Unshut.{unshut}
 use Rattle.library_bridge.proofs.Narrowing.{narrowed_holds}
@@ -38,11 +40,16 @@ use Rattle.headline.specs.Admitted.{admitted_in}
 use Rattle.headline.proofs.Rising.{names_rise_for, is_spelled}
 use Rattle.written_shown.proofs.Looks.{shown_on}
 
+-- the table of rules, with conditions or without, shuts no method
+none_shut : (p : Program) (items : List Item) (o : Outside) → IsTableOf p items o → o.shut ≡ []
+none_shut p items o (Without none table) = table.shut
+none_shut p items o (With settled) = settled.table.shut
+
 -- rules alone shut no method, and what a library shuts is shut by the definition
 table_holds : (rules : List ℕ) (library : Option (List ℕ)) (p : Program) (o : Outside) → is_well_formed p ≡ true → ((class : ℕ) → IsTwice p class → ⊥)
     → IsTableWith rules library p o
     → ShutsHold (named p) (outer_of p o)
-table_holds rules None p o well once table = unshut p o (table.closes.shut ∙ table.table.shut)
+table_holds rules None p o well once table = unshut p o (table.closes.shut ∙ none_shut p table.table.items table.ruled table.table.table)
 table_holds rules (Some bytes) p o well once table = narrowed_holds p well once table.closed o table.library table.narrowed
 
 -- the advisers were asked about methods first

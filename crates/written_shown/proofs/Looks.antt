@@ -33,7 +33,7 @@ use Rattle.written_shown.proofs.Alike.{bare_method, bare_field, of_proto, AlikeC
 -- ---- members without what no run asks for
 
 -- a test that asks nothing of it
-abbrev Blind : (NamedMethod → Bool) → Type 0
+abbrev pub Blind : (NamedMethod → Bool) → Type 0
 Blind test = (m : NamedMethod) → test (bare_method m) ≡ test m
 
 passing_bare : (test : NamedMethod → Bool) → Blind test → (c : NamedClass) (o : Option NamedMethod) → passing test c (option_map bare_method o) ≡ passing test c o
@@ -51,7 +51,7 @@ passing_alike : (test : NamedMethod → Bool) → Blind test → (n : Text) (s :
 passing_alike test b n s c d h =
     passing_name test c d h.name (method_in d n s) ∙ sym (passing_bare test b c (method_in d n s)) ∙ ap (passing test c) (h.method n s) ∙ passing_bare test b c (method_in c n s)
 
-first_alike : (test : NamedMethod → Bool) → Blind test → (n : Text) (s : Signature) (cs ds : List NamedClass) → AllAlike cs ds → first_method test n s ds ≡ first_method test n s cs
+pub first_alike : (test : NamedMethod → Bool) → Blind test → (n : Text) (s : Signature) (cs ds : List NamedClass) → AllAlike cs ds → first_method test n s ds ≡ first_method test n s cs
 first_alike test b n s [] [] l = refl
 first_alike test b n s (c ∷ cs) (d ∷ ds) l =
     ap (λ o. option_or o (first_method test n s ds)) (passing_alike test b n s c d l.0)
@@ -92,7 +92,7 @@ place_alike : (t n k : Text) (c d : NamedClass) → AlikeClass c d → option_ma
 place_alike t n k c d h = sym (place_bare t (field_in d n k)) ∙ ap (option_map (place_of t)) (h.field n k) ∙ place_bare t (field_in c n k)
 
 -- where a field was found
-abbrev placed : Option (Text × NamedField) → Option Place
+abbrev pub placed : Option (Text × NamedField) → Option Place
 placed o = option_map (λ x. place_of x.0 x.1) o
 
 placed_or : (o r : Option (Text × NamedField)) → placed (option_or o r) ≡ option_or (placed o) (placed r)
@@ -213,7 +213,7 @@ module _ (p q : NamedProgram) (a : LooksAlike p q) where
       by None (Some d) l r = absurd l
       by (Some c) None l r = absurd l
 
-  field_same : (k : FieldKey) → placed (finds_field q k) ≡ placed (finds_field p k)
+  pub field_same : (k : FieldKey) → placed (finds_field q k) ≡ placed (finds_field p k)
   field_same k = ap (λ n. placed (field_from n q k k.class)) a.count ∙ field_from_same (length p.classes) k k.class
 
   -- ---- methods
@@ -287,7 +287,7 @@ module _ (p q : NamedProgram) (a : LooksAlike p q) where
   super_037 class k None (Some d) l = absurd l
   super_037 class k (Some c) None l = absurd l
 
-  super_same : finds_super q ≡ finds_super p
+  pub super_same : finds_super q ≡ finds_super p
   super_same = fun_ext (λ class. fun_ext (λ k.
       ap (λ v. choice (is_037 v) (finds_super_037 q class k (class_named q k.class)) (finds_above q class k)) a.version
       ∙ ap (λ x. choice (is_037 p.version) x (finds_above q class k)) (super_037 class k (class_named p k.class) (class_named q k.class) (a.class k.class))

@@ -20,19 +20,19 @@ use Rattle.code_laws.proofs.Founding.{known, weaker, done, when, next, founds_ru
 
 -- ---- one entry
 
-record IsStep (bytes : List ℕ) (size before at : ℕ) (r : ℕ × ℕ) : Type 0 where
-  step : ℕ
-  is_step : IsUlebAt bytes at (step, r.1)
-  number : r.0 ≡ before + step
-  below : r.0 < size
+pub record IsStep (bytes : List ℕ) (size before at : ℕ) (r : ℕ × ℕ) : Type 0 where
+  pub step : ℕ
+  pub is_step : IsUlebAt bytes at (step, r.1)
+  pub number : r.0 ≡ before + step
+  pub below : r.0 < size
 
-founds_step : (bytes : List ℕ) (size before at : ℕ) → Founds (IsStep bytes size before at) (stepped_at bytes size before at)
+pub founds_step : (bytes : List ℕ) (size before at : ℕ) → Founds (IsStep bytes size before at) (stepped_at bytes size before at)
 unfolding stepped_at
 founds_step bytes size before at = weaker (stepped_at bytes size before at)
     (next (known (finds_number bytes at)) (λ step _. when _ (done (before + step.0, step.1))))
     (λ y p. rw p.2.1 (record { step = p.0.0; is_step = p.1; number = refl; below = ltb-true _ _ p.2.0 }))
 
-abbrev IsNext : ℕ → ℕ → ℕ → Type 0
+abbrev pub IsNext : ℕ → ℕ → ℕ → Type 0
 IsNext place before number = (place ≡ 0) ⊎ (before < number)
 
 by_order : (a b : Bool) {A B : Type 0} → (a || b) ≡ true → (a ≡ true → A) → (b ≡ true → B) → A ⊎ B
@@ -43,13 +43,13 @@ founds_order : (place before number : ℕ) → Founds (λ u. IsNext place before
 unfolding ascends_at
 founds_order place before number = weaker (ascends_at place before number) (when _ (done tt)) (λ y p. by_order (eqb place 0) (ltb before number) p.0 (eqb-true place 0) (ltb-true before number))
 
-record IsListed (Is : Entry → ℕ → Type 0) (size place : ℕ) (s : ℕ × ℕ) (r : Listed × (ℕ × ℕ)) : Type 0 where
-  is : Is (entry_of r.0) r.1.0
-  number : r.1.1 ≡ r.0.number
-  below : r.0.number < size
-  order : IsNext place s.1 r.0.number
+pub record IsListed (Is : Entry → ℕ → Type 0) (size place : ℕ) (s : ℕ × ℕ) (r : Listed × (ℕ × ℕ)) : Type 0 where
+  pub is : Is (entry_of r.0) r.1.0
+  pub number : r.1.1 ≡ r.0.number
+  pub below : r.0.number < size
+  pub order : IsNext place s.1 r.0.number
 
-founds_field_entry : (bytes : List ℕ) (size place : ℕ) (s : ℕ × ℕ) → Founds (IsListed (IsFieldEntry bytes s.1 s.0) size place s) (field_entry_at bytes size place s)
+pub founds_field_entry : (bytes : List ℕ) (size place : ℕ) (s : ℕ × ℕ) → Founds (IsListed (IsFieldEntry bytes s.1 s.0) size place s) (field_entry_at bytes size place s)
 unfolding field_entry_at
 founds_field_entry bytes size place s = weaker (field_entry_at bytes size place s)
     (next (founds_step bytes size s.1 s.0) (λ number _. next (known (finds_number bytes number.1)) (λ flags _. next (founds_order place s.1 number.0) (λ order _. done (record { number = number.0; flags = record { 0 = flags.0 }; code = 0 }, (flags.1, number.0))))))
@@ -60,7 +60,7 @@ founds_field_entry bytes size place s = weaker (field_entry_at bytes size place 
       order = p.2.2.1;
     }))
 
-founds_method_entry : (bytes : List ℕ) (size place : ℕ) (s : ℕ × ℕ) → Founds (IsListed (IsMethodEntry bytes s.1 s.0) size place s) (method_entry_at bytes size place s)
+pub founds_method_entry : (bytes : List ℕ) (size place : ℕ) (s : ℕ × ℕ) → Founds (IsListed (IsMethodEntry bytes s.1 s.0) size place s) (method_entry_at bytes size place s)
 unfolding method_entry_at
 founds_method_entry bytes size place s = weaker (method_entry_at bytes size place s)
     (next (founds_step bytes size s.1 s.0) (λ number _. next (known (finds_number bytes number.1)) (λ flags _. next (known (finds_number bytes flags.1)) (λ code _. next (founds_order place s.1 number.0) (λ order _. done (record { number = number.0; flags = record { 0 = flags.0 }; code = code.0 }, (code.1, number.0)))))))
@@ -73,29 +73,29 @@ founds_method_entry bytes size place s = weaker (method_entry_at bytes size plac
 
 -- ---- the four lists
 
-abbrev OfField : List ℕ → Program → Owner → Bool → List Listed → ℕ → ℕ × ℕ → Listed × (ℕ × ℕ) → Type 0
+abbrev pub OfField : List ℕ → Program → Owner → Bool → List Listed → ℕ → ℕ × ℕ → Listed × (ℕ × ℕ) → Type 0
 OfField bytes p owner static earlier place s r = IsListed (IsFieldEntry bytes s.1 s.0) (sizes_in p).fields place s r × (field_suits p owner.kind static earlier r.0 ≡ true)
 
-abbrev OfMethod : List ℕ → Program → Owner → Bool → List Listed → ℕ → ℕ × ℕ → Listed × (ℕ × ℕ) → Type 0
+abbrev pub OfMethod : List ℕ → Program → Owner → Bool → List Listed → ℕ → ℕ × ℕ → Listed × (ℕ × ℕ) → Type 0
 OfMethod bytes p owner direct earlier place s r = IsListed (IsMethodEntry bytes s.1 s.0) (sizes_in p).methods place s r × (method_suits p owner.kind direct earlier r.0 ≡ true)
 
-founds_field : (bytes : List ℕ) (p : Program) (owner : Owner) (static : Bool) (earlier : List Listed) (place : ℕ) (s : ℕ × ℕ) → Founds (OfField bytes p owner static earlier place s) (field_at bytes p owner static earlier place s)
+pub founds_field : (bytes : List ℕ) (p : Program) (owner : Owner) (static : Bool) (earlier : List Listed) (place : ℕ) (s : ℕ × ℕ) → Founds (OfField bytes p owner static earlier place s) (field_at bytes p owner static earlier place s)
 unfolding field_at
 founds_field bytes p owner static earlier place s = weaker (field_at bytes p owner static earlier place s)
     (next (founds_field_entry bytes (sizes_in p).fields place s) (λ e _. when _ (done e)))
     (λ y q. rw q.2.1 (q.1, q.2.0))
 
-founds_method : (bytes : List ℕ) (p : Program) (owner : Owner) (direct : Bool) (earlier : List Listed) (place : ℕ) (s : ℕ × ℕ) → Founds (OfMethod bytes p owner direct earlier place s) (method_at bytes p owner direct earlier place s)
+pub founds_method : (bytes : List ℕ) (p : Program) (owner : Owner) (direct : Bool) (earlier : List Listed) (place : ℕ) (s : ℕ × ℕ) → Founds (OfMethod bytes p owner direct earlier place s) (method_at bytes p owner direct earlier place s)
 unfolding method_at
 founds_method bytes p owner direct earlier place s = weaker (method_at bytes p owner direct earlier place s)
     (next (founds_method_entry bytes (sizes_in p).methods place s) (λ e _. when _ (done e)))
     (λ y q. rw q.2.1 (q.1, q.2.0))
 
 -- entries one behind another, as the definitions have them
-record AreListed (Is : ℕ → ℕ → Entry → ℕ → Type 0) (Suits : Listed → Type 0) (from before at : ℕ) (xs : List Listed) (stop : ℕ) : Type 0 where
-  entries : EntriesTo Is before at (map entry_of xs) stop
-  suit : AllByRecursion Suits xs
-  rise : Rises from before xs
+pub record AreListed (Is : ℕ → ℕ → Entry → ℕ → Type 0) (Suits : Listed → Type 0) (from before at : ℕ) (xs : List Listed) (stop : ℕ) : Type 0 where
+  pub entries : EntriesTo Is before at (map entry_of xs) stop
+  pub suit : AllByRecursion Suits xs
+  pub rise : Rises from before xs
 
 listed : (Is : ℕ → ℕ → Entry → ℕ → Type 0) (size : ℕ) (Suits : Listed → Type 0) (from : ℕ) (s : ℕ × ℕ) (xs : List Listed) (stop : ℕ × ℕ)
     → RunOf (λ place s r. IsListed (Is s.1 s.0) size place s r × Suits r.0) from s xs stop → AreListed Is (λ e. (e.number < size) × Suits e) from s.1 s.0 xs stop.0
@@ -105,17 +105,17 @@ listed Is size Suits from s (x ∷ xs) stop h =
     = subst (λ n. AreListed Is (λ e. (e.number < size) × Suits e) (suc from) n h.0.0 xs stop.0) h.1.0.number (listed Is size Suits (suc from) h.0 xs stop h.2) in
     record { entries = (h.0.0, h.1.0.is, rest.entries); suit = ((h.1.0.below, h.1.1), rest.suit); rise = (h.1.0.order, rest.rise) }
 
-record IsList (Is : ℕ → ℕ → Entry → ℕ → Type 0) (Suits : Listed → Type 0) (count at : ℕ) (r : List Listed × (ℕ × ℕ)) : Type 0 where
-  many : length (map entry_of r.0) ≡ count
-  are : AreListed Is Suits 0 0 at r.0 r.1.0
+pub record IsList (Is : ℕ → ℕ → Entry → ℕ → Type 0) (Suits : Listed → Type 0) (count at : ℕ) (r : List Listed × (ℕ × ℕ)) : Type 0 where
+  pub many : length (map entry_of r.0) ≡ count
+  pub are : AreListed Is Suits 0 0 at r.0 r.1.0
 
-founds_fields : (bytes : List ℕ) (p : Program) (owner : Owner) (static : Bool) (earlier : List Listed) (count at : ℕ)
+pub founds_fields : (bytes : List ℕ) (p : Program) (owner : Owner) (static : Bool) (earlier : List Listed) (count at : ℕ)
     → Founds (IsList (IsFieldEntry bytes) (FieldSuits p owner static earlier) count at) (fields_at bytes p owner static earlier count at)
 founds_fields bytes p owner static earlier count at = weaker (fields_at bytes p owner static earlier count at)
     (founds_run (OfField bytes p owner static earlier) (field_at bytes p owner static earlier) (founds_field bytes p owner static earlier) 0 count (at, 0))
     (λ y q. record { many = length-map y.0 entry_of ∙ q.0; are = listed (IsFieldEntry bytes) (sizes_in p).fields (λ e. field_suits p owner.kind static earlier e ≡ true) 0 (at, 0) y.0 y.1 q.1 })
 
-founds_methods : (bytes : List ℕ) (p : Program) (owner : Owner) (direct : Bool) (earlier : List Listed) (count at : ℕ)
+pub founds_methods : (bytes : List ℕ) (p : Program) (owner : Owner) (direct : Bool) (earlier : List Listed) (count at : ℕ)
     → Founds (IsList (IsMethodEntry bytes) (MethodSuits p owner direct earlier) count at) (methods_at bytes p owner direct earlier count at)
 founds_methods bytes p owner direct earlier count at = weaker (methods_at bytes p owner direct earlier count at)
     (founds_run (OfMethod bytes p owner direct earlier) (method_at bytes p owner direct earlier) (founds_method bytes p owner direct earlier) 0 count (at, 0))

@@ -1,6 +1,6 @@
 -- What is left of a program that was read names, in its annotations, strings of the part of its table that was read.
 use Rattle.std.proofs.Common.{◌≡◌, ℕ, zero, suc, Bool, true, false, List, [], ◌∷◌, length, refl, sym, ap, subst, ◌∙◌, Option, Some, Ok}
-use Rattle.std.specs.Prelude.{slice_get, take}
+use Rattle.std.specs.Prelude.{◌<◌, slice_get, slice_index, take}
 use Rattle.std.specs.List.{AllByRecursion}
 use Rattle.lemmas.proofs.Options.{some_same}
 use Rattle.program_model.specs.ProgramRules.{is_well_formed}
@@ -26,6 +26,8 @@ use Rattle.class_defs.specs.ClassGraph.{IsTwice, IsAncestor}
 use Rattle.dex_write.specs.Written as writer
 use Rattle.dex_defs.specs.LaysOut.{LaysOut}
 use Rattle.dex_defs.specs.Written.{written_by}
+use Rattle.spelled_law.proofs.OnceFile.{spells_once}
+use Rattle.spelled_law.proofs.Whole.{read_is_spelled}
 use Rattle.stay_law.specs.Stays.{Stands, NoMoreRegisters, FewRegisters}
 use Rattle.headline.specs.Headline.{StaysFor, IsSpelled}
 
@@ -80,11 +82,14 @@ names_rise_for false bytes p q admitted reads formed s = names_rise bytes p q No
 names_rise_for true bytes p q admitted reads formed s = names_rise bytes p q FewRegisters admitted reads formed s
 
 -- what is written for a program in whose annotations names rise
-pub is_spelled : (p : Program) (bytes : List ℕ) (w : writer.IsWritten p bytes) → is_well_formed p ≡ true → ((class : ℕ) → IsTwice p class → ⊥) → ((class : ℕ) → IsAncestor p class class → ⊥) → NamesRise p → LaysOut (written_by w.interner p) → IsSpelled p bytes
-is_spelled p bytes w formed once grounded rise lays = record {
+pub is_spelled : (p : Program) (bytes : List ℕ) (w : writer.IsWritten p bytes) → is_well_formed p ≡ true → ((class : ℕ) → IsTwice p class → ⊥) → ((class : ℕ) → IsAncestor p class class → ⊥) → NamesRise p → LaysOut (written_by w.interner p)
+    → ((i : ℕ) → slice_index bytes i < 256) → IsSpelled p bytes
+is_spelled p bytes w formed once grounded rise lays small = record {
   spelled = written_by w.interner p;
   is = record { interner = w.interner; used = w.interned; is = refl };
   valid = (written_is_valid p bytes w formed once grounded rise lays).valid;
+  only = λ other spells. spells_once bytes other (written_by w.interner p) small spells (written_is_valid p bytes w formed once grounded rise lays).valid.spelled;
+  again = λ other reads. spells_once bytes other (written_by w.interner p) small (read_is_spelled bytes other small reads) (written_is_valid p bytes w formed once grounded rise lays).valid.spelled;
   signed = w.sealed.signature;
   shows = written_shows p w.interner w.places formed once grounded w.interned w.ordered;
 }

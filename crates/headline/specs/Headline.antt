@@ -93,11 +93,13 @@ pub record KeepsMeaning (inline : Bool) (voices : List Voice) (given : List Bool
   pub stays : StaysFor inline admitted program left
 
 -- The written program of what is left has the entries that are used, in order, and the classes, each behind those above it. The output is
--- a valid file that spells it, and signed. Within each number of steps it shows what is left, whatever may be reached from outside.
+-- a valid file that spells it and no other program, and signed; what is read of the output is this program again. Within each number of steps it shows what is left, whatever may be reached from outside.
 pub record IsSpelled (left : Program) (output : List ℕ) : Type 0 where
   pub spelled : Program
   pub is : meant.IsWritten left spelled
   pub valid : IsValidFor output spelled
+  pub only : (other : Program) → dex.Spells output other → other ≡ spelled
+  pub again : (other : Program) → program_at output ≡ Ok other → other ≡ spelled
   pub signed : IsSigned output
   pub shows : (o : Outer) (f : Framework) (a : Floats) (script : List Move) (n : ℕ) → shows (named spelled) o f a script n ≡ shows (named left) o f a script n
 

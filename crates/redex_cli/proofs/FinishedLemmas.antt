@@ -54,14 +54,15 @@ leaves_inlined inline voices news given answers program outside left rounds spar
 
 pub shrunk : (inline : Bool) (voices : List Voice) (given : List Bool) (program : Program) (outside : Outside) (before after : Sizes) (left : Program) (rounds spared : ℕ) (output summary : List ℕ)
     → LeavesBy inline voices given program outside left rounds spared
-    → IsWritten left output → after ≡ sizes_in left (length output) → summary ≡ summary_text before after rounds spared → 1 ≤ rounds
+    → IsWritten left output → ((i : ℕ) → slice_index output i < 256) → after ≡ sizes_in left (length output) → summary ≡ summary_text before after rounds spared → 1 ≤ rounds
     → Shrunk inline voices given program outside before output summary
-shrunk inline voices given program outside before after left rounds spared output summary leaves written sizes says one_round = record {
+shrunk inline voices given program outside before after left rounds spared output summary leaves written bytes sizes says one_round = record {
   left = left;
   rounds = rounds;
   spared = spared;
   leaves = leaves;
   written = written;
+  are_bytes = bytes;
   says = subst (λ (sizes : Sizes). summary ≡ summary_text before sizes rounds spared) sizes says;
   one_round = one_round;
 }

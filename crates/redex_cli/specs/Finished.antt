@@ -89,14 +89,15 @@ abbrev pub LeavesBy : Bool → List Voice → List Bool → Program → Outside 
 LeavesBy false voices given program outside left rounds spared = Leaves voices given program outside left rounds spared
 LeavesBy true voices given program outside left rounds spared = LeavesInlined voices given program outside left rounds spared
 
--- The output is the file that is written for what is left of the program by this table, when such advisers are asked, and the summary
--- counts the program, whose sizes are these, what is left, its file, the rounds and the spared methods.
+-- The output is the file that is written for what is left of the program by this table, in bytes, when such advisers are asked, and the
+-- summary counts the program, whose sizes are these, what is left, its file, the rounds and the spared methods.
 pub record Shrunk (inline : Bool) (voices : List Voice) (given : List Bool) (program : Program) (outside : Outside) (before : Sizes) (output summary : List ℕ) : Type 0 where
   pub left : Program
   pub rounds : ℕ
   pub spared : ℕ
   pub leaves : LeavesBy inline voices given program outside left rounds spared
   pub written : IsWritten left output
+  pub are_bytes : (i : ℕ) → slice_index output i < 256
   pub says : summary ≡ summary_text before (sizes_in left (length output)) rounds spared
   pub one_round : 1 ≤ rounds
 

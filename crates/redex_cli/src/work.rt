@@ -342,6 +342,13 @@ fn left_of(
     }
 }
 
+/// Reads bytes, which so are known to be ones. It does nothing else.
+fn read_bytes(bytes: &[u8])
+    ensures { (i : ℕ) → slice_index bytes.now i < 256 }
+{
+    let _bytes = bytes;
+}
+
 /// Optimises a program, writes what is left and sums up.
 #[tactic(auto, using(crate::proofs::FinishedLemmas::shrunk))]
 fn optimise_program(
@@ -359,6 +366,7 @@ fn optimise_program(
 {
     let outcome = left_of(alloc, program, outside, inline, panel)?;
     let bytes = write_dex(alloc, &outcome.program)?;
+    read_bytes(&bytes);
     let after = sizes_of(&outcome.program, bytes.len());
     let summary = summary(alloc, before, after, outcome.rounds, outcome.spared)?;
     Ok(Optimised { bytes, summary })

@@ -37,27 +37,27 @@ abbrev entry_made : ℕ → ℕ → ℕ → Entry
 entry_made number flags code = record { number = number; flags = flags; code = code }
 
 -- an entry and the place behind it
-record Same (e f : Entry) (m n : ℕ) : Type 0 where
-  entry : e ≡ f
-  place : m ≡ n
+pub record Same (e f : Entry) (m n : ℕ) : Type 0 where
+  pub entry : e ≡ f
+  pub place : m ≡ n
 
-field_once : (bytes : List ℕ) (before at at' : ℕ) (e f : Entry) (m n : ℕ) → at ≡ at' → IsFieldEntry bytes before at e m → IsFieldEntry bytes before at' f n → Same e f m n
+pub field_once : (bytes : List ℕ) (before at at' : ℕ) (e f : Entry) (m n : ℕ) → at ≡ at' → IsFieldEntry bytes before at e m → IsFieldEntry bytes before at' f n → Same e f m n
 field_once bytes before at at' e f m n same a b =
     let step = uleb_parts bytes at at' a.step b.step a.mid b.mid same a.is_step b.is_step in
     let flags = uleb_parts bytes a.mid b.mid e.flags f.flags m n step.1 a.flags b.flags in
     record { entry = three entry_made (a.number ∙ ap (λ (k : ℕ). before + k) step.0 ∙ sym b.number) flags.0 (a.code ∙ sym b.code); place = flags.1 }
 
-method_once : (bytes : List ℕ) (before at at' : ℕ) (e f : Entry) (m n : ℕ) → at ≡ at' → IsMethodEntry bytes before at e m → IsMethodEntry bytes before at' f n → Same e f m n
+pub method_once : (bytes : List ℕ) (before at at' : ℕ) (e f : Entry) (m n : ℕ) → at ≡ at' → IsMethodEntry bytes before at e m → IsMethodEntry bytes before at' f n → Same e f m n
 method_once bytes before at at' e f m n same a b =
     let step = uleb_parts bytes at at' a.step b.step a.mid b.mid same a.is_step b.is_step in
     let flags = uleb_parts bytes a.mid b.mid e.flags f.flags a.next b.next step.1 a.flags b.flags in
     let code = uleb_parts bytes a.next b.next e.code f.code m n flags.1 a.code b.code in
     record { entry = three entry_made (a.number ∙ ap (λ (k : ℕ). before + k) step.0 ∙ sym b.number) flags.0 code.0; place = code.1 }
 
-abbrev Once : (ℕ → ℕ → Entry → ℕ → Type 0) → Type 0
+abbrev pub Once : (ℕ → ℕ → Entry → ℕ → Type 0) → Type 0
 Once Is = (before at at' : ℕ) (e f : Entry) (m n : ℕ) → at ≡ at' → Is before at e m → Is before at' f n → Same e f m n
 
-entries_once : (Is : ℕ → ℕ → Entry → ℕ → Type 0) → Once Is → (before before' at at' : ℕ) → before ≡ before' → at ≡ at' → (es fs : List Entry) (stop end : ℕ) → length es ≡ length fs
+pub entries_once : (Is : ℕ → ℕ → Entry → ℕ → Type 0) → Once Is → (before before' at at' : ℕ) → before ≡ before' → at ≡ at' → (es fs : List Entry) (stop end : ℕ) → length es ≡ length fs
     → EntriesTo Is before at es stop → EntriesTo Is before' at' fs end → (es ≡ fs) × (stop ≡ end)
 entries_once Is once before before' at at' behind same [] [] stop end l a b = (refl, a ∙ same ∙ sym b)
 entries_once Is once before before' at at' behind same [] (f ∷ fs) stop end l a b = absurd cc

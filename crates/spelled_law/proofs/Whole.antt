@@ -46,12 +46,12 @@ module _ (bytes : List ℕ) (few : length bytes < 2 ^ 32) (p : Program) (cs : Li
       empty : count ≡ 0 → AreIn count offset []
       empty none = record { inside = λ some. absurd (omega (arith, some, none)); entries = (sym none, tt) }
 
-  record AreClasses (read : List Class) : Type 0 where
-    table : Extent
-    stands : IsExtent bytes 96 32 table
-    classes : Entries table.size (IsIn table.offset) read
+  pub record AreClasses (read : List Class) : Type 0 where
+    pub table : Extent
+    pub stands : IsExtent bytes 96 32 table
+    pub classes : Entries table.size (IsIn table.offset) read
 
-  founds_classes : (left : Budget) → Founds AreClasses (classes_at bytes p left)
+  pub founds_classes : (left : Budget) → Founds AreClasses (classes_at bytes p left)
   unfolding classes_at
   founds_classes left = weaker (classes_at bytes p left)
       (next (known (finds_word bytes 96)) (λ count _. next (known (finds_word bytes 100)) (λ offset _. next (founds_table count offset left) (λ classes _. done classes.0))))
@@ -62,7 +62,7 @@ module _ (bytes : List ℕ) (few : length bytes < 2 ^ 32) (p : Program) (cs : Li
       }))
 
 -- the header says how long the file is
-few_bytes : (bytes : List ℕ) (version : Version) → AreBytes bytes → IsHeader bytes version → length bytes < 2 ^ 32
+pub few_bytes : (bytes : List ℕ) (version : Version) → AreBytes bytes → IsHeader bytes version → length bytes < 2 ^ 32
 few_bytes bytes version are h = word_below bytes are 32 (length bytes) h.file_size
 
 spelled : (bytes : List ℕ) (version : Version) (pools : Pools) (cs : List Class) (left : Budget) → AreBytes bytes → IsHeader bytes version → SpellsPools bytes 16777216 pools

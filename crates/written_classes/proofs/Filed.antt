@@ -1,5 +1,5 @@
 -- What is written is valid where its code, its annotations and its first values are spelled.
-use Rattle.std.proofs.Common.{◌≡◌, ◌<◌, ◌≤◌, ◌+◌, ◌*◌, ◌^◌, ℕ, List, [], ◌++◌, length, map, refl, sym, ap, ◌∙◌, subst, arith}
+use Rattle.std.proofs.Common.{◌≡◌, ◌<◌, ◌+◌, ◌*◌, ◌^◌, ℕ, List, length, map, sym, ap, ◌∙◌, subst, arith}
 use Rattle.std.specs.Prelude.{nat_eq, slice_get, Some, true}
 use Rattle.std.specs.List.{flat_map, AllByRecursion, list_any}
 use Rattle.dex_base.specs.Decides.{Each}
@@ -10,17 +10,16 @@ use Rattle.program_model.specs.declared.program.Class.{Class}
 use Rattle.program_model.specs.declared.program.Program.{Program}
 use Rattle.program_model.specs.ProgramRules.{is_well_formed}
 use Rattle.class_defs.specs.ClassGraph.{IsTwice, IsAncestor}
-use Rattle.dex_write.specs.declared.tables.ClassOffsets.{ClassOffsets}
 use Rattle.dex_write.specs.Numbers.{words}
 use Rattle.dex_write.specs.File.{data_at, IsSealed}
-use Rattle.dex_write.specs.Places.{counts_of, front_of, back_of, parts_in, file_for}
+use Rattle.dex_write.specs.Places.{counts_of, front_of, back_of, file_for}
 use Rattle.dex_write.specs.Sets.{set_counts, ref_counts, parameter_offsets, directory_texts, marks_of, mark_starts}
 use Rattle.dex_write.specs.Data.{data_texts, array_text}
 use Rattle.dex_write.specs.Order.{classes_at, IsOrder}
 use Rattle.dex_write.specs.Plans.{Plan}
 use Rattle.dex_write.specs.Codes.{parts_of}
 use Rattle.dex_write.specs.Lists.{list_starts, list_text, type_lists, classes_use}
-use Rattle.dex_write.specs.Tables.{pair, class_words}
+use Rattle.dex_write.specs.Tables.{class_words}
 use Rattle.dex_write.specs.Written.{ArePlans}
 use Rattle.dex_write.specs.Written as writer
 use Rattle.dex_defs.specs.Here.{Here}
@@ -48,7 +47,6 @@ use Rattle.write_laws.proofs.Coded.{plans_fit}
 use Rattle.write_laws.proofs.Defs.{defs_stand}
 use Rattle.write_laws.proofs.Whole.{file_placed, file_lies, strings_length}
 use Rattle.write_laws.proofs.Slice.{file_leads, tables_are, parameters_long, lie_few}
-use Rattle.write_laws.proofs.Pools.{proto_rows}
 use Rattle.write_laws.proofs.Written.{counts_written}
 use Rattle.write_laws.proofs.Last.{written_is_valid}
 use Rattle.write_laws.proofs.Ordering.{orders_in}

@@ -1,7 +1,7 @@
 -- The first values of the written file are spelled where they are named.
-use Rattle.std.proofs.Common.{◌≡◌, ◌≤◌, ◌<◌, ◌^◌, inl, inr, ℕ, zero, suc, Bool, true, false, List, [], ◌∷◌, ◌++◌, length, map, take, drop, refl, sym, ap, subst, ◌∙◌, arith, length-append, Option, Some, None, pos}
+use Rattle.std.proofs.Common.{◌≡◌, ◌<◌, ◌^◌, inl, inr, ℕ, zero, suc, Bool, true, false, List, [], ◌∷◌, length, map, take, drop, refl, sym, ap, subst, ◌∙◌, arith, length-append, Option, Some, None, pos}
 use Rattle.std.specs.Prelude.{slice_get, min, ◌&&◌, ◌==◌, if◌then◌else◌}
-use Rattle.std.specs.List.{flat_map, list_all, AllByRecursion}
+use Rattle.std.specs.List.{flat_map, AllByRecursion}
 use Rattle.std.proofs.lemmas.Bool.{and_parts}
 use Rattle.std.proofs.lemmas.List.{length-map}
 use Rattle.lemmas.proofs.Lists.{all_at}
@@ -35,7 +35,6 @@ use Rattle.dex_write.specs.Plans.{Plan, Numbered}
 use Rattle.dex_write.specs.Codes.{codes_behind, lines_behind}
 use Rattle.dex_write.specs.Sets.{behind_class}
 use Rattle.dex_write.specs.Data.{first_count, zero_of, value_or}
-use Rattle.dex_defs.specs.Here.{Here}
 use Rattle.dex_defs.specs.Arranged.{Both}
 use Rattle.dex_defs.specs.Values.{AreValuesOf}
 use Rattle.dex_defs.specs.ValueTexts as texts

@@ -16,7 +16,6 @@ use Rattle.dex_write.specs.Plans.{Plan}
 use Rattle.dex_write.specs.Written.{ArePlans}
 use Rattle.dex_write.specs.Written as writer
 use Rattle.dex_defs.specs.Arranged.{Both}
-use Rattle.dex_defs.specs.Spells.{sizes_in}
 use Rattle.dex_defs.specs.ValueTexts as texts
 use Rattle.dex_defs.specs.Written.{written_by}
 use Rattle.names_law.specs.Used.{IsShort}
@@ -34,7 +33,7 @@ use Rattle.written_tables.proofs.Texts.{texts_fit}
 use Rattle.written_order.specs.Rises.{NamesRise}
 use Rattle.written_values.specs.Wide.{HasWideValues}
 use Rattle.written_classes.specs.Left.{Left, LeftOfCode}
-use Rattle.written_parts.specs.Parts.{first_values, offsets_of, parts_of_file}
+use Rattle.written_parts.specs.Parts.{offsets_of, parts_of_file}
 use Rattle.written_parts.proofs.Small.{values_texts}
 use Rattle.written_sets.proofs.Standing.{Stands, all_stand}
 use Rattle.written_parts.proofs.KindFields.{HasPlan, all_planned, firsts_named}

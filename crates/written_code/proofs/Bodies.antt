@@ -1,7 +1,7 @@
 -- The units of a written body are swept into its instructions and its payloads.
-use Rattle.std.proofs.Common.{◌≡◌, ◌<◌, ◌≤◌, ◌+◌, ◌*◌, ◌-◌, ◌%◌, ◌/◌, ◌^◌, ◌⊎◌, inl, inr, ℕ, zero, suc, ℤ, pos, ◌-ℤ◌, Bool, true, false, List, [], ◌∷◌, ◌++◌, length, map, Option, Some, None, refl, sym, ap, subst, ◌∙◌, arith, append_assoc, append-nil, length-append}
-use Rattle.std.specs.Prelude.{slice_index, slice_get, replicate, not, ◌==◌}
-use Rattle.std.specs.List.{AllByRecursion, flat_map, concat, list_any}
+use Rattle.std.proofs.Common.{◌≡◌, ◌<◌, ◌+◌, ◌-◌, ◌%◌, ◌^◌, ◌⊎◌, inl, inr, ℕ, zero, suc, ℤ, pos, ◌-ℤ◌, true, false, List, [], ◌∷◌, ◌++◌, length, map, Some, refl, sym, ap, subst, ◌∙◌, arith, append_assoc, length-append}
+use Rattle.std.specs.Prelude.{slice_get, replicate, not, ◌==◌}
+use Rattle.std.specs.List.{AllByRecursion, concat, list_any}
 use Rattle.std.proofs.lemmas.List.{length-replicate}
 use Rattle.std.proofs.lemmas.Option.{get_or_from_slice_get}
 use Rattle.lemmas.proofs.Bools.{clash}
@@ -11,22 +11,21 @@ use Rattle.insn_set.specs.Spelling.{is_encodable, shortest}
 use Rattle.insn_set.specs.declared.form.Insn.{Insn}
 use Rattle.insn_set.specs.declared.form.Insn.TheVariants.{Nop, FillArray, Goto, PackedSwitch, SparseSwitch, If, IfZero}
 use Rattle.program_model.specs.declared.pass.Renumber.{Renumber}
-use Rattle.program_model.specs.declared.body.Body.{Body}
 use Rattle.code_read.specs.Opcodes.{format_at}
 use Rattle.relax.specs.Steps.{step_of}
 use Rattle.relax.specs.Sizes.{start, need}
 use Rattle.relax.specs.Far.{spans_far}
 use Rattle.relax.proofs.Starts.{start_mono}
 use Rattle.code_write.specs.Code.{insn_units}
-use Rattle.dex_defs.specs.Sweep.{Piece, Places, instructions, payloads, starts_of, places_of, is_payload, is_nop, PiecesTo, IsSwept}
-use Rattle.dex_defs.specs.Instructions.{opcode, IsInsn, AreInsns}
-use Rattle.dex_defs.specs.CodeTexts.{payload_text, evenly, payloads_text, body_units, distance_of, units_of, IsShortest, AreShortest}
-use Rattle.dex_defs.specs.Written.{new_insn, new_body}
+use Rattle.dex_defs.specs.Sweep.{Piece, Places, instructions, payloads, starts_of, places_of, IsSwept}
+use Rattle.dex_defs.specs.Instructions.{opcode, AreInsns}
+use Rattle.dex_defs.specs.CodeTexts.{payload_text, evenly, payloads_text, distance_of, units_of, AreShortest}
+use Rattle.dex_defs.specs.Written.{new_insn}
 use Rattle.written_code.proofs.Forms.{Spelt, InWidth, NumbersFit, HasRoom, distance}
 use Rattle.written_code.proofs.Spelling.{spelt}
-use Rattle.written_code.proofs.Sweeping.{text_of, Starts, Sized, Fills, Runs, swept, starts_append, all_append, insn_sized, insn_no_payload, insn_no_nop, run_instructions, among}
+use Rattle.written_code.proofs.Sweeping.{text_of, Starts, Sized, Runs, swept, starts_append, all_append, insn_sized, insn_no_payload, insn_no_nop, run_instructions, among}
 use Rattle.written_code.proofs.Tables.{Table, packed_table, sparse_table, fill_table, nop_pieces, payload_piece, payload_pieces, HaveTables, PieceFacts, piece_facts, tables_facts, texts_append}
-use Rattle.written_code.proofs.Standing.{to_of, to_same, payload_same, encodable_same, targets_same, width_same, HasPut, Put, Begins, insn_is, fill_fits, fit_sparse}
+use Rattle.written_code.proofs.Standing.{to_of, to_same, payload_same, encodable_same, targets_same, width_same, HasPut, Begins, insn_is, fill_fits, fit_sparse}
 use Rattle.written_code.proofs.Least.{needs, size_at, AllSome, start_less, GoesIn, need_long}
 
 -- ---- the texts of the instructions

@@ -1,20 +1,18 @@
 -- The registers of calls are read of the units in which they are written.
-use Rattle.std.proofs.Common.{◌≡◌, ◌<◌, ◌≤◌, ◌+◌, ◌*◌, ◌-◌, ◌%◌, ◌/◌, ◌^◌, ℕ, zero, suc, ℤ, pos, ◌-ℤ◌, Bool, true, false, List, [], ◌∷◌, length, take, Option, Some, refl, sym, ap, subst, ◌∙◌, arith, ltb-true, eqb}
-use Rattle.std.specs.Prelude.{slice_index, nat_lt, nat_le, nat_eq, ◌||◌, ◌&&◌, if◌then◌else◌}
+use Rattle.std.proofs.Common.{◌≡◌, ◌<◌, ◌≤◌, ◌+◌, ◌*◌, ◌-◌, ◌%◌, ◌/◌, ◌^◌, ℕ, suc, Bool, true, false, List, [], ◌∷◌, length, take, refl, sym, ap, subst, ◌∙◌, arith, ltb-true}
+use Rattle.std.specs.Prelude.{nat_lt, nat_le, nat_eq, ◌||◌, ◌&&◌, if◌then◌else◌}
 use Rattle.std.specs.List.{AllByRecursion, list_all}
 use Rattle.std.proofs.lemmas.Bool.{and_parts, leb-true, eqb-true}
-use Rattle.insn_set.specs.Spelling.{shortest, shortest_call, fit_nibbles, fit_call, are_adjacent}
-use Rattle.insn_set.specs.declared.format.Format.{Format}
+use Rattle.insn_set.specs.Spelling.{shortest, fit_nibbles, fit_call, are_adjacent}
 use Rattle.insn_set.specs.declared.format.Format.TheVariants.{F35c, F3rc}
 use Rattle.insn_set.specs.declared.form.Insn.{Insn}
 use Rattle.code_read.specs.declared.fields.Fields.{Fields}
-use Rattle.code_read.specs.Fields.{fields, fields_in}
-use Rattle.code_read.specs.Branches.{nibbles_form, registers_from, words_form, call_form, most_words}
-use Rattle.code_write.specs.Fields.{three, call_fields}
-use Rattle.code_write.specs.Units.{byte_unit, nibble_unit, units_in}
-use Rattle.dex_defs.specs.CodeTexts.{units_of}
-use Rattle.written_code.proofs.Fields.{Read, First, first_nibbles, Narrow, back, some_fields, narrow}
-use Rattle.written_code.proofs.Forms.{Form, ACall, Spelt, CallRow, distance}
+use Rattle.code_read.specs.Fields.{fields}
+use Rattle.code_read.specs.Branches.{nibbles_form, registers_from, words_form}
+use Rattle.code_write.specs.Fields.{call_fields}
+use Rattle.code_write.specs.Units.{nibble_unit, units_in}
+use Rattle.written_code.proofs.Fields.{Read, First, first_nibbles, back, some_fields, narrow}
+use Rattle.written_code.proofs.Forms.{ACall, Spelt, CallRow, distance}
 
 -- ---- four bits each
 

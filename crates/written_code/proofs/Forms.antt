@@ -1,16 +1,10 @@
 -- Each instruction is read of the units in which it is written.
-use Rattle.std.proofs.Common.{◌≡◌, ◌<◌, ◌≤◌, ◌+◌, ◌*◌, ◌-◌, ◌%◌, ◌/◌, ◌^◌, ℕ, zero, suc, ℤ, pos, negsuc, ◌-ℤ◌, Bool, true, false, List, [], ◌∷◌, length, take, Option, Some, refl, sym, ap, subst, ◌∙◌, arith, ltb-true, ltb-false}
-use Rattle.std.specs.Prelude.{FitsSigned, slice_index, nat_lt, nat_le, nat_eq, ◌||◌, ◌&&◌, ◌==◌, if◌then◌else◌}
-use Rattle.std.specs.Ordering.{int_eq}
-use Rattle.std.specs.Int.{w16, w32, w64, cast_unsigned, cast_signed}
-use Rattle.std.specs.List.{AllByRecursion, list_all, zip}
-use Rattle.std.proofs.lemmas.Bool.{and_parts, or_parts, leb-true, eqb-true}
-use Rattle.std.specs.Cmp.{signed_Decides}
-use Rattle.lemmas.proofs.Bools.{clash}
-use Rattle.insn_set.specs.Formats.{format_units}
-use Rattle.insn_set.specs.Spelling.{shortest, shortest_goto, shortest_move, shortest_const, shortest_wide, shortest_string, shortest_call, shortest_binary, shortest_literal, fits_nibble, fits_byte, fits_short, fits_int, is_multiple, fit_nibbles, fit_call, are_adjacent, takes_short, is_encodable}
+use Rattle.std.proofs.Common.{◌≡◌, ◌<◌, ◌≤◌, ◌+◌, ◌*◌, ◌-◌, ◌%◌, ◌^◌, ℕ, ℤ, pos, ◌-ℤ◌, true, false, List, Some, refl, sym, ◌∙◌, arith}
+use Rattle.std.specs.Prelude.{◌||◌}
+use Rattle.std.specs.Int.{w64, cast_signed}
+use Rattle.insn_set.specs.Spelling.{shortest, takes_short}
 use Rattle.insn_set.specs.declared.format.Format.{Format}
-use Rattle.insn_set.specs.declared.format.Format.TheVariants.{F10x, F12x, F11n, F11x, F10t, F20t, F22x, F21t, F21s, F21h, F21c, F23x, F22b, F22t, F22s, F22c, F30t, F32x, F31i, F31t, F31c, F35c, F3rc, F51l}
+use Rattle.insn_set.specs.declared.format.Format.TheVariants.{F10x, F12x, F11n, F11x, F10t, F20t, F22x, F21t, F21s, F21h, F21c, F23x, F22b, F22t, F22s, F22c, F30t, F32x, F31i, F31c, F35c, F3rc, F51l}
 use Rattle.insn_set.specs.declared.ops.Slot.{Slot}
 use Rattle.insn_set.specs.declared.ops.Slot.TheVariants as slot_
 use Rattle.insn_set.specs.declared.ops.Item.{Item}
@@ -28,10 +22,10 @@ use Rattle.insn_set.specs.declared.ops.BinaryOp.TheVariants as binary_
 use Rattle.insn_set.specs.declared.ops.LiteralOp.{LiteralOp}
 use Rattle.insn_set.specs.declared.ops.LiteralOp.TheVariants as literal_
 use Rattle.insn_set.specs.declared.form.Insn.{Insn}
-use Rattle.insn_set.specs.declared.form.Insn.TheVariants.{Nop, Move, MoveResult, MoveException, ReturnVoid, Return, Const, ConstWide, ConstString, ConstClass, MonitorEnter, MonitorExit, CheckCast, InstanceOf, ArrayLength, NewInstance, NewArray, FilledNewArray, FillArray, Throw, Goto, PackedSwitch, SparseSwitch, Cmp, If, IfZero, ArrayGet, ArrayPut, InstanceGet, InstancePut, StaticGet, StaticPut, Invoke, Unary, Binary, Literal}
+use Rattle.insn_set.specs.declared.form.Insn.TheVariants.{Move, MoveResult, MoveException, ReturnVoid, Return, Const, ConstWide, ConstString, ConstClass, MonitorEnter, MonitorExit, CheckCast, InstanceOf, ArrayLength, NewInstance, NewArray, FilledNewArray, FillArray, Throw, Goto, PackedSwitch, SparseSwitch, Cmp, If, IfZero, ArrayGet, ArrayPut, InstanceGet, InstancePut, StaticGet, StaticPut, Invoke, Unary, Binary, Literal}
 use Rattle.program_model.specs.declared.pass.Renumber.{Renumber}
 use Rattle.code_read.specs.declared.fields.Fields.{Fields}
-use Rattle.code_read.specs.Fields.{fields, fields_in}
+use Rattle.code_read.specs.Fields.{fields}
 use Rattle.code_read.specs.Opcodes.{format_at, unary_at, binary_at}
 use Rattle.code_read.specs.Forms.{nibble, byte, short, word, plain}
 use Rattle.code_read.specs.Branches.{is_branch, is_call, offset_form, branch_form, nibbles_form, registers_from, words_form, most_words, call_form}
@@ -40,15 +34,10 @@ use Rattle.relax.specs.Steps.{renumbered as old_number}
 use Rattle.dex_pools.specs.Written.{renumbered}
 use Rattle.relax.specs.Far.{spans_far}
 use Rattle.code_write.specs.Places.{slot_place, item_place, cmp_place, test_place, kind_place, unary_place, binary_place, literal_place}
-use Rattle.code_write.specs.Opcodes.{opcode_of}
-use Rattle.code_write.specs.Fields.{three, call_fields, fields_of}
-use Rattle.code_write.specs.Units.{byte_unit, nibble_unit, units_in}
-use Rattle.code_write.specs.Code.{far_of, format_of, insn_units}
-use Rattle.dex_defs.specs.CodeTexts.{units_of}
-use Rattle.dex_defs.specs.Written.{new_string, new_type, new_field, new_method, new_insn}
+use Rattle.code_write.specs.Fields.{three}
+use Rattle.code_write.specs.Units.{units_in}
 pub use Rattle.widths.specs.Code.{InWidth}
-use Rattle.written_code.proofs.Signed.{Near, near_byte, near_short, near_int, near_nibble, near_word, near_long, near_half, few_bits, long_bits, nibble_back, short_back, word_back, high_back, wide_short, wide_word, wide_high, long_back, half_back, low_back, far_few, far_word, far_short, far_byte, near_spans, zero_near}
-use Rattle.written_code.proofs.Fields.{Read, First, first_byte, first_nibbles, Narrow, back, some_fields, narrow, read_nop}
+use Rattle.written_code.proofs.Fields.{Read, Narrow, back, narrow}
 
 -- ---- what an instruction is
 

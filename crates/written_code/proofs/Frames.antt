@@ -1,11 +1,10 @@
 -- A code item stands wherever its text does.
-use Rattle.std.proofs.Common.{◌≡◌, ◌<◌, ◌≤◌, ◌+◌, ◌*◌, ◌-◌, ◌%◌, ◌/◌, ◌^◌, ◌⊎◌, inl, inr, ℕ, zero, suc, min, ℤ, pos, negsuc, ◌-ℤ◌, Bool, true, false, List, [], ◌∷◌, ◌++◌, length, map, Option, Some, None, refl, sym, ap, subst, ◌∙◌, arith, append_assoc, append-nil, length-append}
-use Rattle.std.specs.Prelude.{FitsSigned, replicate, slice_get, nat_lt, ◌&&◌, ◌==◌, if◌then◌else◌}
+use Rattle.std.proofs.Common.{◌≡◌, ◌<◌, ◌≤◌, ◌+◌, ◌*◌, ◌-◌, ◌%◌, ◌/◌, ◌^◌, inl, inr, ℕ, zero, suc, ℤ, pos, ◌-ℤ◌, Bool, true, List, [], ◌∷◌, ◌++◌, length, map, refl, sym, ap, subst, ◌∙◌, arith, length-append}
+use Rattle.std.specs.Prelude.{FitsSigned, replicate, nat_lt, ◌&&◌, ◌==◌, if◌then◌else◌}
 use Rattle.std.specs.Int.{w16, w32, cast_unsigned, to_le_bytes}
 use Rattle.std.specs.List.{AllByRecursion, flat_map, concat}
 use Rattle.std.proofs.lemmas.Bool.{lt-ltb, le-ltb, eq-eqb, ne_eqb}
-use Rattle.std.proofs.lemmas.List.Concat.{flat_map-append}
-use Rattle.dex_base.specs.Decides.{Each, Entries}
+use Rattle.dex_base.specs.Decides.{Each}
 use Rattle.dex_base.specs.Word.{Is16, Is32}
 use Rattle.insn_set.specs.Flow.{targets_of}
 use Rattle.insn_set.specs.Spelling.{is_encodable}
@@ -18,8 +17,8 @@ use Rattle.relax.specs.Steps.{step_of}
 use Rattle.relax.specs.Sizes.{start}
 use Rattle.relax.proofs.Starts.{start_mono}
 use Rattle.dex_defs.specs.Here.{Here}
-use Rattle.dex_defs.specs.Sweep.{Piece, Places, instructions, places_of}
-use Rattle.dex_defs.specs.Handlers.{Try, IsTry, covering, AreRegions}
+use Rattle.dex_defs.specs.Sweep.{Places, places_of}
+use Rattle.dex_defs.specs.Handlers.{IsTry, covering, AreRegions}
 use Rattle.dex_defs.specs.CodeItems.{Frame, IsFrame, AreUnits, gap_of, tries_at, lists_at, IsCode}
 use Rattle.dex_defs.specs.LaysOut.{written_lists}
 use Rattle.dex_defs.specs.CodeTexts.{two_units, signed_units, target_units, units_from, payload_text, evenly, payloads_text, body_units, most_passed, frame_units, gap_units, covered, lists_text, list_offset, try_units, tries_text, code_text}
@@ -27,11 +26,11 @@ use Rattle.dex_defs.specs.Written.{new_insn, new_region, new_body}
 use Rattle.write_laws.proofs.Here.{here_left, here_right, here_is, here_same, here_32}
 use Rattle.write_laws.proofs.Numbers.{here_16}
 use Rattle.written_code.proofs.Signed.{Lies, Ahead, Behind, lies, few_bits, near_word}
-use Rattle.written_code.proofs.Forms.{Spelt, InWidth}
+use Rattle.written_code.proofs.Forms.{InWidth}
 use Rattle.written_code.proofs.Tables.{units_low, bytes_low, item_bytes, IsOneOf, one_of}
 use Rattle.written_code.proofs.Standing.{fill_fits}
 use Rattle.written_code.proofs.Least.{needs, AllSome}
-use Rattle.written_code.proofs.Bodies.{next_unit, text_at, insn_texts, Fine, AllFine, AllSpelt, all_spelt, texts_long, LastStops, Swept, body_swept, payloads_same, start_low}
+use Rattle.written_code.proofs.Bodies.{next_unit, text_at, insn_texts, AllFine, AllSpelt, all_spelt, texts_long, LastStops, Swept, body_swept, payloads_same, start_low}
 use Rattle.written_code.proofs.Units.{bytes_append, bytes_twice, packed_few, sparse_few, fill_parts}
 use Rattle.code_write.specs.Units.{unit_bytes}
 use Rattle.written_code.proofs.Handlers.{FitRegion, try_of, regions_are}

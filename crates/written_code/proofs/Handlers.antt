@@ -1,13 +1,13 @@
 -- The handlers of each region stand where its try item says.
-use Rattle.std.proofs.Common.{◌≡◌, ◌<◌, ◌≤◌, ◌+◌, ◌*◌, ◌-◌, ◌^◌, ◌⊎◌, inl, inr, ℕ, zero, suc, min, ℤ, pos, negsuc, Bool, true, false, List, [], ◌∷◌, ◌++◌, length, map, Option, Some, None, refl, sym, ap, subst, ◌∙◌, arith, append_assoc, append-nil, length-append, ltb-true}
-use Rattle.std.specs.Prelude.{FitsSigned, slice_get, is_some, nat_lt, nat_le, nat_eq, not, ◌&&◌, ◌||◌, if◌then◌else◌}
-use Rattle.std.specs.Int.{w16, w32}
+use Rattle.std.proofs.Common.{◌≡◌, ◌<◌, ◌≤◌, ◌+◌, ◌-◌, ◌^◌, ◌⊎◌, inl, inr, ℕ, zero, suc, ℤ, pos, Bool, true, false, List, [], ◌∷◌, ◌++◌, length, map, Option, Some, None, refl, sym, ap, subst, ◌∙◌, arith, append_assoc, length-append}
+use Rattle.std.specs.Prelude.{FitsSigned, slice_get, is_some, nat_lt, nat_eq, not, ◌||◌, if◌then◌else◌}
+use Rattle.std.specs.Int.{w32}
 use Rattle.std.specs.List.{AllByRecursion, flat_map, concat, list_any}
 use Rattle.std.specs.Option.{option_map}
 use Rattle.std.specs.Cmp.Lexicographic.{bytes_decides}
-use Rattle.std.proofs.lemmas.Bool.{cases_lt, lt-ltb, le-ltb}
+use Rattle.std.proofs.lemmas.Bool.{lt-ltb, le-ltb}
 use Rattle.lemmas.proofs.Bools.{clash, or_cases}
-use Rattle.dex_base.specs.Decides.{ChainOf, Each}
+use Rattle.dex_base.specs.Decides.{ChainOf}
 use Rattle.dex_base.specs.Leb.{IsUlebAt, IsSlebAt, uleb_text, sleb_text}
 use Rattle.dex_base.proofs.Written.{sleb_spelled}
 use Rattle.line_tables.specs.Item.{count_below}
@@ -18,7 +18,7 @@ use Rattle.program_model.specs.declared.body.Region.{Region}
 use Rattle.program_model.specs.RegionRules.{catches}
 use Rattle.dex_defs.specs.Here.{Here}
 use Rattle.dex_defs.specs.Sweep.{Places}
-use Rattle.dex_defs.specs.Handlers.{Try, Catches, IsPair, IsRestAt, magnitude, AreCatches, AreCatchesAt, first_position, end_position, covers, covering, IsHandler, AreHandlers, IsRest, IsRegion, AreRegions}
+use Rattle.dex_defs.specs.Handlers.{Try, Catches, IsPair, IsRestAt, magnitude, AreCatches, AreCatchesAt, first_position, end_position, covers, covering, AreHandlers, IsRest, IsRegion, AreRegions}
 use Rattle.dex_defs.specs.LaysOut as kept
 use Rattle.dex_defs.specs.LaysOut.{minus, size_text, handler_text, rest_text, catches_text, is_same, distinct, by_length, written_lists, begins_from, IsNear}
 use Rattle.dex_defs.specs.CodeTexts.{covered, place_of, lists_text, list_offset}

@@ -1,5 +1,5 @@
 -- The least sizes are those that the instructions need.
-use Rattle.std.proofs.Common.{◌≡◌, ◌<◌, ◌≤◌, ◌+◌, ◌*◌, ◌-◌, ◌⊎◌, inl, inr, ℕ, zero, suc, ℤ, pos, negsuc, ◌-ℤ◌, Bool, true, false, List, [], ◌∷◌, ◌++◌, length, map, Option, Some, refl, sym, ap, subst, ◌∙◌, arith, append_assoc, length-append, All}
+use Rattle.std.proofs.Common.{◌≡◌, ◌<◌, ◌≤◌, ◌+◌, ◌-◌, inl, inr, ℕ, zero, suc, ℤ, pos, negsuc, ◌-ℤ◌, Bool, true, false, List, [], ◌∷◌, ◌++◌, length, map, refl, sym, ap, ◌∙◌, arith, length-append}
 use Rattle.std.specs.Prelude.{slice_index, nat_lt, nat_le, nat_eq, ◌&&◌, if◌then◌else◌}
 use Rattle.std.specs.Ordering.{int_eq}
 use Rattle.std.specs.List.{AllByRecursion}
@@ -7,21 +7,21 @@ use Rattle.std.specs.Cmp.{signed_Decides}
 use Rattle.std.proofs.lemmas.Int.{ints}
 use Rattle.std.proofs.lemmas.Bool.{cases_lt, cases_eq, lt-ltb, le-ltb, le-leb, lt-leb, eq-eqb, ne_eqb}
 use Rattle.insn_set.specs.Formats.{format_units}
-use Rattle.insn_set.specs.Spelling.{shortest, shortest_goto, shortest_string, fits_byte, fits_short}
+use Rattle.insn_set.specs.Spelling.{shortest, shortest_goto, shortest_string, fits_short}
 use Rattle.insn_set.specs.declared.format.Format.{Format}
 use Rattle.insn_set.specs.declared.format.Format.TheVariants.{F10x, F10t, F20t, F30t}
 use Rattle.insn_set.specs.declared.form.Insn.{Insn}
-use Rattle.insn_set.specs.declared.form.Insn.TheVariants.{Nop, Goto, ConstString}
+use Rattle.insn_set.specs.declared.form.Insn.TheVariants.{Goto, ConstString}
 use Rattle.program_model.specs.declared.pass.Renumber.{Renumber}
 use Rattle.relax.specs.declared.step.Step.{Step}
 use Rattle.relax.specs.declared.step.Step.TheVariants.{Fixed, Jump}
 use Rattle.relax.specs.Steps.{step_of}
-use Rattle.relax.specs.Sizes.{start, forward, backward, need, RoomFrom, HasRoom, Below, IsLeast}
+use Rattle.relax.specs.Sizes.{start, forward, backward, need, RoomFrom, Below, IsLeast}
 use Rattle.relax.proofs.Least.{need_mono}
 use Rattle.relax.proofs.Starts.{start_more}
 use Rattle.dex_defs.specs.LaysOut.{step_of as new_step}
 use Rattle.dex_defs.specs.Written.{new_insn}
-use Rattle.written_code.proofs.Forms.{distance, Renamed, NumbersFit}
+use Rattle.written_code.proofs.Forms.{distance, NumbersFit}
 use Rattle.written_code.proofs.Tables.{at_front}
 
 -- ---- what is least

@@ -1,12 +1,12 @@
 -- Signed numbers in few bits are read as themselves.
-use Rattle.std.proofs.Common.{◌≡◌, ◌<◌, ◌≤◌, ◌+◌, ◌*◌, ◌-◌, ◌%◌, ◌/◌, ◌^◌, ◌⊎◌, inl, inr, ℕ, zero, suc, Bool, true, false, refl, subst, sym, ap, ◌∙◌, arith, ℤ, pos, negsuc, ◌-ℤ◌, neg_ℤ}
-use Rattle.std.specs.Prelude.{FitsSigned, int_rem, nat_lt, nat_le, unsigned_abs, if◌then◌else◌}
+use Rattle.std.proofs.Common.{◌≡◌, ◌<◌, ◌+◌, ◌*◌, ◌-◌, ◌%◌, ◌/◌, ◌^◌, inl, inr, ℕ, zero, suc, Bool, true, false, refl, subst, sym, ap, ◌∙◌, arith, ℤ, pos, negsuc, ◌-ℤ◌, neg_ℤ}
+use Rattle.std.specs.Prelude.{FitsSigned, nat_lt, unsigned_abs, if◌then◌else◌}
 use Rattle.std.specs.Ordering.{int_eq}
-use Rattle.std.specs.Int.{w8, w16, w32, w64, cast_unsigned, cast_signed}
+use Rattle.std.specs.Int.{w16, w32, w64, cast_unsigned, cast_signed}
 use Rattle.std.proofs.lemmas.Int.{ints}
 use Rattle.std.specs.Cmp.{signed_Decides}
 use Rattle.std.proofs.lemmas.Bool.{or_parts, cases_lt, le-leb, lt-leb, ltb-false}
-use Rattle.insn_set.specs.Spelling.{within, fits_nibble, fits_byte, fits_short, fits_int, is_multiple}
+use Rattle.insn_set.specs.Spelling.{fits_nibble, fits_byte, fits_short, fits_int, is_multiple}
 use Rattle.relax.specs.Far.{spans_far}
 use Rattle.code_write.specs.Code.{far_of}
 use Rattle.code_read.specs.Forms.{nibble, byte, short, word}

@@ -1,22 +1,21 @@
 -- The lists of handlers are written in the same order, and named by the same offsets.
-use Rattle.std.proofs.Common.{◌≡◌, ◌<◌, ◌≤◌, ◌+◌, ◌^◌, ◌⊎◌, inl, inr, ⊎_elim, ℕ, zero, suc, min, Bool, true, false, List, [], ◌∷◌, ◌++◌, length, map, replicate, Option, Some, None, refl, sym, ap, subst, ◌∙◌, arith, append_assoc, append-nil, length-append, length-set, ltb-true, ltb-false}
-use Rattle.std.specs.Prelude.{slice_get, slice_set, slice_index, slice_index_or, nat_lt, nat_le, nat_eq, ◌&&◌, ◌||◌, if◌then◌else◌, sum_by, cond}
-use Rattle.std.specs.List.{AllByRecursion, flat_map, concat, list_any, position_or_len}
-use Rattle.std.specs.Cmp.Lexicographic.{pointwise, bytes_decides}
+use Rattle.std.proofs.Common.{◌≡◌, ◌<◌, ◌≤◌, ◌+◌, ◌^◌, inl, inr, ℕ, zero, suc, min, Bool, true, false, List, [], ◌∷◌, ◌++◌, length, map, replicate, Option, Some, None, refl, sym, ap, ◌∙◌, arith, append_assoc, length-append, length-set}
+use Rattle.std.specs.Prelude.{slice_get, slice_set, slice_index, nat_lt, nat_le, nat_eq, ◌&&◌, ◌||◌, if◌then◌else◌, sum_by}
+use Rattle.std.specs.List.{AllByRecursion, concat, list_any}
+use Rattle.std.specs.Cmp.Lexicographic.{bytes_decides}
 use Rattle.std.proofs.lemmas.Bool.{cases_lt, cases_eq, le-leb, lt-leb, lt-ltb, le-ltb, eq-eqb, ne_eqb, eqb-true}
-use Rattle.std.proofs.lemmas.List.{get_or-set_same, get_or-set_other, get_or-map, length-replicate}
+use Rattle.std.proofs.lemmas.List.{get_or-set_same, get_or-set_other, length-replicate}
 use Rattle.std.proofs.lemmas.List.Sums.{sum_by-cons}
-use Rattle.std.proofs.lemmas.Option.{get_or_from_slice_get}
 use Rattle.lemmas.proofs.Bools.{clash}
 use Rattle.lemmas.proofs.Lists.{got_short}
 use Rattle.lemmas.proofs.Options.{some_same}
 use Rattle.code_write.specs.Pairs.{Numbered, is_before, insert, in_order}
-use Rattle.code_write.specs.Lists.{is_same, with_list, index_of, all_lists, indexes_of, sized, order_of, text_in, list_in, ordered_text, with_places, count_text, counted_text, places_in, place_in, lists_text, list_offsets}
+use Rattle.code_write.specs.Lists.{is_same, with_list, index_of, all_lists, indexes_of, sized, order_of, text_in, list_in, ordered_text, with_places, count_text, counted_text, places_in, place_in, lists_text}
 use Rattle.dex_base.specs.Leb.{uleb_text}
 use Rattle.dex_defs.specs.LaysOut as kept
 use Rattle.dex_defs.specs.LaysOut.{distinct, by_length, begins_from}
 use Rattle.dex_defs.specs.CodeTexts.{place_of}
-use Rattle.written_order.proofs.Sorting.{order_all, order_sum, order_long}
+use Rattle.written_order.proofs.Sorting.{order_all, order_sum}
 
 -- ---- the different ones
 

@@ -1,12 +1,12 @@
 -- The units of each instruction are those of its shortest spelling.
-use Rattle.std.proofs.Common.{◌≡◌, ◌<◌, ◌≤◌, ◌+◌, ◌*◌, ◌-◌, ◌%◌, ◌/◌, ◌^◌, ℕ, zero, suc, ℤ, pos, negsuc, ◌-ℤ◌, Bool, true, false, List, [], ◌∷◌, length, Option, Some, refl, sym, ap, subst, ◌∙◌, arith, ltb-true, ltb-false}
-use Rattle.std.specs.Prelude.{FitsSigned, nat_lt, nat_le, nat_eq, ◌||◌, ◌&&◌, if◌then◌else◌}
+use Rattle.std.proofs.Common.{◌≡◌, ◌<◌, ◌+◌, ◌*◌, ◌-◌, ◌%◌, ◌/◌, ◌^◌, ℕ, ℤ, pos, ◌-ℤ◌, Bool, true, false, List, [], ◌∷◌, length, Some, refl, sym, ap, subst, ◌∙◌, arith, ltb-true}
+use Rattle.std.specs.Prelude.{FitsSigned, nat_lt, nat_eq, ◌||◌, ◌&&◌, if◌then◌else◌}
 use Rattle.std.specs.Ordering.{int_eq}
 use Rattle.std.specs.Int.{w16, w32, w64, cast_unsigned, cast_signed}
 use Rattle.std.specs.List.{AllByRecursion, list_all}
 use Rattle.std.specs.Cmp.{signed_Decides}
-use Rattle.std.proofs.lemmas.Bool.{and_parts, leb-true, eqb-true}
-use Rattle.lemmas.proofs.Bools.{clash, or_cases}
+use Rattle.std.proofs.lemmas.Bool.{and_parts, eqb-true}
+use Rattle.lemmas.proofs.Bools.{clash}
 use Rattle.insn_set.specs.Spelling.{shortest, shortest_goto, shortest_move, shortest_const, shortest_wide, shortest_string, shortest_call, shortest_binary, shortest_literal, fits_nibble, fits_byte, fits_short, fits_int, is_multiple, fit_nibbles, fit_call, is_width, fits_width, keys_ascend, takes_short, is_encodable}
 use Rattle.insn_set.specs.declared.format.Format.{Format}
 use Rattle.insn_set.specs.declared.format.Format.TheVariants.{F10x, F12x, F11n, F11x, F10t, F20t, F22x, F21t, F21s, F21h, F21c, F23x, F22b, F22t, F22s, F22c, F30t, F32x, F31i, F31t, F31c, F35c, F3rc, F51l}
@@ -18,23 +18,21 @@ use Rattle.insn_set.specs.declared.form.Insn.{Insn}
 use Rattle.insn_set.specs.declared.form.Insn.TheVariants.{Nop, Move, MoveResult, MoveException, ReturnVoid, Return, Const, ConstWide, ConstString, ConstClass, MonitorEnter, MonitorExit, CheckCast, InstanceOf, ArrayLength, NewInstance, NewArray, FilledNewArray, FillArray, Throw, Goto, PackedSwitch, SparseSwitch, Cmp, If, IfZero, ArrayGet, ArrayPut, InstanceGet, InstancePut, StaticGet, StaticPut, Invoke, Unary, Binary, Literal}
 use Rattle.program_model.specs.declared.pass.Renumber.{Renumber}
 use Rattle.code_read.specs.declared.fields.Fields.{Fields}
-use Rattle.code_read.specs.Fields.{fields, fields_in}
+use Rattle.code_read.specs.Fields.{fields}
 use Rattle.code_read.specs.Opcodes.{format_at}
 use Rattle.code_read.specs.Forms.{nibble, byte, short, word, plain}
-use Rattle.code_read.specs.Branches.{branch_form, offset_form}
 use Rattle.relax.specs.Steps.{renumbered as old_number}
 use Rattle.code_write.specs.Places.{slot_place, item_place, cmp_place, test_place, kind_place, unary_place, binary_place, literal_place}
 use Rattle.code_write.specs.Opcodes.{opcode_of}
 use Rattle.code_write.specs.Fields.{three, fields_of}
 use Rattle.code_write.specs.Units.{byte_unit, units_in}
-use Rattle.code_write.specs.Code.{far_of, format_of, insn_units}
+use Rattle.code_write.specs.Code.{far_of, insn_units}
 use Rattle.dex_pools.specs.Written.{renumbered}
-use Rattle.dex_defs.specs.CodeTexts.{units_of}
 use Rattle.dex_defs.specs.Written.{new_string, new_type, new_field, new_method, new_insn}
 use Rattle.written_code.proofs.Signed.{Near, near_byte, near_short, near_int, near_nibble, near_word, near_long, near_half, few_bits, long_bits, nibble_back, short_back, word_back, high_back, wide_short, wide_word, wide_high, long_back, half_back, low_back, far_few, far_word, far_short, far_byte, near_spans, zero_near}
 use Rattle.written_code.proofs.Fields.{Read, First, first_byte, Narrow, back, some_fields, narrow, read_nop}
 use Rattle.written_code.proofs.Forms
-use Rattle.written_code.proofs.Forms.{Form, APlain, ABranch, ACall, AFill, APacked, ASparse, Spelt, InWidth, Renamed, NumbersFit, HasRoom, Row, BranchRow, of_row, distance, IsBranchTo}
+use Rattle.written_code.proofs.Forms.{Form, APlain, ABranch, AFill, APacked, ASparse, Spelt, InWidth, Renamed, NumbersFit, HasRoom, BranchRow, of_row, distance, IsBranchTo}
 use Rattle.written_code.proofs.Calls.{by_nibbles, by_range}
 
 -- ---- choices

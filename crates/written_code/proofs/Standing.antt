@@ -1,17 +1,17 @@
 -- Each instruction of a written body stands in its units.
-use Rattle.std.proofs.Common.{◌≡◌, ◌<◌, ◌≤◌, ◌+◌, ◌*◌, ◌-◌, ◌%◌, ◌/◌, ◌^◌, ◌⊎◌, inl, inr, ℕ, zero, suc, ℤ, pos, ◌+ℤ◌, ◌-ℤ◌, Bool, true, false, List, [], ◌∷◌, ◌++◌, length, take, drop, map, Option, Some, None, refl, sym, ap, subst, ◌∙◌, arith, append_assoc, append-nil, length-append}
+use Rattle.std.proofs.Common.{◌≡◌, ◌<◌, ◌≤◌, ◌+◌, ◌*◌, ◌-◌, ◌%◌, ◌/◌, ◌^◌, ℕ, ℤ, pos, ◌+ℤ◌, ◌-ℤ◌, true, false, List, [], ◌∷◌, ◌++◌, length, drop, Some, refl, sym, ap, subst, ◌∙◌, arith, append_assoc, length-append}
 use Rattle.std.specs.Prelude.{FitsSigned, slice_index, slice_get, nat_lt, nat_eq, ◌||◌, ◌&&◌, ◌==◌}
-use Rattle.std.specs.Int.{w32, w64}
+use Rattle.std.specs.Int.{w32}
 use Rattle.std.specs.List.{AllByRecursion, flat_map, list_any, list_all}
 use Rattle.std.proofs.lemmas.Int.{ints}
 use Rattle.std.proofs.lemmas.Bool.{and_parts, eqb-true}
-use Rattle.std.proofs.lemmas.List.{take_at, drop_at}
+use Rattle.std.proofs.lemmas.List.{drop_at}
 use Rattle.std.proofs.lemmas.List.Concat.{flat_map-append}
 use Rattle.dex_base.specs.Decides.{Each}
 use Rattle.insn_set.specs.Flow.{targets_of}
 use Rattle.insn_set.specs.Spelling.{is_width, fits_width, keys_ascend, is_encodable}
 use Rattle.insn_set.specs.declared.form.Insn.{Insn}
-use Rattle.insn_set.specs.declared.form.Insn.TheVariants.{Nop, Move, FillArray, Goto, PackedSwitch, SparseSwitch, If, IfZero}
+use Rattle.insn_set.specs.declared.form.Insn.TheVariants.{Nop, FillArray, Goto, PackedSwitch, SparseSwitch, If, IfZero}
 use Rattle.program_model.specs.declared.pass.Renumber.{Renumber}
 use Rattle.code_read.specs.declared.fields.Fields.{Fields}
 use Rattle.code_read.specs.Opcodes.{format_at}
@@ -19,14 +19,12 @@ use Rattle.code_read.specs.Forms.{word, plain}
 use Rattle.code_read.specs.Branches.{is_branch, is_call, offset_form, branch_form, most_words, call_form}
 use Rattle.code_read.specs.Payloads.{has_payload}
 use Rattle.relax.specs.Sizes.{start}
-use Rattle.code_write.specs.Code.{insn_units}
-use Rattle.dex_defs.specs.Sweep.{Piece, Places, is_payload, payloads, starts_of}
-use Rattle.dex_defs.specs.Instructions.{opcode, HasFields, GoesTo, IsPayloadOf, double_at, signed_at, unit_bytes, item_at, IsInsn, Plain, Branch, Call, Fill, Packed, Sparse, AreInsns}
-use Rattle.dex_defs.specs.CodeTexts.{two_units, signed_units, target_units, units_from, payload_text, evenly}
+use Rattle.dex_defs.specs.Sweep.{Piece, Places, payloads}
+use Rattle.dex_defs.specs.Instructions.{opcode, HasFields, GoesTo, IsPayloadOf, signed_at, unit_bytes, item_at, IsInsn, Plain, Branch, Call, Fill, Packed, Sparse}
+use Rattle.dex_defs.specs.CodeTexts.{two_units, signed_units, target_units, units_from, payload_text}
 use Rattle.dex_defs.specs.Written.{new_insn}
 use Rattle.written_code.proofs.Forms.{Form, APlain, ABranch, ACall, AFill, APacked, ASparse, Spelt, InWidth, IsBranchTo}
-use Rattle.written_code.proofs.Sweeping.{text_of, among}
-use Rattle.written_code.proofs.Tables.{at_front, signed_there, targets_there, keys_long, keys_there, Fit, items_fit, item_bytes, bytes_low, bytes_again, odd_of, items_there, Table, nop_pieces, payload_piece, payload_pieces, HaveTables, texts_append}
+use Rattle.written_code.proofs.Tables.{at_front, signed_there, targets_there, keys_long, keys_there, Fit, items_fit, item_bytes, bytes_low, bytes_again, odd_of, items_there}
 
 -- ---- where an instruction goes
 

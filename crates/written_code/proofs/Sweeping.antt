@@ -1,7 +1,7 @@
 -- Units that are instructions one behind another, and then payloads, are swept into these.
-use Rattle.std.proofs.Common.{◌≡◌, ◌<◌, ◌≤◌, ◌+◌, ◌*◌, ◌-◌, ◌%◌, ◌/◌, ◌⊎◌, inl, inr, ℕ, zero, suc, Bool, true, false, List, [], ◌∷◌, ◌++◌, length, take, drop, map, Option, Some, refl, sym, ap, subst, ◌∙◌, arith, append_assoc, append-nil, length-append}
-use Rattle.std.specs.Prelude.{slice_index, slice_get, nat_le, ◌||◌, ◌&&◌, ◌==◌, not, if◌then◌else◌, replicate}
-use Rattle.std.specs.List.{AllByRecursion, flat_map, concat, list_any}
+use Rattle.std.proofs.Common.{◌≡◌, ◌<◌, ◌+◌, ◌-◌, ◌%◌, ◌⊎◌, inl, inr, ℕ, Bool, true, false, List, [], ◌∷◌, ◌++◌, length, take, drop, Some, refl, sym, ap, subst, ◌∙◌, arith, append_assoc, append-nil, length-append}
+use Rattle.std.specs.Prelude.{slice_index, ◌||◌, ◌&&◌, ◌==◌, not, if◌then◌else◌}
+use Rattle.std.specs.List.{AllByRecursion, flat_map, list_any}
 use Rattle.std.specs.Option.{option_map}
 use Rattle.std.proofs.lemmas.Bool.{eq-eqb, ne_eqb}
 use Rattle.std.proofs.lemmas.List.{take_at, drop_at}
@@ -13,10 +13,8 @@ use Rattle.insn_set.specs.declared.form.Insn.TheVariants.{Nop}
 use Rattle.code_read.specs.declared.fields.Fields.{Fields}
 use Rattle.code_read.specs.Opcodes.{format_at}
 use Rattle.code_read.specs.Forms.{plain}
-use Rattle.code_read.specs.Branches.{is_branch, is_call}
 use Rattle.code_read.specs.Payloads.{payload_size}
-use Rattle.dex_defs.specs.Sweep.{Piece, payload_kind, piece_size, first_unit, is_payload, is_nop, only_fills, instructions, payloads, starts_of, Places, places_of, IsPiece, PiecesTo, IsSwept}
-use Rattle.written_code.proofs.Fields.{Read}
+use Rattle.dex_defs.specs.Sweep.{Piece, payload_kind, piece_size, is_payload, is_nop, only_fills, instructions, payloads, starts_of, PiecesTo, IsSwept}
 use Rattle.written_code.proofs.Forms.{Form, APlain, ABranch, ACall, AFill, APacked, ASparse, Spelt}
 
 -- ---- pieces one behind another

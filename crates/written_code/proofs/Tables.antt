@@ -1,12 +1,12 @@
 -- Payloads stand as pieces of their own behind the instructions, and what is written in them is read of them.
-use Rattle.std.proofs.Common.{◌≡◌, ◌<◌, ◌≤◌, ◌+◌, ◌*◌, ◌-◌, ◌%◌, ◌/◌, ◌^◌, ◌⊎◌, inl, inr, ℕ, zero, suc, ℤ, pos, negsuc, ◌+ℤ◌, ◌-ℤ◌, Bool, true, false, List, [], ◌∷◌, ◌++◌, length, take, drop, map, Option, Some, refl, sym, ap, subst, ◌∙◌, arith, append_assoc, append-nil, length-append, ltb-true}
-use Rattle.std.specs.Prelude.{FitsSigned, slice_index, slice_get, replicate, nat_lt, nat_eq, ◌||◌, ◌&&◌, ◌==◌, if◌then◌else◌}
+use Rattle.std.proofs.Common.{◌≡◌, ◌<◌, ◌+◌, ◌*◌, ◌-◌, ◌%◌, ◌/◌, ◌^◌, ◌⊎◌, inl, inr, ℕ, zero, suc, ℤ, pos, ◌+ℤ◌, ◌-ℤ◌, Bool, true, false, List, [], ◌∷◌, ◌++◌, length, take, drop, Some, refl, sym, ap, subst, ◌∙◌, arith, append_assoc, append-nil, length-append, ltb-true}
+use Rattle.std.specs.Prelude.{FitsSigned, slice_index, slice_get, replicate, nat_eq, ◌||◌}
 use Rattle.std.specs.Int.{w32, w64, cast_unsigned, cast_signed, from_le_bytes, to_le_bytes}
-use Rattle.std.specs.List.{AllByRecursion, flat_map, concat, list_all}
+use Rattle.std.specs.List.{AllByRecursion, flat_map, list_all}
 use Rattle.std.proofs.Math.Nat.{mul-suc}
 use Rattle.std.proofs.lemmas.Int.{ints, to_z-of_z}
 use Rattle.std.proofs.lemmas.Bool.{and_parts, eqb-true}
-use Rattle.std.proofs.lemmas.List.{take_at, drop_at, length-take-le}
+use Rattle.std.proofs.lemmas.List.{take_at, drop_at}
 use Rattle.dex_base.specs.Decides.{Each}
 use Rattle.insn_set.specs.Spelling.{is_width, fits_width}
 use Rattle.insn_set.specs.declared.form.Insn.{Insn}
@@ -14,10 +14,10 @@ use Rattle.insn_set.specs.declared.form.Insn.TheVariants.{FillArray, PackedSwitc
 use Rattle.code_read.specs.Opcodes.{format_at}
 use Rattle.code_read.specs.Payloads.{payload_size}
 use Rattle.relax.specs.Sizes.{start}
-use Rattle.dex_defs.specs.Sweep.{Piece, Places, piece_size, is_payload, is_nop}
-use Rattle.dex_defs.specs.Instructions.{GoesTo, AreTargets, double_at, signed_at, unit_bytes, item_at}
+use Rattle.dex_defs.specs.Sweep.{Piece, Places, piece_size, is_payload}
+use Rattle.dex_defs.specs.Instructions.{GoesTo, double_at, signed_at, unit_bytes, item_at}
 use Rattle.dex_defs.specs.CodeTexts.{two_units, signed_units, target_units, units_from, payload_text, evenly, payloads_text}
-use Rattle.written_code.proofs.Signed.{Lies, Ahead, Behind, lies, few_bits, Near}
+use Rattle.written_code.proofs.Signed.{Lies, Ahead, Behind, lies}
 use Rattle.written_code.proofs.Sweeping.{text_of, Starts, Sized, Fills, starts_append, all_append}
 
 -- ---- what stands behind other units

@@ -1,6 +1,6 @@
 -- The writer's units of a body are those of the definition.
-use Rattle.std.proofs.Common.{◌≡◌, ◌<◌, ◌≤◌, ◌+◌, ◌*◌, ◌-◌, ◌%◌, ◌/◌, ◌^◌, ◌⊎◌, inl, inr, ℕ, zero, suc, min, ℤ, pos, negsuc, ◌-ℤ◌, Bool, true, false, List, [], ◌∷◌, ◌++◌, length, take, map, Option, Some, refl, sym, ap, subst, ◌∙◌, arith, append_assoc, append-nil, length-append, ltb-true}
-use Rattle.std.specs.Prelude.{slice_index, slice_index_or, replicate, nat_lt, nat_le, nat_eq, ◌&&◌, ◌==◌, if◌then◌else◌}
+use Rattle.std.proofs.Common.{◌≡◌, ◌<◌, ◌≤◌, ◌+◌, ◌*◌, ◌-◌, ◌%◌, ◌/◌, ◌^◌, ◌⊎◌, inl, inr, ℕ, zero, suc, min, ℤ, pos, ◌-ℤ◌, Bool, true, false, List, [], ◌∷◌, ◌++◌, length, take, refl, sym, ap, subst, ◌∙◌, arith, append_assoc, append-nil, length-append, ltb-true}
+use Rattle.std.specs.Prelude.{slice_index_or, replicate, nat_lt, nat_eq, ◌&&◌, ◌==◌, if◌then◌else◌}
 use Rattle.std.specs.Int.{w16, w32, w64, cast_unsigned, to_le_bytes}
 use Rattle.std.specs.List.{AllByRecursion, flat_map, concat, list_all}
 use Rattle.std.proofs.lemmas.Bool.{and_parts, le-leb, lt-leb, eq-eqb, ne_eqb}
@@ -8,22 +8,22 @@ use Rattle.std.proofs.lemmas.List.Concat.{flat_map-append}
 use Rattle.insn_set.specs.Flow.{targets_of}
 use Rattle.insn_set.specs.Spelling.{is_encodable, is_width, fits_width, keys_ascend}
 use Rattle.insn_set.specs.declared.form.Insn.{Insn}
-use Rattle.insn_set.specs.declared.form.Insn.TheVariants.{Nop, FillArray, Goto, PackedSwitch, SparseSwitch, If, IfZero}
+use Rattle.insn_set.specs.declared.form.Insn.TheVariants.{FillArray, Goto, PackedSwitch, SparseSwitch, If, IfZero}
 use Rattle.program_model.specs.declared.pass.Renumber.{Renumber}
 use Rattle.program_model.specs.Cells.{capped}
 use Rattle.relax.specs.Sizes.{start}
 use Rattle.relax.specs.Payloads.{units_behind, even_place, capped_place, payload_places, payload_end}
-use Rattle.code_write.specs.Units.{unit_bytes, pad_to_even, low, high}
+use Rattle.code_write.specs.Units.{unit_bytes, pad_to_even, low}
 use Rattle.code_write.specs.Code as writer
 use Rattle.code_write.specs.Code.{Spots, place_at, far_of, insn_units, goes_to, payload_count}
 use Rattle.code_write.specs.Payloads as written
 use Rattle.code_write.specs.Payloads.{number_bytes, target_bytes, odd_byte, payload_behind, with_payloads}
-use Rattle.dex_defs.specs.CodeTexts.{two_units, signed_units, target_units, units_from, payload_text, evenly, payloads_text}
+use Rattle.dex_defs.specs.CodeTexts.{signed_units, target_units, units_from, payload_text, evenly, payloads_text}
 use Rattle.written_code.proofs.Signed.{Lies, Ahead, Behind, lies}
 use Rattle.written_code.proofs.Forms.{InWidth}
-use Rattle.written_code.proofs.Tables.{at_front, units_long, keys_long, IsOneOf, one_of, item_bytes, Fit, bytes_long, bytes_low, odd_of, units_many}
-use Rattle.written_code.proofs.Standing.{to_of, fill_fits, FitSparse, fit_sparse}
-use Rattle.written_code.proofs.Bodies.{next_unit, text_at, insn_texts, Fine, AllFine}
+use Rattle.written_code.proofs.Tables.{units_long, keys_long, IsOneOf, one_of, item_bytes, Fit, bytes_long, bytes_low, odd_of, units_many}
+use Rattle.written_code.proofs.Standing.{to_of, fill_fits, fit_sparse}
+use Rattle.written_code.proofs.Bodies.{next_unit, text_at, insn_texts, AllFine}
 
 -- ---- units as bytes
 

@@ -1,18 +1,17 @@
 -- The code of all methods of a well-formed program that lays out stands where class data says.
-use Rattle.std.proofs.Common.{◌≡◌, ◌<◌, ◌≤◌, ◌+◌, ◌*◌, ◌-◌, ◌^◌, inl, inr, ℕ, zero, suc, Bool, true, false, List, [], ◌∷◌, ◌++◌, length, map, take, drop, Option, Some, None, refl, sym, ap, subst, ◌∙◌, arith, append_assoc, length-append, ltb-true, All}
-use Rattle.std.specs.Prelude.{slice_get, nat_eq, nat_lt, nat_le, not, ◌&&◌, if◌then◌else◌, sum_by, option_and_then}
+use Rattle.std.proofs.Common.{◌≡◌, ◌<◌, ◌≤◌, ◌+◌, ◌-◌, ◌^◌, ℕ, zero, suc, Bool, true, false, List, [], ◌∷◌, ◌++◌, length, map, take, drop, Option, Some, None, refl, sym, ap, subst, ◌∙◌, arith, All}
+use Rattle.std.specs.Prelude.{slice_get, nat_lt, nat_le, not, ◌&&◌, sum_by, option_and_then}
 use Rattle.std.specs.List.{AllByRecursion, flat_map, list_all, enumerate_from}
 use Rattle.std.specs.Option.{option_map}
 use Rattle.std.proofs.lemmas.Bool.{and_parts, leb-true}
 use Rattle.std.proofs.lemmas.List.Sums.{sum_by-cons}
-use Rattle.std.proofs.lemmas.Option.{slice_get_within}
 use Rattle.lemmas.proofs.Lists.{all_at}
 use Rattle.lemmas.proofs.Options.{some_same}
 use Rattle.insn_set.specs.declared.form.Insn.{Insn}
 use Rattle.program_model.specs.ProgramRules.{is_well_formed}
 use Rattle.program_model.specs.TableRules.{tables_fit}
 use Rattle.program_model.specs.Cells.{cells_of, class_cells, method_cells, body_cells}
-use Rattle.program_model.specs.Items.{items_of, class_items, method_items, body_items, region_items, proto_items}
+use Rattle.program_model.specs.Items.{items_of, class_items, method_items, body_items, region_items}
 use Rattle.program_model.specs.InterfaceRules.{interfaces_stand_free}
 use Rattle.program_model.specs.BodyRules.{follows, ends, insn_fits, body_fits}
 use Rattle.program_model.specs.RegionRules.{may_begin, region_fits, handler_fits, rest_fits, catches, are_apart, regions_fit}
@@ -37,7 +36,7 @@ use Rattle.dex_pools.specs.declared.used.Named.{Named}
 use Rattle.dex_pools.specs.declared.used.Named.TheVariants as named
 use Rattle.dex_pools.specs.Interned.{IsInterned}
 use Rattle.dex_pools.specs.Numbering.{used_in, proto_key, method_key}
-use Rattle.dex_pools.specs.Used.{program_names, class_names, method_names, body_names, code_names, insn_names, region_names, handler_names, kind_names, source_names, marks_names, field_names}
+use Rattle.dex_pools.specs.Used.{class_names, method_names, body_names, code_names, insn_names, region_names, handler_names, kind_names, source_names, marks_names, field_names}
 use Rattle.dex_write.specs.declared.ordered.MethodPart.{MethodPart}
 use Rattle.dex_write.specs.declared.tables.ClassOffsets.{ClassOffsets}
 use Rattle.dex_write.specs.Order.{classes_at}
@@ -45,13 +44,13 @@ use Rattle.dex_write.specs.Plans.{Plan, spot_of}
 use Rattle.dex_write.specs.Codes.{IsPart, IsCoded, IsCodedIn, code_offset, code_behind, codes_behind, debug_offset, lines_behind, parts_of, parameters_in}
 use Rattle.dex_write.specs.Sets.{behind_class}
 use Rattle.dex_write.specs.File.{data_at}
-use Rattle.dex_write.specs.Places.{counts_of, front_of, back_of, file_for}
+use Rattle.dex_write.specs.Places.{counts_of, front_of, file_for}
 use Rattle.dex_write.specs.Written.{ArePlans}
 use Rattle.dex_write.specs.Written as writer
-use Rattle.dex_defs.specs.Arranged.{Both, Lie}
+use Rattle.dex_defs.specs.Arranged.{Both}
 use Rattle.dex_defs.specs.ClassData.{Entry}
 use Rattle.dex_defs.specs.LaysOut.{LaysOut, LaysOutMethod}
-use Rattle.dex_defs.specs.Valid.{CodePart, IsCodePart, AreCodes, methods_of, parameters_of}
+use Rattle.dex_defs.specs.Valid.{IsCodePart, AreCodes, methods_of, parameters_of}
 use Rattle.dex_defs.specs.Written.{entries, new_method, new_proto, written_proto, written_method_name, written_method, written_class, written_by, class_order}
 use Rattle.names_law.specs.Used.{IsUsed, IsShort, UsesMethod}
 use Rattle.names_law.proofs.Marking.{all_left, all_right}
@@ -62,7 +61,6 @@ use Rattle.names_law.proofs.Carried.{carried}
 use Rattle.write_laws.specs.Fits.{OrdersIn, TablesFit}
 use Rattle.write_laws.specs.Listing.{method_entry, method_entries, lists_in}
 use Rattle.write_laws.specs.Placing.{AllLie, item_text, item_texts, code_offsets, line_offsets, stops_of}
-use Rattle.write_laws.proofs.Placing.{FitsPlans}
 use Rattle.write_laws.proofs.Coded.{plans_fit}
 use Rattle.write_laws.proofs.Whole.{file_lies}
 use Rattle.write_laws.proofs.Tabled.{AreShort, short_of, is_short}

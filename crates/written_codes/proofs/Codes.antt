@@ -1,30 +1,25 @@
 -- The code of each method that is written stands where class data says.
-use Rattle.std.proofs.Common.{◌≡◌, ◌<◌, ◌≤◌, ◌+◌, ◌*◌, ◌-◌, ◌%◌, ◌^◌, inl, inr, ℕ, zero, suc, Bool, true, false, List, [], ◌∷◌, ◌++◌, length, map, take, drop, Option, Some, None, refl, sym, ap, subst, ◌∙◌, arith, append_assoc, length-append, ltb-true}
-use Rattle.std.specs.Prelude.{slice_get, slice_index, nat_eq, nat_lt, nat_le, not, ◌&&◌, ◌||◌, if◌then◌else◌, sum_by, option_and_then}
+use Rattle.std.proofs.Common.{◌≡◌, ◌<◌, ◌≤◌, ◌+◌, ◌-◌, ◌^◌, inl, inr, ℕ, zero, suc, Bool, true, List, [], ◌∷◌, length, map, Some, refl, sym, ap, subst, ◌∙◌, arith}
+use Rattle.std.specs.Prelude.{slice_get, slice_index, nat_eq, nat_lt, nat_le, not, ◌&&◌, if◌then◌else◌}
 use Rattle.std.specs.List.{AllByRecursion, flat_map, list_all, list_any}
 use Rattle.std.specs.Option.{option_map}
 use Rattle.std.proofs.lemmas.Bool.{and_parts, and_from, eq-eqb, ne_eqb, le-leb, lt-ltb, leb-true, eqb-true}
-use Rattle.std.proofs.lemmas.Option.{slice_get_within}
-use Rattle.lemmas.proofs.Bools.{clash, or_cases}
+use Rattle.lemmas.proofs.Bools.{or_cases}
 use Rattle.lemmas.proofs.Options.{some_same}
-use Rattle.insn_set.specs.declared.form.Insn.{Insn}
 use Rattle.program_model.specs.Cells.{body_cells}
 use Rattle.program_model.specs.LineRules.{lines_fit, goes_on_with_lines}
 use Rattle.program_model.specs.Neighbours.{neighbours}
 use Rattle.program_model.specs.BodyRules.{body_fits}
 use Rattle.program_model.specs.MemberRules.{proto_of, lacks_code, frame_fits, code_fits}
 use Rattle.program_model.specs.declared.pass.Renumber.{Renumber}
-use Rattle.program_model.specs.declared.pools.Proto.{Proto}
-use Rattle.program_model.specs.declared.body.Region.{Region}
 use Rattle.program_model.specs.declared.body.Handler.{Handler}
 use Rattle.program_model.specs.declared.body.Body.{Body}
 use Rattle.program_model.specs.declared.program.Method.{Method}
-use Rattle.program_model.specs.declared.program.Class.{Class}
 use Rattle.program_model.specs.declared.program.Program.{Program}
 use Rattle.dex_pools.specs.declared.interner.Interner.{Interner}
 use Rattle.dex_pools.specs.Interned.{IsInterned}
 use Rattle.dex_pools.specs.Numbering.{used_in}
-use Rattle.dex_pools.specs.Used.{body_names, insn_names, region_names, handler_names}
+use Rattle.dex_pools.specs.Used.{body_names, handler_names}
 use Rattle.line_tables.specs.Text.{item_text as line_text}
 use Rattle.relax.specs.declared.layout.Layout.{Layout}
 use Rattle.relax.specs.Layouts.{IsLaidOut}
@@ -38,22 +33,20 @@ use Rattle.dex_write.specs.Codes as writer
 use Rattle.dex_write.specs.Codes.{IsCoded, Bodiless, Far, Laid, debug_offset, with_debug, ascend, are_low, parameters_in}
 use Rattle.dex_defs.specs.Here.{Here}
 use Rattle.dex_defs.specs.Sweep.{Piece, Places, instructions, places_of}
-use Rattle.dex_defs.specs.CodeItems.{IsCode}
 use Rattle.dex_defs.specs.CodeTexts.{code_text}
 use Rattle.dex_defs.specs.LaysOut.{LaysOutBody, LaysOutMethod}
 use Rattle.dex_defs.specs.Texts.{lines_text}
-use Rattle.dex_defs.specs.Valid.{CodePart, IsNoCode, IsSomeCode, IsCodePart, parameters_of}
-use Rattle.dex_defs.specs.Written.{new_insn, new_region, new_body, written_method, written_by}
+use Rattle.dex_defs.specs.Valid.{IsCodePart, parameters_of}
+use Rattle.dex_defs.specs.Written.{new_body, written_method, written_by}
 use Rattle.names_law.specs.Used.{IsUsed, IsShort}
-use Rattle.names_law.proofs.Marking.{all_left, all_right}
 use Rattle.write_laws.specs.Placing.{item_text}
 use Rattle.write_laws.proofs.Here.{here_same}
 use Rattle.write_laws.proofs.Coded.{item_long}
 use Rattle.written_sets.proofs.Standing.{Stands, Unplaced, Placed}
-use Rattle.widths.specs.Code.{WideCode, WideBody}
+use Rattle.widths.specs.Code.{WideCode}
 use Rattle.written_code.proofs.Forms.{Renamed}
 use Rattle.written_code.proofs.Least.{AllSome, start_less}
-use Rattle.written_code.proofs.Bodies.{Swept, piece_texts, insn_texts}
+use Rattle.written_code.proofs.Bodies.{Swept, piece_texts}
 use Rattle.written_code.proofs.Frames.{FitBody, texts_of, units_of_body, swept_body, frame_of, code_stands}
 use Rattle.written_codes.proofs.Fitting.{FewEntries, kind_renamed, fit_body, same_sizes, written_sizes, none_far}
 use Rattle.written_codes.proofs.Texts.{text_is}

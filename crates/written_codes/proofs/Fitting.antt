@@ -1,7 +1,7 @@
 -- The bodies of a well-formed program fit when they are laid out.
-use Rattle.std.proofs.Common.{◌≡◌, ◌<◌, ◌≤◌, ◌+◌, ◌*◌, ◌-◌, ◌%◌, ◌/◌, ◌^◌, ◌⊎◌, inl, inr, ℕ, zero, suc, max, pos, Bool, true, false, List, [], ◌∷◌, ◌++◌, length, map, replicate, Option, Some, None, refl, sym, ap, subst, ◌∙◌, arith, append_assoc, length-append, ltb-true, ltb-false, All}
+use Rattle.std.proofs.Common.{◌≡◌, ◌<◌, ◌≤◌, ◌+◌, ◌*◌, ◌-◌, ◌%◌, ◌^◌, ◌⊎◌, inl, inr, ℕ, zero, suc, pos, Bool, true, false, List, [], ◌∷◌, ◌++◌, length, map, replicate, Option, Some, None, refl, sym, ap, subst, ◌∙◌, arith, length-append, ltb-true, All}
 use Rattle.std.specs.Prelude.{slice_get, slice_index_or, is_some, nat_lt, nat_le, nat_eq, not, ◌&&◌, ◌||◌, if◌then◌else◌, sum_by}
-use Rattle.std.specs.List.{AllByRecursion, flat_map, concat, list_all, list_any, enumerate_from}
+use Rattle.std.specs.List.{AllByRecursion, flat_map, list_all, list_any, enumerate_from}
 use Rattle.std.proofs.Math.Nat.{suc-mul, mul-suc}
 use Rattle.std.proofs.lemmas.Bool.{and_parts, leb-true, eq-eqb}
 use Rattle.std.proofs.lemmas.List.{length-replicate}
@@ -28,35 +28,31 @@ use Rattle.dex_pools.specs.declared.interner.Interner.{Interner}
 use Rattle.dex_pools.specs.declared.used.Named.{Named}
 use Rattle.dex_pools.specs.declared.used.Named.TheVariants as named
 use Rattle.dex_pools.specs.Interned.{IsInterned}
-use Rattle.dex_pools.specs.Numbering.{used_in, string_key, type_key, field_key, method_key, IsNumbered, places_of, places_from}
+use Rattle.dex_pools.specs.Numbering.{used_in, IsNumbered, places_of}
 use Rattle.dex_pools.specs.Used.{insn_names, region_names, handler_names, body_names}
-use Rattle.dex_pools.specs.Written.{renumbered}
-use Rattle.relax.specs.Steps.{renumbered as old_number, step_of}
+use Rattle.relax.specs.Steps.{step_of}
 use Rattle.relax.specs.declared.step.Step.{Step}
-use Rattle.relax.specs.declared.step.Step.TheVariants.{Fixed, Jump}
 use Rattle.relax.specs.declared.layout.Layout.{Layout}
-use Rattle.relax.specs.Sizes.{start, need, cap, IsLeast}
+use Rattle.relax.specs.Sizes.{start, cap, IsLeast}
 use Rattle.relax.specs.Far.{is_far, first_far}
 use Rattle.relax.specs.Layouts.{IsLaidOut, IsFarAt}
 use Rattle.relax.proofs.Least.{need_cap}
 use Rattle.relax.proofs.Units.{few_units}
-use Rattle.dex_defs.specs.LaysOut.{step_of as new_step, AreSizes, LaysOutBody, catches_text, distinct, by_length, written_lists, begins_from, list_begins, IsNear}
+use Rattle.dex_defs.specs.LaysOut.{step_of as new_step, AreSizes, LaysOutBody, catches_text, distinct, by_length, written_lists, list_begins, IsNear}
 use Rattle.dex_defs.specs.LaysOut as kept
 use Rattle.dex_defs.specs.CodeTexts.{payload_text, evenly, payloads_text, words_passed, most_passed, place_of, list_offset, target_units, signed_units}
 use Rattle.dex_defs.specs.Written.{new_insn, new_handler, new_region, new_body, written_by}
 use Rattle.names_law.specs.Used.{IsUsed, IsShort}
-use Rattle.names_law.specs.Carried.{HasEntry}
 use Rattle.names_law.proofs.Marking.{all_left, all_right}
 use Rattle.names_law.proofs.Placed.{places_long}
 use Rattle.names_law.proofs.Ranges.{ranges_kept}
-use Rattle.write_laws.specs.Fits.{TablesFit}
 use Rattle.widths.specs.Code.{WideBody}
 use Rattle.written_code.proofs.Forms.{InWidth, Renamed, NumbersFit}
 use Rattle.written_code.proofs.Tables.{Fit, item_bytes, bytes_long, units_many, keys_long, units_long, one_of}
 use Rattle.written_code.proofs.Standing.{fill_fits, fit_sparse}
 use Rattle.written_code.proofs.Least.{needs, least_needs, least_long, least_one, steps_same, AllSome, needs_some}
 use Rattle.written_code.proofs.Units.{fill_parts}
-use Rattle.written_code.proofs.Bodies.{next_unit, NearAt, Fine, AllFine, LastStops}
+use Rattle.written_code.proofs.Bodies.{next_unit, NearAt, AllFine, LastStops}
 use Rattle.written_code.proofs.Handlers.{FitRegion}
 use Rattle.written_code.proofs.Frames.{FitBody}
 

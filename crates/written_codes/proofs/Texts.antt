@@ -1,20 +1,19 @@
 -- The writer's code item is the text of the definition.
-use Rattle.std.proofs.Common.{◌≡◌, ◌<◌, ◌≤◌, ◌+◌, ◌*◌, ◌-◌, ◌%◌, ◌/◌, ◌^◌, ◌⊎◌, inl, inr, ℕ, zero, suc, min, max, ℤ, pos, negsuc, ◌-ℤ◌, Bool, true, false, List, [], ◌∷◌, ◌++◌, length, take, drop, map, replicate, Option, Some, None, refl, sym, ap, subst, ◌∙◌, arith, append_assoc, append-nil, length-append}
-use Rattle.std.specs.Prelude.{slice_index, slice_index_or, slice_get, is_some, nat_eq, if◌then◌else◌}
-use Rattle.std.specs.Int.{w16, w32, to_le_bytes}
+use Rattle.std.proofs.Common.{◌≡◌, ◌<◌, ◌≤◌, ◌+◌, ◌*◌, ◌-◌, ◌%◌, ◌^◌, inl, inr, ℕ, zero, suc, min, max, pos, negsuc, ◌-ℤ◌, Bool, true, false, List, [], ◌∷◌, ◌++◌, length, map, replicate, Option, Some, None, refl, sym, ap, subst, ◌∙◌, arith, append_assoc, append-nil, length-append}
+use Rattle.std.specs.Prelude.{slice_index, slice_index_or, is_some, nat_eq, if◌then◌else◌}
+use Rattle.std.specs.Int.{w32, to_le_bytes}
 use Rattle.std.specs.List.{AllByRecursion, flat_map, concat}
 use Rattle.std.proofs.lemmas.Int.{ints}
-use Rattle.std.proofs.lemmas.Bool.{eq-eqb, ne_eqb, eqb-true, eqb-false, cases_lt}
+use Rattle.std.proofs.lemmas.Bool.{ne_eqb, eqb-true, eqb-false, cases_lt}
 use Rattle.std.proofs.lemmas.List.{length-map}
 use Rattle.dex_base.specs.Leb.{uleb_text, sleb_text}
 use Rattle.insn_set.specs.Spelling.{is_encodable}
 use Rattle.insn_set.specs.declared.form.Insn.{Insn}
-use Rattle.insn_set.specs.declared.form.Insn.TheVariants.{Nop, Invoke}
+use Rattle.insn_set.specs.declared.form.Insn.TheVariants.{Invoke}
 use Rattle.program_model.specs.declared.pass.Renumber.{Renumber}
 use Rattle.program_model.specs.declared.body.Handler.{Handler}
 use Rattle.program_model.specs.declared.body.Region.{Region}
 use Rattle.program_model.specs.declared.body.Body.{Body}
-use Rattle.relax.specs.Steps.{renumbered as old_number}
 use Rattle.relax.specs.declared.layout.Layout.{Layout}
 use Rattle.relax.specs.Layouts.{IsLaidOut}
 use Rattle.relax.specs.Sizes.{start}
@@ -22,25 +21,24 @@ use Rattle.relax.specs.Payloads.{capped_place, payload_places, payload_end}
 use Rattle.relax.proofs.Starts.{start_mono}
 use Rattle.code_write.specs.Units.{unit_bytes, pad_to_even, low, high}
 use Rattle.code_write.specs.Code.{Spots, spots_of, place_at}
-use Rattle.code_write.specs.Code as writer
 use Rattle.code_write.specs.Payloads.{with_payloads}
 use Rattle.code_write.specs.Handlers as lists
 use Rattle.code_write.specs.Handlers.{list_size, pair_text, handlers_text}
 use Rattle.code_write.specs.Tries as tries
 use Rattle.code_write.specs.Lists as order
-use Rattle.code_write.specs.Lists.{all_lists, indexes_of, places_in, place_in, count_text, list_offsets}
+use Rattle.code_write.specs.Lists.{all_lists, count_text, list_offsets}
 use Rattle.code_write.specs.Items as items
-use Rattle.code_write.specs.Items.{header_units, outs_of, code_end, gap_behind, front_text, ranged_text, tail_text, code_item}
+use Rattle.code_write.specs.Items.{header_units, outs_of, code_end, gap_behind, front_text, tail_text, code_item}
 use Rattle.dex_pools.specs.Written.{renumbered}
 use Rattle.dex_write.specs.Numbers.{words}
 use Rattle.dex_write.specs.Codes.{with_debug}
 use Rattle.dex_defs.specs.LaysOut.{minus, size_text, handler_text, rest_text, catches_text, distinct, by_length, written_lists, begins_from}
-use Rattle.dex_defs.specs.CodeTexts.{two_units, payloads_text, most_passed, words_passed, frame_units, gap_units, covered, lists_text, list_offset, place_of, try_units, tries_text, body_units, code_text}
+use Rattle.dex_defs.specs.CodeTexts.{two_units, payloads_text, most_passed, words_passed, frame_units, gap_units, covered, lists_text, list_offset, place_of, try_units, tries_text, code_text}
 use Rattle.dex_defs.specs.Written.{new_insn, new_handler, new_region, new_body}
 use Rattle.written_code.proofs.Forms.{Renamed}
-use Rattle.written_code.proofs.Bodies.{Fine, AllFine, insn_texts}
+use Rattle.written_code.proofs.Bodies.{AllFine}
 use Rattle.written_code.proofs.Units.{Placed, Left, bytes_append, bytes_twice, code_bytes, payloads_bytes, end_is, padded}
-use Rattle.written_code.proofs.Sorted.{same_lists, lists_differ, none_differ, offsets_are, lists_same, Different}
+use Rattle.written_code.proofs.Sorted.{same_lists, lists_differ, none_differ, offsets_are, lists_same}
 use Rattle.written_code.proofs.Handlers.{FitRegion}
 use Rattle.written_code.proofs.Frames.{FitBody, texts_of, units_of_body, texts_end, units_count, units_same, word_is}
 use Rattle.written_codes.proofs.Fitting.{call_few, sorted_many}

@@ -1,6 +1,6 @@
 -- The sets of annotations of classes that are written are used ones of a well-formed program.
-use Rattle.std.proofs.Common.{◌≡◌, ◌<◌, ◌≤◌, ◌+◌, inl, inr, ℕ, Bool, true, List, [], ◌∷◌, ◌++◌, length, map, take, drop, refl, sym, ap, subst, ◌∙◌, arith, Option, Some, None, ltb-true}
-use Rattle.std.specs.Prelude.{slice_get, nat_lt, ◌&&◌}
+use Rattle.std.proofs.Common.{◌≡◌, ◌≤◌, ◌+◌, inl, inr, ℕ, true, List, [], ◌∷◌, ◌++◌, length, map, take, drop, refl, sym, ap, subst, ◌∙◌, arith, Option, Some, None, ltb-true}
+use Rattle.std.specs.Prelude.{slice_get, ◌&&◌}
 use Rattle.std.specs.List.{flat_map, list_all, AllByRecursion}
 use Rattle.std.proofs.lemmas.Bool.{and_parts}
 use Rattle.lemmas.proofs.Lists.{all_at}
@@ -13,7 +13,6 @@ use Rattle.dex_pools.specs.Order.{list_below}
 use Rattle.dex_pools.specs.Used.{mark_names, marks_names, kind_names, source_names, first_names, code_names, field_names, method_names, class_names}
 use Rattle.dex_pools.specs.Numbering.{used_in, type_key}
 use Rattle.dex_pools.specs.Written.{mark_text}
-use Rattle.program_model.specs.declared.pass.Renumber.{Renumber}
 use Rattle.program_model.specs.declared.value.Note.{out-Note}
 use Rattle.program_model.specs.declared.value.Mark.{Mark}
 use Rattle.program_model.specs.declared.program.Field.{Field}
@@ -21,15 +20,14 @@ use Rattle.program_model.specs.declared.program.Method.{Method}
 use Rattle.program_model.specs.declared.program.Class.{Class}
 use Rattle.program_model.specs.declared.program.Program.{Program}
 use Rattle.program_model.specs.Neighbours.{neighbours}
-use Rattle.program_model.specs.Texts.{has_string, has_type}
-use Rattle.program_model.specs.ValueRules.{element_fits, named_in_order, note_fits, value_fits, mark_fits, typed_in_order, marks_fit}
+use Rattle.program_model.specs.Texts.{has_type}
+use Rattle.program_model.specs.ValueRules.{element_fits, named_in_order, value_fits, mark_fits, typed_in_order, marks_fit}
 use Rattle.program_model.specs.MemberRules.{class_of_field, class_of_method, is_class_number, first_value_fits, field_fits, code_fits, method_fits}
 use Rattle.dex_write.specs.Plans.{Plan, Numbered, marks_in, method_marks_in, parameters_in, field_marks, method_marks, parameter_marks}
 use Rattle.dex_write.specs.declared.ordered.MethodPart.{MethodPart}
-use Rattle.dex_write.specs.Sets.{sets_of, marks_of, ordered_marks, mark_starts}
-use Rattle.dex_defs.specs.Written.{new_string, new_type, new_mark, new_marks, written_by}
+use Rattle.dex_write.specs.Sets.{sets_of, marks_of, mark_starts}
+use Rattle.dex_defs.specs.Written.{new_type, new_mark, new_marks, written_by}
 use Rattle.dex_defs.specs.ValueTexts as texts
-use Rattle.dex_defs.specs.Valid.{SetPart}
 use Rattle.names_law.specs.Used.{IsUsed, IsShort}
 use Rattle.names_law.proofs.Ordering.{AsMany, used_marked}
 use Rattle.names_law.proofs.Ascending.{one_number}

@@ -1,5 +1,5 @@
 -- The annotations of the written file are spelled wherever their texts stand.
-use Rattle.std.proofs.Common.{◌≡◌, ◌<◌, ◌≤◌, ◌^◌, inl, inr, ℕ, Bool, true, false, List, [], ◌∷◌, ◌++◌, length, map, take, drop, refl, sym, ap, subst, ◌∙◌, arith, Option, Some, None, ltb-true}
+use Rattle.std.proofs.Common.{◌≡◌, ◌<◌, ◌≤◌, ◌^◌, inl, inr, ℕ, Bool, true, false, List, [], ◌∷◌, ◌++◌, length, map, drop, refl, sym, ap, subst, arith, Option, Some, None, ltb-true}
 use Rattle.std.specs.Prelude.{slice_get, min, if◌then◌else◌}
 use Rattle.std.specs.List.{flat_map, list_all, AllByRecursion}
 use Rattle.std.proofs.lemmas.Bool.{and_parts}
@@ -14,7 +14,6 @@ use Rattle.dex_pools.specs.Order.{list_below}
 use Rattle.dex_pools.specs.Marks.{mark_below}
 use Rattle.dex_pools.specs.Used.{mark_names, marks_names}
 use Rattle.dex_pools.specs.Numbering.{used_in}
-use Rattle.program_model.specs.declared.pass.Renumber.{Renumber}
 use Rattle.program_model.specs.declared.value.Mark.{Mark}
 use Rattle.program_model.specs.declared.program.Field.{Field}
 use Rattle.program_model.specs.declared.program.Method.{Method}
@@ -25,18 +24,17 @@ use Rattle.program_model.specs.ValueRules.{mark_fits, typed_in_order, marks_fit}
 use Rattle.program_model.specs.MemberRules.{field_fits, method_fits}
 use Rattle.dex_write.specs.declared.ordered.MethodPart.{MethodPart}
 use Rattle.dex_write.specs.Plans.{Plan, Numbered, marks_in, method_marks_in, parameters_in, field_marks, method_marks, parameter_marks}
-use Rattle.dex_write.specs.Sets.{sets_of, marks_of, mark_starts}
+use Rattle.dex_write.specs.Sets.{sets_of}
 use Rattle.dex_defs.specs.Written.{insert, in_order, new_mark, new_marks, written_by}
 use Rattle.dex_defs.specs.Spells.{sizes_in}
 use Rattle.names_law.specs.Used.{IsUsed, IsShort}
 use Rattle.names_law.specs.Owning.{IsNoLonger}
 use Rattle.names_law.proofs.Owning.{no_longer}
 use Rattle.names_law.proofs.Ranges.{ranges_kept}
-use Rattle.write_laws.specs.Placing.{stops_of}
 use Rattle.written_tables.proofs.Fit.{FitsClass}
 use Rattle.written_tables.proofs.In.{In, in_left, in_right, in_got, all_in}
 use Rattle.written_values.specs.Fitting.{SizesFit, MarkFits}
-use Rattle.written_values.specs.Wide.{IsWideMark, AreWide, WideField, WideMethod, WideClass, HasWideValues}
+use Rattle.written_values.specs.Wide.{AreWide, WideField, WideMethod, WideClass, HasWideValues}
 use Rattle.written_values.proofs.Values.{mark_stands}
 use Rattle.written_parts.specs.Parts.{found_sets, sets_of_file}
 use Rattle.written_sets.specs.Reads.{Reads}

@@ -1,14 +1,13 @@
 -- All classes are spelled, where their code and their first values are read.
-use Rattle.std.proofs.Common.{◌≡◌, ◌≤◌, ◌<◌, ◌+◌, ◌*◌, ℕ, zero, suc, List, [], ◌∷◌, ◌++◌, length, map, take, drop, refl, sym, ap, subst, ◌∙◌, arith, Some}
+use Rattle.std.proofs.Common.{◌≡◌, ◌+◌, ◌*◌, ℕ, suc, List, [], ◌∷◌, length, map, take, drop, sym, subst, Some}
 use Rattle.std.specs.Prelude.{slice_get}
-use Rattle.std.specs.List.{AllByRecursion, flat_map}
+use Rattle.std.specs.List.{AllByRecursion}
 use Rattle.dex_base.specs.Decides.{Each}
 use Rattle.program_model.specs.declared.pass.Renumber.{Renumber}
 use Rattle.program_model.specs.declared.value.EncValue.{EncValue}
 use Rattle.program_model.specs.declared.program.Class.{Class}
 use Rattle.program_model.specs.declared.program.Program.{Program}
 use Rattle.dex_pools.specs.declared.interner.Interner.{Interner}
-use Rattle.dex_pools.specs.declared.scalar.TableSizes.{TableSizes}
 use Rattle.dex_pools.specs.Interned.{IsInterned}
 use Rattle.dex_pools.specs.Spelled.{AreParameters}
 use Rattle.dex_write.specs.declared.tables.ClassOffsets.{ClassOffsets}
@@ -22,7 +21,6 @@ use Rattle.dex_defs.specs.ClassData.{IsClassDataOf}
 use Rattle.dex_defs.specs.ClassDefs.{HasCode, IsDef, IsClass}
 use Rattle.dex_defs.specs.Values.{AreValuesOf, AreFirsts}
 use Rattle.dex_defs.specs.Spells.{sizes_in}
-use Rattle.dex_defs.specs.Texts.{offsets_text}
 use Rattle.dex_defs.specs.Valid.{ClassPart, classes_at, methods_of, ref_offsets, NamesAll}
 use Rattle.dex_defs.specs.Written.{new_marks, written_method, written_class, written_by}
 use Rattle.names_law.specs.Used.{IsShort}
@@ -30,7 +28,6 @@ use Rattle.written_tables.proofs.Fit.{FitsClass}
 use Rattle.written_parts.specs.Parts.{class_part, class_parts}
 use Rattle.written_parts.proofs.Members.{field_at, method_at}
 use Rattle.written_parts.proofs.KindFields.{HasPlan}
-use Rattle.written_sets.proofs.Standing.{Stands}
 use Rattle.written_spelled.proofs.Apart.{HasSets}
 use Rattle.written_spelled.proofs.Class.{class_spelled}
 use Rattle.written_spelled.proofs.Known.{facts_of}

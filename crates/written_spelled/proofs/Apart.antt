@@ -1,8 +1,7 @@
 -- The sets of annotations of a written file, class by class and member by member.
-use Rattle.std.proofs.Common.{◌≡◌, ◌≤◌, ◌<◌, ◌+◌, ℕ, zero, suc, List, [], ◌∷◌, ◌++◌, length, map, take, drop, refl, sym, ap, subst, ◌∙◌, arith, length-append, length-drop, Option, Some, None}
+use Rattle.std.proofs.Common.{◌≡◌, ◌≤◌, ◌+◌, ℕ, suc, List, [], ◌∷◌, ◌++◌, length, map, drop, refl, sym, ap, subst, ◌∙◌, arith, length-append, length-drop, Option, Some, None}
 use Rattle.std.specs.Prelude.{slice_get}
 use Rattle.std.specs.List.{flat_map, concat}
-use Rattle.std.proofs.lemmas.List.{length-map}
 use Rattle.program_model.specs.declared.pass.Renumber.{Renumber}
 use Rattle.program_model.specs.declared.value.EncValue.{EncValue}
 use Rattle.program_model.specs.declared.value.Mark.{Mark}
@@ -13,15 +12,14 @@ use Rattle.dex_write.specs.declared.ordered.MethodPart.{MethodPart}
 use Rattle.dex_write.specs.declared.tables.ClassOffsets.{ClassOffsets}
 use Rattle.dex_write.specs.Plans.{Plan, Numbered, field_marks, method_marks, parameter_marks, parameters_in}
 use Rattle.dex_write.specs.Codes.{codes_behind, lines_behind}
-use Rattle.dex_write.specs.Sets.{sets_of, set_counts, ref_counts, own_count, parameter_count, own_offsets, behind_class}
+use Rattle.dex_write.specs.Sets.{sets_of, set_counts, own_count, parameter_count, behind_class}
 use Rattle.dex_defs.specs.Annotations.{offset_for, AreMarksOf}
 use Rattle.dex_defs.specs.Arranged.{Both}
 use Rattle.dex_defs.specs.ClassData.{Entry}
-use Rattle.dex_defs.specs.Valid.{ClassPart, SetPart, set_offsets, methods_of, fields_of}
+use Rattle.dex_defs.specs.Valid.{ClassPart, set_offsets, methods_of, fields_of}
 use Rattle.dex_defs.specs.Written.{new_marks, written_method}
-use Rattle.write_laws.specs.Listing.{lists_in}
 use Rattle.write_laws.proofs.Fitting.{plan_long}
-use Rattle.written_parts.specs.Parts.{found_sets, split_by, class_part, class_parts}
+use Rattle.written_parts.specs.Parts.{found_sets, class_part, class_parts}
 use Rattle.written_parts.proofs.Members.{method_or, method_at}
 use Rattle.written_parts.proofs.Pairs.{field_entries, method_entries_are}
 use Rattle.written_sets.proofs.Standing.{both_split}

@@ -1,13 +1,11 @@
 -- A class whose parts stand is spelled.
-use Rattle.std.proofs.Common.{◌≡◌, ◌≤◌, ◌<◌, ◌+◌, ℕ, zero, suc, Bool, true, false, List, [], ◌∷◌, ◌++◌, length, map, take, drop, refl, sym, ap, subst, ◌∙◌, arith, Option, Some, None, All}
+use Rattle.std.proofs.Common.{◌≡◌, ◌<◌, ◌+◌, ℕ, zero, suc, true, false, List, [], ◌∷◌, ◌++◌, length, map, take, drop, refl, sym, ap, subst, ◌∙◌, None, All}
 use Rattle.std.specs.Option.{option_map}
-use Rattle.std.specs.List.{AllByRecursion, concat}
+use Rattle.std.specs.List.{AllByRecursion}
 use Rattle.std.proofs.lemmas.List.Elements.{All-nil, All-cons}
 use Rattle.program_model.specs.declared.pass.Renumber.{Renumber}
 use Rattle.program_model.specs.declared.value.EncValue.{EncValue}
-use Rattle.program_model.specs.declared.value.Mark.{Mark}
 use Rattle.program_model.specs.declared.program.Field.{Field}
-use Rattle.program_model.specs.declared.program.Method.{Method}
 use Rattle.program_model.specs.declared.program.Class.{Class}
 use Rattle.program_model.specs.declared.program.Program.{Program}
 use Rattle.program_model.specs.MemberRules.{is_static, is_direct}
@@ -20,7 +18,7 @@ use Rattle.dex_write.specs.declared.tables.ClassOffsets.{ClassOffsets}
 use Rattle.dex_write.specs.Plans.{Plan, Numbered, spot_of, field_marks, method_marks, parameter_marks}
 use Rattle.dex_write.specs.Codes.{code_behind, codes_behind}
 use Rattle.dex_write.specs.Tables.{source_word}
-use Rattle.dex_defs.specs.Annotations.{Directory, InOrder, IsDirectoryOf, pair_below, offset_for, AreParameterMarksOf}
+use Rattle.dex_defs.specs.Annotations.{IsDirectoryOf, pair_below, offset_for, AreParameterMarksOf}
 use Rattle.dex_defs.specs.Arranged.{Both}
 use Rattle.dex_defs.specs.ClassData.{Entry, IsClassDataOf}
 use Rattle.dex_defs.specs.ClassDefs.{HasCode, IsDef, IsSource, IsDefined, HasParts, IsClass}
@@ -28,7 +26,7 @@ use Rattle.dex_defs.specs.Values.{AreValuesOf, AreFirsts}
 use Rattle.dex_defs.specs.Spells.{sizes_in}
 use Rattle.dex_defs.specs.Valid.{ClassPart, methods_of, fields_of}
 use Rattle.dex_defs.specs.Written.{new_string, new_type, new_method, new_marks, written_field, written_method, written_class}
-use Rattle.write_laws.specs.Listing.{field_entry, method_entries, lists_in}
+use Rattle.write_laws.specs.Listing.{field_entry, method_entries}
 use Rattle.written_order.proofs.Grouped.{Spot}
 use Rattle.written_parts.specs.Parts.{class_part}
 use Rattle.written_parts.proofs.Members.{field_at, method_at}

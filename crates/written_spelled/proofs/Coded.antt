@@ -1,13 +1,10 @@
 -- Each method of a written file is read with its code and its lines.
-use Rattle.std.proofs.Common.{◌≡◌, ◌<◌, ◌≤◌, ◌+◌, ◌^◌, ℕ, zero, suc, Bool, true, false, List, [], ◌∷◌, ◌++◌, length, map, take, drop, Option, Some, None, refl, sym, ap, subst, ◌∙◌, arith, length-append}
-use Rattle.std.specs.Prelude.{slice_get, nat_eq, not, ◌&&◌, if◌then◌else◌}
-use Rattle.std.specs.List.{AllByRecursion, flat_map}
+use Rattle.std.proofs.Common.{◌≡◌, ◌<◌, ◌≤◌, ◌+◌, ◌^◌, ℕ, zero, suc, Bool, true, List, [], ◌∷◌, ◌++◌, length, map, take, drop, Option, Some, None, refl, sym, ap, subst, ◌∙◌, arith, length-append}
+use Rattle.std.specs.Prelude.{not, ◌&&◌, if◌then◌else◌}
+use Rattle.std.specs.List.{AllByRecursion}
 use Rattle.std.specs.Option.{option_map}
 use Rattle.std.proofs.lemmas.Bool.{and_parts, ne_eqb}
-use Rattle.insn_set.specs.declared.form.Insn.{Insn}
 use Rattle.program_model.specs.declared.pass.Renumber.{Renumber}
-use Rattle.program_model.specs.declared.value.EncValue.{EncValue}
-use Rattle.program_model.specs.declared.body.Region.{Region}
 use Rattle.program_model.specs.declared.body.Body.{Body}
 use Rattle.program_model.specs.declared.program.Method.{Method}
 use Rattle.program_model.specs.declared.program.Class.{Class}
@@ -19,34 +16,24 @@ use Rattle.dex_pools.specs.declared.interner.Interner.{Interner}
 use Rattle.dex_pools.specs.Interned.{IsInterned}
 use Rattle.code_write.specs.Code.{spots_of}
 use Rattle.dex_write.specs.declared.ordered.MethodPart.{MethodPart}
-use Rattle.dex_write.specs.declared.tables.ClassOffsets.{ClassOffsets}
 use Rattle.dex_write.specs.Numbers.{words}
-use Rattle.dex_write.specs.Plans.{Plan}
-use Rattle.dex_write.specs.Codes.{IsPart, IsCoded, IsCodedIn, Bodiless, Far, Laid, code_offset, code_behind, codes_behind, debug_offset, with_debug, lines_behind, parts_of}
-use Rattle.dex_write.specs.Sets.{behind_class}
-use Rattle.dex_write.specs.Written.{ArePlans}
+use Rattle.dex_write.specs.Codes.{IsPart, IsCoded, IsCodedIn, Bodiless, Far, Laid, code_offset, code_behind, debug_offset, with_debug}
 use Rattle.dex_defs.specs.Arranged.{Both}
-use Rattle.dex_defs.specs.ClassData.{Entry}
 use Rattle.dex_defs.specs.ClassDefs.{HasCode}
 use Rattle.dex_defs.specs.LaysOut.{LaysOutMethod}
-use Rattle.dex_defs.specs.Valid.{CodePart, ClassPart, IsCodePart, methods_of, parameters_of}
-use Rattle.dex_defs.specs.Written.{new_insn, new_body, written_method, written_class, written_by}
+use Rattle.dex_defs.specs.Valid.{CodePart, IsCodePart, parameters_of}
+use Rattle.dex_defs.specs.Written.{new_insn, new_body, written_method, written_by}
 use Rattle.names_law.specs.Used.{IsShort}
-use Rattle.write_laws.specs.Listing.{method_entries, lists_in}
+use Rattle.write_laws.specs.Listing.{method_entries}
 use Rattle.write_laws.specs.Placing.{item_text, item_texts, code_offsets, line_offsets}
 use Rattle.write_laws.proofs.Coded.{item_long}
-use Rattle.written_tables.proofs.Fit.{FitsClass}
 use Rattle.written_code.proofs.Forms.{Renamed}
-use Rattle.written_code.specs.Widths.{HasWideCode}
-use Rattle.written_parts.specs.Parts.{class_parts}
 use Rattle.written_parts.proofs.Members.{method_or, method_at}
-use Rattle.written_parts.proofs.KindFields.{HasPlan}
-use Rattle.written_sets.proofs.Standing.{Stands, Unplaced, Placed, stands_few, both_split}
+use Rattle.written_sets.proofs.Standing.{Stands, Unplaced, Placed, stands_few}
 use Rattle.written_spelled.proofs.ReadLines.{none_fit, code_back}
 use Rattle.written_codes.proofs.Fitting.{FewEntries, none_far}
 use Rattle.written_codes.proofs.Codes.{FitMethod, method_part}
 use Rattle.written_codes.proofs.All.{GoodMethod, body_named, code_body}
-use Rattle.written_spelled.proofs.All.{HasCodes}
 
 map_size : {X Y : Type 0} (f : X → Y) (xs : List X) → length (map f xs) ≡ length xs
 map_size f [] = refl

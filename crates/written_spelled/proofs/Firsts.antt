@@ -1,12 +1,12 @@
 -- First values are read back as those of the static fields.
-use Rattle.std.proofs.Common.{◌≡◌, ◌≤◌, ◌<◌, ◌+◌, ◌-◌, ◌⊎◌, inl, inr, ℕ, zero, suc, pos, Bool, true, false, List, [], ◌∷◌, ◌++◌, length, map, take, drop, refl, sym, ap, subst, ◌∙◌, arith, Option, Some, None, All}
-use Rattle.std.specs.Prelude.{slice_get, nat_eq, not, is_some, ◌&&◌, ◌||◌, ◌==◌, if◌then◌else◌}
+use Rattle.std.proofs.Common.{◌≡◌, ◌≤◌, ◌-◌, ℕ, zero, suc, pos, Bool, true, false, List, [], ◌∷◌, map, take, refl, sym, ap, subst, ◌∙◌, arith, Option, Some, None, All}
+use Rattle.std.specs.Prelude.{slice_get, nat_eq, not, ◌==◌, if◌then◌else◌}
 use Rattle.std.specs.Option.{option_map}
 use Rattle.std.specs.Ordering.{int_eq}
 use Rattle.std.specs.List.{AllByRecursion}
-use Rattle.std.proofs.lemmas.Bool.{and_parts, cases_lt}
+use Rattle.std.proofs.lemmas.Bool.{and_parts}
 use Rattle.std.proofs.lemmas.List.Elements.{All-nil, All-cons}
-use Rattle.lemmas.proofs.Bools.{clash, not_true}
+use Rattle.lemmas.proofs.Bools.{not_true}
 use Rattle.program_model.specs.declared.pass.Renumber.{Renumber}
 use Rattle.program_model.specs.declared.value.EncValue.{EncValue, EncValue-F, roll-EncValue, out-EncValue, out-roll-EncValue}
 use Rattle.program_model.specs.declared.value.EncValue.TheOpen as layer
@@ -19,7 +19,7 @@ use Rattle.program_model.specs.declared.program.Class.{Class}
 use Rattle.program_model.specs.declared.program.Program.{Program}
 use Rattle.program_model.specs.Texts.{is_reference, has_string, has_type}
 use Rattle.program_model.specs.ValueRules.{layer_fits}
-use Rattle.dex_write.specs.Plans.{Plan, Numbered}
+use Rattle.dex_write.specs.Plans.{Numbered}
 use Rattle.dex_write.specs.Data.{has_first, first_count, zero_of, value_or}
 use Rattle.dex_defs.specs.Values.{suits, tag_of, is_of, layer_is_zero, first_of, letter_of_field, AreFirsts}
 use Rattle.dex_defs.specs.Written.{new_value}

@@ -1,6 +1,6 @@
 -- The interfaces of each class are spelled where its class_def names them.
-use Rattle.std.proofs.Common.{◌≡◌, ◌≤◌, ◌<◌, ◌+◌, ◌^◌, ℕ, suc, Bool, true, List, [], ◌∷◌, length, map, drop, refl, sym, ap, subst, ◌∙◌, arith, inl, inr, Some}
-use Rattle.std.specs.Prelude.{slice_get, sum_by, ◌&&◌}
+use Rattle.std.proofs.Common.{◌≡◌, ◌≤◌, ℕ, suc, true, List, [], ◌∷◌, length, map, drop, refl, sym, ap, ◌∙◌, arith, inl, inr, Some}
+use Rattle.std.specs.Prelude.{slice_get, sum_by}
 use Rattle.std.specs.List.{AllByRecursion, flat_map, list_all}
 use Rattle.std.proofs.lemmas.Bool.{and_parts}
 use Rattle.program_model.specs.declared.pass.Renumber.{Renumber}
@@ -12,7 +12,6 @@ use Rattle.program_model.specs.Items.{items_of, class_items}
 use Rattle.dex_pools.specs.declared.interner.Interner.{Interner}
 use Rattle.dex_pools.specs.declared.used.Named.TheVariants as named
 use Rattle.dex_pools.specs.Interned.{IsInterned}
-use Rattle.dex_pools.specs.Numbering.{used_in}
 use Rattle.dex_pools.specs.Spelled.{AreParameters}
 use Rattle.dex_pools.specs.Used.{class_names, kind_names}
 use Rattle.dex_write.specs.declared.tables.ClassOffsets.{ClassOffsets}
@@ -23,7 +22,7 @@ use Rattle.dex_write.specs.Written.{ArePlans}
 use Rattle.dex_defs.specs.Arranged.{Both, Lie, LeadsTo}
 use Rattle.dex_defs.specs.Texts.{type_list_text}
 use Rattle.dex_defs.specs.Written.{new_type, written_class, written_by}
-use Rattle.names_law.specs.Used.{IsUsed, IsShort}
+use Rattle.names_law.specs.Used.{IsShort}
 use Rattle.write_laws.specs.Fits.{Halved, FitsList}
 use Rattle.write_laws.proofs.Pools.{leads_spelled}
 use Rattle.written_tables.proofs.Fit.{FitsClass}

@@ -1,6 +1,6 @@
 -- What is known of the classes of a well-formed program and their plans.
-use Rattle.std.proofs.Common.{◌≡◌, ◌≤◌, ◌<◌, ◌+◌, inl, inr, ℕ, zero, suc, Bool, true, false, List, [], ◌∷◌, ◌++◌, length, map, take, drop, refl, sym, ap, subst, ◌∙◌, arith, Option, Some, None, ltb-true}
-use Rattle.std.specs.Prelude.{slice_get, slice_index_or, nat_lt, ◌&&◌, ◌||◌, ◌==◌}
+use Rattle.std.proofs.Common.{◌≡◌, ◌<◌, inl, inr, ℕ, zero, suc, Bool, true, false, List, [], ◌∷◌, length, map, take, drop, refl, sym, ap, subst, ◌∙◌, Option, Some, None, ltb-true}
+use Rattle.std.specs.Prelude.{slice_get, slice_index_or, ◌&&◌, ◌||◌, ◌==◌}
 use Rattle.std.specs.Option.{option_map}
 use Rattle.std.specs.List.{AllByRecursion, flat_map, list_all}
 use Rattle.std.proofs.lemmas.Bool.{and_parts}
@@ -15,14 +15,13 @@ use Rattle.program_model.specs.declared.program.Method.{Method}
 use Rattle.program_model.specs.declared.program.Class.{Class}
 use Rattle.program_model.specs.declared.program.Program.{Program}
 use Rattle.program_model.specs.Texts.{has_type, has_string, string_text, first_unit}
-use Rattle.program_model.specs.ValueRules.{first_fits, marks_fit}
+use Rattle.program_model.specs.ValueRules.{marks_fit}
 use Rattle.program_model.specs.MemberRules.{is_static, is_private, is_direct, name_of_method, class_of_field, is_class_number, first_value_fits, field_fits, source_fits}
 use Rattle.dex_pools.specs.declared.interner.Interner.{Interner}
-use Rattle.dex_pools.specs.declared.used.Named.{Named}
 use Rattle.dex_pools.specs.declared.used.Named.TheVariants as named
 use Rattle.dex_pools.specs.Interned.{IsInterned}
 use Rattle.dex_pools.specs.Numbering.{used_in, string_key, method_key}
-use Rattle.dex_pools.specs.Used.{class_names, kind_names, source_names, marks_names, field_names, method_names}
+use Rattle.dex_pools.specs.Used.{class_names, kind_names, source_names}
 use Rattle.dex_write.specs.declared.ordered.MethodPart.{MethodPart}
 use Rattle.dex_write.specs.Plans.{Plan, Numbered, spot_of}
 use Rattle.dex_write.specs.Tables.{source_word}

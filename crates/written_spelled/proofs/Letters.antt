@@ -1,11 +1,11 @@
 -- The letters of fields' types are those that a field may have, and new numbers keep them.
 use Rattle.std.proofs.Common.{◌≡◌, ◌<◌, ◌≤◌, ℕ, zero, suc, Bool, true, false, List, [], ◌∷◌, length, Option, Some, None, refl, sym, ap, subst, ◌∙◌, arith, ltb-true}
-use Rattle.std.specs.Prelude.{slice_get, nat_lt, not, is_ok, ◌&&◌, ◌||◌, ◌==◌}
+use Rattle.std.specs.Prelude.{slice_get, not, is_ok, ◌&&◌, ◌||◌, ◌==◌}
 use Rattle.std.specs.Option.{option_map}
 use Rattle.std.specs.List.{list_all}
 use Rattle.std.proofs.lemmas.Bool.{and_parts}
 use Rattle.lemmas.proofs.Lists.{all_at}
-use Rattle.lemmas.proofs.Bools.{clash, not_true}
+use Rattle.lemmas.proofs.Bools.{not_true}
 use Rattle.dex_base.specs.Descriptor.{descriptor_of, next_spot}
 use Rattle.program_model.specs.declared.pass.Renumber.{Renumber}
 use Rattle.program_model.specs.declared.pools.FieldName.{FieldName}

@@ -1,5 +1,5 @@
 -- Lists of sets stand where the directory names them.
-use Rattle.std.proofs.Common.{◌≡◌, ◌≤◌, ◌<◌, ◌+◌, ◌*◌, ◌^◌, ℕ, zero, suc, List, [], ◌∷◌, ◌++◌, length, map, refl, sym, ap, subst, ◌∙◌, arith, length-append}
+use Rattle.std.proofs.Common.{◌≡◌, ◌<◌, ◌+◌, ◌*◌, ◌^◌, ℕ, zero, suc, List, [], ◌∷◌, ◌++◌, length, map, refl, sym, ap, subst, ◌∙◌, arith}
 use Rattle.std.specs.List.{AllByRecursion}
 use Rattle.dex_base.specs.Word.{Is32}
 use Rattle.dex_base.specs.Decides.{Each}
@@ -8,13 +8,13 @@ use Rattle.program_model.specs.declared.value.Mark.{Mark}
 use Rattle.dex_pools.specs.declared.scalar.TableSizes.{TableSizes}
 use Rattle.dex_write.specs.Numbers.{words}
 use Rattle.dex_defs.specs.Here.{Here}
-use Rattle.dex_defs.specs.Annotations.{IsSetOf, AreParameterMarks, AreParameterMarksOf}
+use Rattle.dex_defs.specs.Annotations.{IsSetOf, AreParameterMarksOf}
 use Rattle.dex_defs.specs.Arranged.{Both}
 use Rattle.dex_defs.specs.Texts.{offsets_text}
 use Rattle.dex_defs.specs.Written.{new_marks}
 use Rattle.write_laws.proofs.Here.{here_same}
 use Rattle.write_laws.proofs.Numbers.{Few, same_words, words_length, here_words}
-use Rattle.written_sets.proofs.Standing.{Stands, Unplaced, Placed, stands_few, both_split}
+use Rattle.written_sets.proofs.Standing.{Stands, Unplaced, Placed}
 use Rattle.written_spelled.proofs.Apart.{IsNewSet}
 
 -- ---- numbers of 32 bits

@@ -1,12 +1,11 @@
 -- The members of a written class are those that its class data lists.
-use Rattle.std.proofs.Common.{◌≡◌, ℕ, suc, Bool, true, false, List, [], ◌∷◌, ◌++◌, length, map, refl, sym, ap, subst, ◌∙◌, Option, Some, None, All}
-use Rattle.std.specs.Prelude.{slice_get, ◌||◌, ◌==◌}
+use Rattle.std.proofs.Common.{◌≡◌, ℕ, Bool, List, [], ◌∷◌, map, refl, sym, ap, subst, ◌∙◌, Option, Some, None, All}
+use Rattle.std.specs.Prelude.{slice_get}
 use Rattle.std.specs.Option.{option_map}
 use Rattle.std.specs.List.{AllByRecursion}
 use Rattle.std.proofs.lemmas.List.Elements.{All-nil, All-cons}
 use Rattle.lemmas.proofs.Lists.{get_map}
 use Rattle.program_model.specs.declared.pass.Renumber.{Renumber}
-use Rattle.program_model.specs.declared.value.Mark.{Mark}
 use Rattle.program_model.specs.declared.program.Field.{Field}
 use Rattle.program_model.specs.declared.program.Method.{Method}
 use Rattle.program_model.specs.declared.program.Class.{Class}
@@ -14,11 +13,10 @@ use Rattle.program_model.specs.declared.program.Program.{Program}
 use Rattle.program_model.specs.MemberRules.{is_static, is_direct}
 use Rattle.dex_pools.specs.declared.scalar.TableSizes.{TableSizes}
 use Rattle.dex_write.specs.declared.ordered.MethodPart.{MethodPart}
-use Rattle.dex_write.specs.Plans.{Numbered, spot_of, flags_in, method_flags_in, marks_in, method_marks_in, parameters_in, field_marks, method_marks, parameter_marks, field_flags, method_flags}
+use Rattle.dex_write.specs.Plans.{Numbered, spot_of, flags_in, method_flags_in, marks_in, method_marks_in, parameters_in, field_marks, method_marks, parameter_marks}
 use Rattle.dex_write.specs.Codes.{code_behind}
 use Rattle.dex_defs.specs.Annotations.{Directory, offset_for, AreMarksOf, AreParameterMarksOf}
 use Rattle.dex_defs.specs.Arranged.{Both}
-use Rattle.dex_defs.specs.ClassData.{Entry}
 use Rattle.dex_defs.specs.ClassDefs.{AreFields, AreMethods, HasCode}
 use Rattle.dex_defs.specs.Written.{new_method, new_marks, written_field, written_method}
 use Rattle.write_laws.specs.Listing.{field_entry, method_entries}

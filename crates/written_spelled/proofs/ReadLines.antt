@@ -1,10 +1,10 @@
 -- The lines that are written are those that are read.
-use Rattle.std.proofs.Common.{◌≡◌, ◌≤◌, ◌<◌, ◌+◌, ◌-◌, ◌*◌, ◌^◌, ◌⊎◌, inl, inr, ℕ, zero, suc, Bool, true, false, List, [], ◌∷◌, ◌++◌, length, take, drop, replicate, Option, Some, None, Result, Ok, Err, refl, sym, ap, subst, ◌∙◌, arith, length-append, take-append-drop}
-use Rattle.std.specs.Prelude.{nat_eq, nat_le, not, ◌&&◌, ◌||◌, if◌then◌else◌}
+use Rattle.std.proofs.Common.{◌≡◌, ◌<◌, ◌+◌, ◌-◌, ◌*◌, ◌^◌, ◌⊎◌, inl, inr, ℕ, suc, Bool, true, false, List, [], ◌∷◌, ◌++◌, length, drop, replicate, Some, Ok, refl, sym, ap, subst, ◌∙◌, arith, length-append, take-append-drop}
+use Rattle.std.specs.Prelude.{nat_eq, nat_le, not, ◌&&◌, if◌then◌else◌}
 use Rattle.std.specs.List.{AllByRecursion, list_all, list_any}
 use Rattle.std.proofs.lemmas.Bool.{and_parts, leb-true, le-leb, eqb-true, eq-eqb, ne_eqb}
 use Rattle.lemmas.proofs.Bools.{clash, or_cases}
-use Rattle.line_tables.specs.Item.{Lines, read_as, lines_at}
+use Rattle.line_tables.specs.Item.{Lines, lines_at}
 use Rattle.line_tables.specs.Text.{AscendsFrom, Lined, first_line, entries_text, item_text}
 use Rattle.line_tables.proofs.ReadBack.{Gives, item_is_read}
 use Rattle.dex_base.specs.Leb.{uleb_text}
@@ -15,8 +15,7 @@ use Rattle.program_model.specs.declared.program.Method.{Method}
 use Rattle.program_model.specs.declared.program.Program.{Program}
 use Rattle.dex_read.specs.Code.{kept_lines, counted_lines, lined_at}
 use Rattle.dex_defs.specs.Here.{Here}
-use Rattle.dex_defs.specs.Sweep.{Places}
-use Rattle.dex_defs.specs.ClassDefs.{IsCodeOf, HasCode}
+use Rattle.dex_defs.specs.ClassDefs.{HasCode}
 use Rattle.dex_defs.specs.DebugItems.{lines_of}
 use Rattle.dex_defs.specs.Texts.{lines_text}
 use Rattle.dex_defs.specs.Valid.{CodePart, IsSomeCode, parameters_of}

@@ -1,7 +1,7 @@
 -- All methods of a written file are read with their code and their lines.
-use Rattle.std.proofs.Common.{◌≡◌, ◌<◌, ◌≤◌, ◌+◌, ◌^◌, ℕ, zero, suc, true, false, List, [], ◌∷◌, ◌++◌, length, map, take, drop, Option, Some, None, refl, sym, ap, subst, ◌∙◌, arith}
+use Rattle.std.proofs.Common.{◌≡◌, ◌<◌, ◌+◌, ◌^◌, ℕ, zero, suc, true, false, List, [], ◌∷◌, ◌++◌, length, map, take, drop, Option, Some, None, refl, sym, ap, subst, ◌∙◌, arith}
 use Rattle.std.specs.Prelude.{slice_get, option_and_then}
-use Rattle.std.specs.List.{AllByRecursion, flat_map}
+use Rattle.std.specs.List.{AllByRecursion}
 use Rattle.lemmas.proofs.Options.{some_same}
 use Rattle.program_model.specs.declared.pools.Proto.{Proto}
 use Rattle.program_model.specs.declared.pools.MethodName.{MethodName}
@@ -22,11 +22,11 @@ use Rattle.dex_write.specs.Written.{ArePlans}
 use Rattle.dex_defs.specs.Arranged.{Both}
 use Rattle.dex_defs.specs.ClassDefs.{HasCode}
 use Rattle.dex_defs.specs.LaysOut.{LaysOutMethod}
-use Rattle.dex_defs.specs.Valid.{methods_of, parameters_of}
+use Rattle.dex_defs.specs.Valid.{parameters_of}
 use Rattle.dex_defs.specs.Written.{new_method, written_method, written_class, written_by}
 use Rattle.names_law.specs.Used.{IsShort}
 use Rattle.write_laws.specs.Fits.{FitsProto, TablesFit}
-use Rattle.write_laws.specs.Listing.{method_entries, lists_in}
+use Rattle.write_laws.specs.Listing.{method_entries}
 use Rattle.write_laws.specs.Placing.{item_texts, code_offsets, line_offsets}
 use Rattle.written_tables.proofs.Fit.{Parts, FitsClass}
 use Rattle.written_code.specs.Widths.{HasWideCode}

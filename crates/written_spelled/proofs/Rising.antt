@@ -1,5 +1,5 @@
 -- The units at which the instructions of a code item begin ascend.
-use Rattle.std.proofs.Common.{◌≡◌, ◌≤◌, ◌<◌, ◌+◌, ◌*◌, ◌%◌, ◌/◌, ◌^◌, ℕ, zero, suc, Bool, true, false, List, [], ◌∷◌, length, Option, Some, None, refl, sym, ap, subst, ◌∙◌, arith}
+use Rattle.std.proofs.Common.{◌≡◌, ◌≤◌, ◌<◌, ◌+◌, ◌*◌, ◌%◌, ◌/◌, ◌^◌, ℕ, suc, Bool, true, false, List, [], ◌∷◌, length, Option, Some, None, refl, sym, ap, subst, ◌∙◌, arith}
 use Rattle.std.specs.Prelude.{drop, ◌==◌, if◌then◌else◌}
 use Rattle.std.specs.Option.{option_map}
 use Rattle.dex_base.specs.Word.{Is16}
@@ -11,7 +11,7 @@ use Rattle.code_read.specs.Opcodes.{format_at}
 use Rattle.code_read.specs.Payloads.{payload_size}
 use Rattle.line_tables.specs.Text.{AscendsFrom}
 use Rattle.program_model.specs.declared.body.Body.{Body}
-use Rattle.dex_defs.specs.Sweep.{Piece, Places, IsPiece, PiecesTo, piece_size, payload_kind, only_fills, instructions, starts_of, places_of}
+use Rattle.dex_defs.specs.Sweep.{Piece, Places, PiecesTo, piece_size, payload_kind, only_fills, instructions, starts_of}
 use Rattle.dex_defs.specs.CodeItems.{Frame, AreUnits, IsCode}
 use Rattle.dex_defs.specs.Instructions.{AreInsns}
 use Rattle.insn_set.specs.declared.form.Insn.{Insn}

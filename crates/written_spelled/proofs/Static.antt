@@ -1,11 +1,10 @@
 -- The static fields of each class have the first values that are written for them.
-use Rattle.std.proofs.Common.{◌≡◌, ◌<◌, ◌+◌, ℕ, zero, suc, Bool, true, false, List, [], ◌∷◌, length, map, take, drop, Option, Some, None, refl, sym, ap, subst, ◌∙◌}
+use Rattle.std.proofs.Common.{◌≡◌, ℕ, suc, true, false, List, [], ◌∷◌, length, map, take, drop, Option, Some, None, refl, sym, ap, subst, ◌∙◌}
 use Rattle.std.specs.Prelude.{slice_get, is_some, ◌&&◌}
 use Rattle.std.specs.Option.{option_map}
-use Rattle.std.specs.List.{AllByRecursion, list_all}
+use Rattle.std.specs.List.{AllByRecursion}
 use Rattle.std.proofs.lemmas.Bool.{and_parts}
 use Rattle.lemmas.proofs.Lists.{all_at, get_map}
-use Rattle.lemmas.proofs.Options.{some_same}
 use Rattle.lemmas.proofs.Bools.{clash}
 use Rattle.program_model.specs.declared.pass.Renumber.{Renumber}
 use Rattle.program_model.specs.declared.pools.FieldName.{FieldName}
@@ -17,9 +16,7 @@ use Rattle.program_model.specs.TableRules.{entries_fit}
 use Rattle.program_model.specs.ValueRules.{first_fits, layer_fits, marks_fit}
 use Rattle.program_model.specs.MemberRules.{is_static, class_of_field, is_class_number, field_letter, first_value_fits, field_fits}
 use Rattle.dex_pools.specs.declared.interner.Interner.{Interner}
-use Rattle.dex_pools.specs.declared.used.Named.TheVariants as named
 use Rattle.dex_pools.specs.Interned.{IsInterned}
-use Rattle.dex_pools.specs.Numbering.{used_in}
 use Rattle.dex_write.specs.declared.tables.ClassOffsets.{ClassOffsets}
 use Rattle.dex_write.specs.Plans.{Plan, Numbered}
 use Rattle.dex_write.specs.Codes.{codes_behind, lines_behind}
@@ -28,9 +25,9 @@ use Rattle.dex_write.specs.Data.{has_first, first_count, value_or}
 use Rattle.dex_defs.specs.Arranged.{Both}
 use Rattle.dex_defs.specs.Values.{is_of, letter_of_field, first_of, AreFirsts}
 use Rattle.dex_defs.specs.Written.{new_value, written_field, written_by}
-use Rattle.names_law.specs.Used.{IsUsed, IsShort}
+use Rattle.names_law.specs.Used.{IsShort}
 use Rattle.written_tables.proofs.Fit.{FitsClass}
-use Rattle.written_tables.proofs.In.{In, in_got}
+use Rattle.written_tables.proofs.In.{in_got}
 use Rattle.written_order.proofs.Grouped.{Spot}
 use Rattle.written_parts.specs.Parts.{one_value, first_values, class_parts}
 use Rattle.written_parts.proofs.Members.{field_or, field_at, field_used}

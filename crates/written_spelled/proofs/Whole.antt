@@ -1,5 +1,5 @@
 -- The classes of what is written are spelled there, and so it is valid.
-use Rattle.std.proofs.Common.{◌≡◌, ◌<◌, ◌≤◌, ◌+◌, ◌*◌, ◌^◌, ℕ, List, [], ◌∷◌, ◌++◌, length, map, refl, sym, ap, ◌∙◌, subst, arith, All}
+use Rattle.std.proofs.Common.{◌≡◌, ◌<◌, ◌+◌, ◌*◌, ◌^◌, ℕ, List, [], ◌∷◌, length, map, refl, sym, ap, ◌∙◌, subst, arith, All}
 use Rattle.std.specs.Prelude.{slice_get, Some, true}
 use Rattle.std.specs.List.{flat_map, AllByRecursion}
 use Rattle.dex_base.specs.Decides.{Each, Entries}
@@ -11,12 +11,11 @@ use Rattle.program_model.specs.declared.program.Class.{Class}
 use Rattle.program_model.specs.declared.program.Program.{Program}
 use Rattle.program_model.specs.ProgramRules.{is_well_formed}
 use Rattle.class_defs.specs.ClassGraph.{IsTwice, IsAncestor}
-use Rattle.dex_write.specs.declared.tables.ClassOffsets.{ClassOffsets}
 use Rattle.dex_write.specs.Numbers.{words}
 use Rattle.dex_write.specs.File.{data_at, IsSealed}
 use Rattle.dex_write.specs.Places.{counts_of, front_of, back_of, file_for}
 use Rattle.dex_write.specs.Sets.{set_counts, sets_of, ref_counts, parameter_offsets, marks_of, mark_starts}
-use Rattle.dex_write.specs.Data.{data_texts, array_text}
+use Rattle.dex_write.specs.Data.{array_text}
 use Rattle.dex_write.specs.Order.{classes_at, IsOrder}
 use Rattle.dex_write.specs.Plans.{Plan}
 use Rattle.dex_write.specs.Codes.{parts_of}
@@ -77,7 +76,7 @@ use Rattle.written_classes.proofs.FirstFits.{all_values}
 use Rattle.written_classes.proofs.Filed.{marks_there, offsets_there, members_there, annotations_there, offsets_few, table_there}
 use Rattle.written_classes.proofs.Whole.{firsts_there}
 use Rattle.written_codes.proofs.Fitting.{FewEntries, all_rec}
-use Rattle.written_codes.proofs.All.{Cells, cells_few}
+use Rattle.written_codes.proofs.All.{cells_few}
 use Rattle.written_codes.proofs.Coded.{coded}
 use Rattle.written_spelled.proofs.Wide.{has_widths, has_wide_code, has_wide_values}
 use Rattle.written_spelled.proofs.Apart.{IsNewSet, HasSets, sets_there, all_apart}

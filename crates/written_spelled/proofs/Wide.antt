@@ -1,6 +1,6 @@
 -- Of a well-formed program in memory the numbers of texts, values and code are values of their types, and 32 bits count its lists.
 use Rattle.std.proofs.Common.{◌≡◌, ◌<◌, ◌≤◌, ◌+◌, ◌^◌, ℕ, zero, suc, List, [], ◌∷◌, length, refl, arith}
-use Rattle.std.specs.Prelude.{true, not, ◌&&◌, sum_by, slice_get, Option, Some, None}
+use Rattle.std.specs.Prelude.{true, ◌&&◌, sum_by, slice_get, Option, Some, None}
 use Rattle.std.specs.List.{list_all, AllByRecursion}
 use Rattle.std.proofs.lemmas.Bool.{and_parts}
 use Rattle.std.proofs.lemmas.List.Sums.{sum_by-cons}
@@ -14,13 +14,13 @@ use Rattle.program_model.specs.declared.program.Method.{Method}
 use Rattle.program_model.specs.declared.program.Class.{Class}
 use Rattle.program_model.specs.declared.program.Program.{Program}
 use Rattle.program_model.specs.ProgramRules.{is_well_formed}
-use Rattle.program_model.specs.Items.{element_items, note_items, value_items, mark_items, marks_items, first_items_from, field_items, fields_items, body_items, method_items, class_items, proto_items, items_of}
+use Rattle.program_model.specs.Items.{element_items, note_items, value_items, mark_items, marks_items, field_items, method_items, class_items, items_of}
 use Rattle.program_model.specs.MemberRules.{field_letter, is_static, class_of_field, is_class_number, first_value_fits, field_fits, class_fits}
 use Rattle.program_model.specs.ValueRules.{layer_fits, marks_fit}
 use Rattle.widths.specs.Code.{WideCode}
 use Rattle.widths.specs.Values.{NoteInWidth, LayerInWidth, ValueInWidth, FirstInWidth, MarkInWidth, MarksInWidth}
-use Rattle.widths.specs.Widths.{TextInWidth, FieldInWidth, MethodInWidth, ClassInWidth, IsInWidth}
-use Rattle.written_tables.specs.Widths.{AreHalves, MarksFit, FieldFits, MethodFits, ClassFits, HasWidths}
+use Rattle.widths.specs.Widths.{FieldInWidth, MethodInWidth, ClassInWidth, IsInWidth}
+use Rattle.written_tables.specs.Widths.{MarksFit, FieldFits, MethodFits, ClassFits, HasWidths}
 use Rattle.written_tables.proofs.Fit.{FitsClass, Parts, parts_of, class_parts}
 use Rattle.written_values.specs.Wide.{IsWideNote, IsWideLayer, IsWide, IsWideMark, AreWide, IsWideFirst, WideField, WideMethod, WideClass, HasWideValues}
 use Rattle.written_code.specs.Widths.{HasWideCode}

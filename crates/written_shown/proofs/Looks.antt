@@ -171,8 +171,8 @@ module _ (p q : NamedProgram) (a : LooksAlike p q) where
   reaches_same zero = refl
   reaches_same (suc n) = fun_ext (λ t.
       at_class p q a (λ c. touches (defines q) (c.superclass ∷ c.interfaces) || list_any (reaches_framework n q) (c.superclass ∷ c.interfaces))
-          (λ c. touches (defines q) (c.superclass ∷ c.interfaces) || list_any (reaches_framework n q) (c.superclass ∷ c.interfaces)) false
-          (λ c d h. ap (λ ts. touches (defines q) ts || list_any (reaches_framework n q) ts) (above_alike c d h)) t
+      (λ c. touches (defines q) (c.superclass ∷ c.interfaces) || list_any (reaches_framework n q) (c.superclass ∷ c.interfaces)) false
+      (λ c d h. ap (λ ts. touches (defines q) ts || list_any (reaches_framework n q) ts) (above_alike c d h)) t
       ∙ ap (λ d. class_case (λ c. touches d (c.superclass ∷ c.interfaces) || list_any (reaches_framework n q) (c.superclass ∷ c.interfaces)) false (class_named p t)) defines_same
       ∙ ap (λ next. class_case (λ c. touches (defines p) (c.superclass ∷ c.interfaces) || list_any next (c.superclass ∷ c.interfaces)) false (class_named p t)) (reaches_same n))
 
@@ -204,11 +204,11 @@ module _ (p q : NamedProgram) (a : LooksAlike p q) where
       by (Some c) (Some d) l r =
           placed_or (option_map (λ f. (d.name, f)) (field_in d k.name k.kind)) (first_field (map (field_from n q k) (d.interfaces ++ d.superclass ∷ [])))
           ∙ ap (λ o. option_or o (placed (first_field (map (field_from n q k) (d.interfaces ++ d.superclass ∷ [])))))
-              (placed_in d.name (field_in d k.name k.kind) ∙ ap (λ t. option_map (place_of t) (field_in d k.name k.kind)) l.name ∙ place_alike c.name k.name k.kind c d l ∙ sym (placed_in c.name (field_in c k.name k.kind)))
+          (placed_in d.name (field_in d k.name k.kind) ∙ ap (λ t. option_map (place_of t) (field_in d k.name k.kind)) l.name ∙ place_alike c.name k.name k.kind c d l ∙ sym (placed_in c.name (field_in c k.name k.kind)))
           ∙ ap (option_or (placed (option_map (λ f. (c.name, f)) (field_in c k.name k.kind))))
-              (ap (λ ts. placed (first_field (map (field_from n q k) (ts ++ d.superclass ∷ [])))) l.interfaces
-              ∙ ap (λ t. placed (first_field (map (field_from n q k) (c.interfaces ++ t ∷ [])))) l.superclass
-              ∙ placed_first (field_from n q k) (field_from n p k) r (c.interfaces ++ c.superclass ∷ []))
+          (ap (λ ts. placed (first_field (map (field_from n q k) (ts ++ d.superclass ∷ [])))) l.interfaces
+          ∙ ap (λ t. placed (first_field (map (field_from n q k) (c.interfaces ++ t ∷ [])))) l.superclass
+          ∙ placed_first (field_from n q k) (field_from n p k) r (c.interfaces ++ c.superclass ∷ []))
           ∙ sym (placed_or (option_map (λ f. (c.name, f)) (field_in c k.name k.kind)) (first_field (map (field_from n p k) (c.interfaces ++ c.superclass ∷ []))))
       by None (Some d) l r = absurd l
       by (Some c) None l r = absurd l
@@ -232,9 +232,9 @@ module _ (p q : NamedProgram) (a : LooksAlike p q) where
     candidates_from_same zero = refl
     candidates_from_same (suc k) = fun_ext (λ ts. ap (λ f. flat_map f ts) (fun_ext (λ t.
         both (candidate_case (candidates_from k q n s)) (candidate_case (candidates_from k q n s)) []
-            (λ c d h. ap (λ o. elim o as (λ o. List Found) [ Some f ↦ f ∷ [] | None ↦ [] ] ++ candidates_from k q n s d.interfaces) (passing_alike is_virtual_method (λ m. refl) n s c d h)
-            ∙ ap (λ us. own_candidate n s c ++ candidates_from k q n s us) h.interfaces)
-            (interface_named p t) (interface_named q t) (interface_alike p q a t)
+        (λ c d h. ap (λ o. elim o as (λ o. List Found) [ Some f ↦ f ∷ [] | None ↦ [] ] ++ candidates_from k q n s d.interfaces) (passing_alike is_virtual_method (λ m. refl) n s c d h)
+        ∙ ap (λ us. own_candidate n s c ++ candidates_from k q n s us) h.interfaces)
+        (interface_named p t) (interface_named q t) (interface_alike p q a t)
         ∙ ap (λ next. class_case (candidate_case next) [] (interface_named p t)) (candidates_from_same k))))
 
     candidates_same : (ts : List Text) → candidates q ts n s ≡ candidates p ts n s
@@ -305,8 +305,8 @@ module _ (p q : NamedProgram) (a : LooksAlike p q) where
   before_same zero = refl
   before_same (suc n) = fun_ext (λ ts. ap (λ f. flat_map f ts) (fun_ext (λ t.
       both (before_case (interfaces_before n q) t) (before_case (interfaces_before n q) t) []
-          (λ c d h. ap (λ us. interfaces_before n q us ++ only_if (has_default d) t) h.interfaces ∙ ap (λ b. interfaces_before n q c.interfaces ++ only_if b t) h.default)
-          (interface_named p t) (interface_named q t) (interface_alike p q a t)
+      (λ c d h. ap (λ us. interfaces_before n q us ++ only_if (has_default d) t) h.interfaces ∙ ap (λ b. interfaces_before n q c.interfaces ++ only_if b t) h.default)
+      (interface_named p t) (interface_named q t) (interface_alike p q a t)
       ∙ ap (λ next. class_case (before_case next t) [] (interface_named p t)) (before_same n))))
 
   firsts_same : (ts : List Text) → elim (is_037 q.version) as (λ b. List Text) [ true ↦ firsts (interfaces_before (length q.classes) q ts) | false ↦ [] ]
@@ -335,7 +335,7 @@ module _ (p q : NamedProgram) (a : LooksAlike p q) where
   quiet_same zero = refl
   quiet_same (suc n) = fun_ext (λ ts. ap (λ f. list_all f ts) (fun_ext (λ t.
       at_class p q a (λ c. not (is_some (initialiser_of q t)) && interfaces_quiet n q c.interfaces) (λ c. not (is_some (initialiser_of q t)) && interfaces_quiet n q c.interfaces) true
-          (λ c d h. ap (λ us. not (is_some (initialiser_of q t)) && interfaces_quiet n q us) h.interfaces) t
+      (λ c d h. ap (λ us. not (is_some (initialiser_of q t)) && interfaces_quiet n q us) h.interfaces) t
       ∙ ap (λ i. class_case (λ c. not (is_some (i t)) && interfaces_quiet n q c.interfaces) true (class_named p t)) initialiser_same
       ∙ ap (λ next. class_case (λ c. not (is_some (initialiser_of p t)) && next c.interfaces) true (class_named p t)) (quiet_same n))))
 

@@ -353,9 +353,9 @@ module _ (p q : NamedProgram) (a : LooksAlike p q) where
       ap (λ ts. first_method (λ m. true) k.name k.signature (chain_of q k.class ++ interfaces_from (length q.classes) q ts)) above
       ∙ ap (λ n. first_method (λ m. true) k.name k.signature (chain_of q k.class ++ interfaces_from n q (flat_map (λ c. c.interfaces) (chain_of p k.class)))) a.count
       ∙ first_alike (λ m. true) (λ m. refl) k.name k.signature
-          (chain_of p k.class ++ interfaces_from (length p.classes) p (flat_map (λ c. c.interfaces) (chain_of p k.class))) (chain_of q k.class ++ interfaces_from (length p.classes) q (flat_map (λ c. c.interfaces) (chain_of p k.class)))
-          (all_append (chain_of p k.class) (chain_of q k.class) (interfaces_from (length p.classes) p (flat_map (λ c. c.interfaces) (chain_of p k.class))) (interfaces_from (length p.classes) q (flat_map (λ c. c.interfaces) (chain_of p k.class)))
-              (chain_alike p q a k.class) (interfaces_alike (length p.classes) (flat_map (λ c. c.interfaces) (chain_of p k.class))))
+      (chain_of p k.class ++ interfaces_from (length p.classes) p (flat_map (λ c. c.interfaces) (chain_of p k.class))) (chain_of q k.class ++ interfaces_from (length p.classes) q (flat_map (λ c. c.interfaces) (chain_of p k.class)))
+      (all_append (chain_of p k.class) (chain_of q k.class) (interfaces_from (length p.classes) p (flat_map (λ c. c.interfaces) (chain_of p k.class))) (interfaces_from (length p.classes) q (flat_map (λ c. c.interfaces) (chain_of p k.class)))
+      (chain_alike p q a k.class) (interfaces_alike (length p.classes) (flat_map (λ c. c.interfaces) (chain_of p k.class))))
 
   pub kinds_alike : KindsAlike p q
   kinds_alike = record {

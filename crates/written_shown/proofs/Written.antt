@@ -191,10 +191,12 @@ module _ (p : Program) (i : Interner) (order : List ℕ) (formed : is_well_forme
       in_method c m b j l e =
           let keeps : KeepsClass p i (written_by i p) c = all_in (KeepsClass p i (written_by i p)) c p.classes (classes_kept p i (few p i order formed once grounded h ordered) h) j in
           let kept : KeepsMethod p i (written_by i p) m = all_in (KeepsMethod p i (written_by i p)) m c.methods keeps.methods l in
-          let old = typed.bodies (named_class p c) (named_method p m) b (in_contains (named_class p c) (named p).classes (in_map (named_class p) c p.classes j)) (in_contains (named_method p m) (named_class p c).methods (in_map (named_method p) m c.methods l)) (sym kept.code ∙ e) in
-          (old.0, retyped (named (written_by i p)) (named_class p c) (named_class (written_by i p) (written_class i.numbers p c)) keeps.name refl keeps.superclass (named_method p m) (named_method (written_by i p) (written_method i.numbers m))
-              (ap (λ k. k.name) kept.name) (ap (λ k. k.signature) kept.name) refl b old.0
-              (typing_moved (named p) (named (written_by i p)) kinds (named_class p c) (named_class (written_by i p) (written_class i.numbers p c)) (named_method p m) (named_method (written_by i p) (written_method i.numbers m)) b old.0 old.1))
+          let old = typed.bodies (named_class p c) (named_method p m) b (in_contains (named_class p c) (named p).classes (in_map (named_class p) c p.classes j)) (in_contains (named_method p m) (named_class p c).methods (in_map (named_method p) m c.methods l)) (sym kept.code ∙ e) in (
+            old.0,
+            retyped (named (written_by i p)) (named_class p c) (named_class (written_by i p) (written_class i.numbers p c)) keeps.name refl keeps.superclass (named_method p m) (named_method (written_by i p) (written_method i.numbers m))
+                (ap (λ k. k.name) kept.name) (ap (λ k. k.signature) kept.name) refl b old.0
+                (typing_moved (named p) (named (written_by i p)) kinds (named_class p c) (named_class (written_by i p) (written_class i.numbers p c)) (named_method p m) (named_method (written_by i p) (written_method i.numbers m)) b old.0 old.1),
+          )
 
       in_class : (c : Class) (n : NamedMethod) (b : NamedBody) → In c p.classes → In n (named_class (written_by i p) (written_class i.numbers p c)).methods → n.body ≡ Some b
           → (t : Table) × IsTyping (named (written_by i p)) (named_class (written_by i p) (written_class i.numbers p c)) n b t
@@ -203,10 +205,10 @@ module _ (p : Program) (i : Interner) (order : List ℕ) (formed : is_well_forme
           let v : Image (written_method i.numbers) (in_order (method_below i.numbers p) c.methods) u.x = image (written_method i.numbers) u.x (in_order (method_below i.numbers p) c.methods) u.is_in in
           let is : named_method (written_by i p) (written_method i.numbers v.x) ≡ n = ap (named_method (written_by i p)) v.is ∙ u.is in
           subst (λ x. (t : Table) × IsTyping (named (written_by i p)) (named_class (written_by i p) (written_class i.numbers p c)) x b t) is
-              (in_method c v.x b j (in_order_only (method_below i.numbers p) v.x c.methods v.is_in) (ap (λ x. x.body) is ∙ e))
+          (in_method c v.x b j (in_order_only (method_below i.numbers p) v.x c.methods v.is_in) (ap (λ x. x.body) is ∙ e))
 
       in_program : (d : NamedClass) (n : NamedMethod) (b : NamedBody) → Contains (named (written_by i p)).classes d → Contains d.methods n → n.body ≡ Some b → (t : Table) × IsTyping (named (written_by i p)) d n b t
       in_program d n b j l e =
           let z : Comes p i order formed once grounded h ordered d = comes p i order formed once grounded h ordered d (in_place (named (written_by i p)).classes j.0 d j.1 j.2) in
           subst (λ x. (t : Table) × IsTyping (named (written_by i p)) x n b t) z.is
-              (in_class z.class n b z.is_in (subst (λ x. In n x.methods) (sym z.is) (in_place d.methods l.0 n l.1 l.2)) e)
+          (in_class z.class n b z.is_in (subst (λ x. In n x.methods) (sym z.is) (in_place d.methods l.0 n l.1 l.2)) e)

@@ -6,6 +6,3 @@ pub mod Whole
 pub mod Defs
 pub mod ValueFaults
 pub mod Read
-pub mod Standing
-pub mod Entries
-pub mod Listing

@@ -30,6 +30,8 @@ use Rattle.redex_outside.specs.Held.{Held}
 use Rattle.redex_cli.specs.Accepted.{IsAccepted, IsGraphOf}
 use Rattle.redex_cli.specs.Finished.{Finished, FinishedOf, IsOutputOf, Leaves, LeavesInlined, LeavesBy}
 use Rattle.redex_cli.specs.Refusals.{OutputBy}
+use Rattle.if_text.specs.Items.{Item}
+use Rattle.if_rules.specs.Fired.{IsTableOf, Without, With}
 use Rattle.redex_cli.specs.Tables.{IsTableWith}
 use Rattle.redex_cli.specs.declared.fetching.Inputs.{Inputs}
 use Rattle.headline.proofs.LaidOut.{left_lies, written_left_lies}
@@ -39,10 +41,14 @@ use Rattle.headline.proofs.Rising.{names_rise_for, is_spelled}
 use Rattle.written_shown.proofs.Looks.{shown_on}
 
 -- rules alone shut no method, and what a library shuts is shut by the definition
+none_shut : (p : Program) (items : List Item) (o : Outside) → IsTableOf p items o → o.shut ≡ []
+none_shut p items o (Without none table) = table.shut
+none_shut p items o (With settled) = settled.table.shut
+
 table_holds : (rules : List ℕ) (library : Option (List ℕ)) (p : Program) (o : Outside) → is_well_formed p ≡ true → ((class : ℕ) → IsTwice p class → ⊥)
     → IsTableWith rules library p o
     → ShutsHold (named p) (outer_of p o)
-table_holds rules None p o well once table = unshut p o (table.closes.shut ∙ table.table.shut)
+table_holds rules None p o well once table = unshut p o (table.closes.shut ∙ none_shut p table.table.items table.ruled table.table.table)
 table_holds rules (Some bytes) p o well once table = narrowed_holds p well once table.closed o table.library table.narrowed
 
 -- the advisers were asked about methods first

@@ -10,6 +10,8 @@ use Rattle.program_model.specs.declared.program.Class.{Class}
 use Rattle.program_model.specs.declared.program.Field.{Field}
 use Rattle.program_model.specs.declared.program.Method.{Method}
 use Rattle.program_model.specs.declared.program.Program.{Program}
+use Rattle.pass_defs.specs.Typed.{IsTyped}
+use Rattle.dalvik_defs.specs.Naming.{named}
 use Rattle.dex_pools.specs.Finds.{Ascends}
 use Rattle.dex_pools.specs.Order.{list_below}
 use Rattle.dex_read.specs.File.{program_at}
@@ -21,7 +23,7 @@ use Rattle.written_tables.proofs.In.{all_in, in_got}
 use Rattle.written_order.specs.Rises.{MarksLow, ClassLow, NamesRise}
 use Rattle.written_sets.proofs.Low.{class_low}
 use Rattle.written_spelled.proofs.Whole.{written_is_valid}
-use Rattle.written_shown.proofs.Written.{written_shows}
+use Rattle.written_shown.proofs.Written.{written_shows, written_typed}
 use Rattle.class_defs.specs.ClassGraph.{IsTwice, IsAncestor}
 use Rattle.dex_write.specs.Written as writer
 use Rattle.dex_defs.specs.LaysOut.{LaysOut}
@@ -82,14 +84,15 @@ names_rise_for false bytes p q admitted reads formed s = names_rise bytes p q No
 names_rise_for true bytes p q admitted reads formed s = names_rise bytes p q FewRegisters admitted reads formed s
 
 -- what is written for a program in whose annotations names rise
-pub is_spelled : (p : Program) (bytes : List ℕ) (w : writer.IsWritten p bytes) → is_well_formed p ≡ true → ((class : ℕ) → IsTwice p class → ⊥) → ((class : ℕ) → IsAncestor p class class → ⊥) → NamesRise p → LaysOut (written_by w.interner p)
+pub is_spelled : (p : Program) (bytes : List ℕ) (w : writer.IsWritten p bytes) → is_well_formed p ≡ true → ((class : ℕ) → IsTwice p class → ⊥) → ((class : ℕ) → IsAncestor p class class → ⊥) → IsTyped (named p) → NamesRise p → LaysOut (written_by w.interner p)
     → ((i : ℕ) → slice_index bytes i < 256) → IsSpelled p bytes
-is_spelled p bytes w formed once grounded rise lays small = record {
+is_spelled p bytes w formed once grounded typed rise lays small = record {
   spelled = written_by w.interner p;
   is = record { interner = w.interner; used = w.interned; is = refl };
   valid = (written_is_valid p bytes w formed once grounded rise lays).valid;
   only = λ other spells. spells_once bytes other (written_by w.interner p) small spells (written_is_valid p bytes w formed once grounded rise lays).valid.spelled;
   again = λ other reads. spells_once bytes other (written_by w.interner p) small (read_is_spelled bytes other small reads) (written_is_valid p bytes w formed once grounded rise lays).valid.spelled;
   signed = w.sealed.signature;
+  typed = written_typed p w.interner w.places formed once grounded w.interned w.ordered typed;
   shows = written_shows p w.interner w.places formed once grounded w.interned w.ordered;
 }

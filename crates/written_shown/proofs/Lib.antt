@@ -2,4 +2,5 @@ pub mod Alike
 pub mod Looks
 pub mod Twins
 pub mod Classes
+pub mod Typings
 pub mod Written

@@ -33,7 +33,7 @@ use Rattle.written_shown.proofs.Alike.{bare_method, bare_field, of_proto, AlikeC
 -- ---- members without what no run asks for
 
 -- a test that asks nothing of it
-abbrev Blind : (NamedMethod → Bool) → Type 0
+abbrev pub Blind : (NamedMethod → Bool) → Type 0
 Blind test = (m : NamedMethod) → test (bare_method m) ≡ test m
 
 passing_bare : (test : NamedMethod → Bool) → Blind test → (c : NamedClass) (o : Option NamedMethod) → passing test c (option_map bare_method o) ≡ passing test c o
@@ -51,7 +51,7 @@ passing_alike : (test : NamedMethod → Bool) → Blind test → (n : Text) (s :
 passing_alike test b n s c d h =
     passing_name test c d h.name (method_in d n s) ∙ sym (passing_bare test b c (method_in d n s)) ∙ ap (passing test c) (h.method n s) ∙ passing_bare test b c (method_in c n s)
 
-first_alike : (test : NamedMethod → Bool) → Blind test → (n : Text) (s : Signature) (cs ds : List NamedClass) → AllAlike cs ds → first_method test n s ds ≡ first_method test n s cs
+pub first_alike : (test : NamedMethod → Bool) → Blind test → (n : Text) (s : Signature) (cs ds : List NamedClass) → AllAlike cs ds → first_method test n s ds ≡ first_method test n s cs
 first_alike test b n s [] [] l = refl
 first_alike test b n s (c ∷ cs) (d ∷ ds) l =
     ap (λ o. option_or o (first_method test n s ds)) (passing_alike test b n s c d l.0)
@@ -92,7 +92,7 @@ place_alike : (t n k : Text) (c d : NamedClass) → AlikeClass c d → option_ma
 place_alike t n k c d h = sym (place_bare t (field_in d n k)) ∙ ap (option_map (place_of t)) (h.field n k) ∙ place_bare t (field_in c n k)
 
 -- where a field was found
-abbrev placed : Option (Text × NamedField) → Option Place
+abbrev pub placed : Option (Text × NamedField) → Option Place
 placed o = option_map (λ x. place_of x.0 x.1) o
 
 placed_or : (o r : Option (Text × NamedField)) → placed (option_or o r) ≡ option_or (placed o) (placed r)
@@ -171,8 +171,8 @@ module _ (p q : NamedProgram) (a : LooksAlike p q) where
   reaches_same zero = refl
   reaches_same (suc n) = fun_ext (λ t.
       at_class p q a (λ c. touches (defines q) (c.superclass ∷ c.interfaces) || list_any (reaches_framework n q) (c.superclass ∷ c.interfaces))
-          (λ c. touches (defines q) (c.superclass ∷ c.interfaces) || list_any (reaches_framework n q) (c.superclass ∷ c.interfaces)) false
-          (λ c d h. ap (λ ts. touches (defines q) ts || list_any (reaches_framework n q) ts) (above_alike c d h)) t
+      (λ c. touches (defines q) (c.superclass ∷ c.interfaces) || list_any (reaches_framework n q) (c.superclass ∷ c.interfaces)) false
+      (λ c d h. ap (λ ts. touches (defines q) ts || list_any (reaches_framework n q) ts) (above_alike c d h)) t
       ∙ ap (λ d. class_case (λ c. touches d (c.superclass ∷ c.interfaces) || list_any (reaches_framework n q) (c.superclass ∷ c.interfaces)) false (class_named p t)) defines_same
       ∙ ap (λ next. class_case (λ c. touches (defines p) (c.superclass ∷ c.interfaces) || list_any next (c.superclass ∷ c.interfaces)) false (class_named p t)) (reaches_same n))
 
@@ -204,16 +204,16 @@ module _ (p q : NamedProgram) (a : LooksAlike p q) where
       by (Some c) (Some d) l r =
           placed_or (option_map (λ f. (d.name, f)) (field_in d k.name k.kind)) (first_field (map (field_from n q k) (d.interfaces ++ d.superclass ∷ [])))
           ∙ ap (λ o. option_or o (placed (first_field (map (field_from n q k) (d.interfaces ++ d.superclass ∷ [])))))
-              (placed_in d.name (field_in d k.name k.kind) ∙ ap (λ t. option_map (place_of t) (field_in d k.name k.kind)) l.name ∙ place_alike c.name k.name k.kind c d l ∙ sym (placed_in c.name (field_in c k.name k.kind)))
+          (placed_in d.name (field_in d k.name k.kind) ∙ ap (λ t. option_map (place_of t) (field_in d k.name k.kind)) l.name ∙ place_alike c.name k.name k.kind c d l ∙ sym (placed_in c.name (field_in c k.name k.kind)))
           ∙ ap (option_or (placed (option_map (λ f. (c.name, f)) (field_in c k.name k.kind))))
-              (ap (λ ts. placed (first_field (map (field_from n q k) (ts ++ d.superclass ∷ [])))) l.interfaces
-              ∙ ap (λ t. placed (first_field (map (field_from n q k) (c.interfaces ++ t ∷ [])))) l.superclass
-              ∙ placed_first (field_from n q k) (field_from n p k) r (c.interfaces ++ c.superclass ∷ []))
+          (ap (λ ts. placed (first_field (map (field_from n q k) (ts ++ d.superclass ∷ [])))) l.interfaces
+          ∙ ap (λ t. placed (first_field (map (field_from n q k) (c.interfaces ++ t ∷ [])))) l.superclass
+          ∙ placed_first (field_from n q k) (field_from n p k) r (c.interfaces ++ c.superclass ∷ []))
           ∙ sym (placed_or (option_map (λ f. (c.name, f)) (field_in c k.name k.kind)) (first_field (map (field_from n p k) (c.interfaces ++ c.superclass ∷ []))))
       by None (Some d) l r = absurd l
       by (Some c) None l r = absurd l
 
-  field_same : (k : FieldKey) → placed (finds_field q k) ≡ placed (finds_field p k)
+  pub field_same : (k : FieldKey) → placed (finds_field q k) ≡ placed (finds_field p k)
   field_same k = ap (λ n. placed (field_from n q k k.class)) a.count ∙ field_from_same (length p.classes) k k.class
 
   -- ---- methods
@@ -232,9 +232,9 @@ module _ (p q : NamedProgram) (a : LooksAlike p q) where
     candidates_from_same zero = refl
     candidates_from_same (suc k) = fun_ext (λ ts. ap (λ f. flat_map f ts) (fun_ext (λ t.
         both (candidate_case (candidates_from k q n s)) (candidate_case (candidates_from k q n s)) []
-            (λ c d h. ap (λ o. elim o as (λ o. List Found) [ Some f ↦ f ∷ [] | None ↦ [] ] ++ candidates_from k q n s d.interfaces) (passing_alike is_virtual_method (λ m. refl) n s c d h)
-            ∙ ap (λ us. own_candidate n s c ++ candidates_from k q n s us) h.interfaces)
-            (interface_named p t) (interface_named q t) (interface_alike p q a t)
+        (λ c d h. ap (λ o. elim o as (λ o. List Found) [ Some f ↦ f ∷ [] | None ↦ [] ] ++ candidates_from k q n s d.interfaces) (passing_alike is_virtual_method (λ m. refl) n s c d h)
+        ∙ ap (λ us. own_candidate n s c ++ candidates_from k q n s us) h.interfaces)
+        (interface_named p t) (interface_named q t) (interface_alike p q a t)
         ∙ ap (λ next. class_case (candidate_case next) [] (interface_named p t)) (candidates_from_same k))))
 
     candidates_same : (ts : List Text) → candidates q ts n s ≡ candidates p ts n s
@@ -287,7 +287,7 @@ module _ (p q : NamedProgram) (a : LooksAlike p q) where
   super_037 class k None (Some d) l = absurd l
   super_037 class k (Some c) None l = absurd l
 
-  super_same : finds_super q ≡ finds_super p
+  pub super_same : finds_super q ≡ finds_super p
   super_same = fun_ext (λ class. fun_ext (λ k.
       ap (λ v. choice (is_037 v) (finds_super_037 q class k (class_named q k.class)) (finds_above q class k)) a.version
       ∙ ap (λ x. choice (is_037 p.version) x (finds_above q class k)) (super_037 class k (class_named p k.class) (class_named q k.class) (a.class k.class))
@@ -305,8 +305,8 @@ module _ (p q : NamedProgram) (a : LooksAlike p q) where
   before_same zero = refl
   before_same (suc n) = fun_ext (λ ts. ap (λ f. flat_map f ts) (fun_ext (λ t.
       both (before_case (interfaces_before n q) t) (before_case (interfaces_before n q) t) []
-          (λ c d h. ap (λ us. interfaces_before n q us ++ only_if (has_default d) t) h.interfaces ∙ ap (λ b. interfaces_before n q c.interfaces ++ only_if b t) h.default)
-          (interface_named p t) (interface_named q t) (interface_alike p q a t)
+      (λ c d h. ap (λ us. interfaces_before n q us ++ only_if (has_default d) t) h.interfaces ∙ ap (λ b. interfaces_before n q c.interfaces ++ only_if b t) h.default)
+      (interface_named p t) (interface_named q t) (interface_alike p q a t)
       ∙ ap (λ next. class_case (before_case next t) [] (interface_named p t)) (before_same n))))
 
   firsts_same : (ts : List Text) → elim (is_037 q.version) as (λ b. List Text) [ true ↦ firsts (interfaces_before (length q.classes) q ts) | false ↦ [] ]
@@ -335,7 +335,7 @@ module _ (p q : NamedProgram) (a : LooksAlike p q) where
   quiet_same zero = refl
   quiet_same (suc n) = fun_ext (λ ts. ap (λ f. list_all f ts) (fun_ext (λ t.
       at_class p q a (λ c. not (is_some (initialiser_of q t)) && interfaces_quiet n q c.interfaces) (λ c. not (is_some (initialiser_of q t)) && interfaces_quiet n q c.interfaces) true
-          (λ c d h. ap (λ us. not (is_some (initialiser_of q t)) && interfaces_quiet n q us) h.interfaces) t
+      (λ c d h. ap (λ us. not (is_some (initialiser_of q t)) && interfaces_quiet n q us) h.interfaces) t
       ∙ ap (λ i. class_case (λ c. not (is_some (i t)) && interfaces_quiet n q c.interfaces) true (class_named p t)) initialiser_same
       ∙ ap (λ next. class_case (λ c. not (is_some (initialiser_of p t)) && next c.interfaces) true (class_named p t)) (quiet_same n))))
 

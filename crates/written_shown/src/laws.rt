@@ -14,6 +14,7 @@ ghost use Rattle.dex_defs.specs.Written.{written_by};
 ghost use Rattle.dex_pools.specs.Interned.{IsInterned};
 ghost use Rattle.dex_pools.specs.declared.interner.Interner.{Interner};
 ghost use Rattle.dex_write.specs.Order.{IsOrder};
+ghost use Rattle.pass_defs.specs.Typed.{IsTyped};
 ghost use Rattle.program_model.specs.ProgramRules.{is_well_formed};
 ghost use Rattle.program_model.specs.declared.program.Program.{Program};
 
@@ -22,6 +23,12 @@ ghost use Rattle.program_model.specs.declared.program.Program.{Program};
 pub fn written_shows_law()
     ensures { (p : Program) (i : Interner) (order : List ℕ) → is_well_formed p ≡ true → ((class : ℕ) → IsTwice p class → ⊥) → ((class : ℕ) → IsAncestor p class class → ⊥) → IsInterned p i → IsOrder p order
         → (o : Outer) (f : Framework) (a : Floats) (script : List Move) (n : ℕ) → shows (named (written_by i p)) o f a script n ≡ shows (named p) o f a script n }
+{}
+
+/// It is typed where the program is.
+pub fn written_typed_law()
+    ensures { (p : Program) (i : Interner) (order : List ℕ) → is_well_formed p ≡ true → ((class : ℕ) → IsTwice p class → ⊥) → ((class : ℕ) → IsAncestor p class class → ⊥) → IsInterned p i → IsOrder p order
+        → IsTyped (named p) → IsTyped (named (written_by i p)) }
 {}
 
 /// What shows the same as a program shows the same as one that shows that in as many steps.

@@ -129,7 +129,7 @@ module _ (bytes : List ℕ) (are_bytes : AreBytes bytes) (p : Program) (h : HasT
   -- ---- its interfaces
 
   module _ (d : ClassDef) (is : IsReadDef bytes p at d) where
-    has_def : HasDef bytes place (def_of d)
+    pub has_def : HasDef bytes place (def_of d)
     has_def = record { at = at; stands = class.stands; is = is.is }
 
     pub fails_interfaces : (left : ℕ) → Fails (IsJust bytes) (interfaces_at bytes p d.interfaces left)
@@ -151,7 +151,7 @@ module _ (bytes : List ℕ) (are_bytes : AreBytes bytes) (p : Program) (h : HasT
         let has = type_has bytes h.t h.stand p.strings h.strings p.types h.types k inside in
         (has.0, subst (λ o. HasTypeText bytes k (text_or_none p o) has.0) (sym (type_there bytes h.t h.stand p.strings h.strings p.types h.types k inside)) has.1)
 
-    has_letter : (k : ℕ) → k < length p.types → HasLetter bytes k (letter_of p k)
+    pub has_letter : (k : ℕ) → k < length p.types → HasLetter bytes k (letter_of p k)
     unfolding letter_of
     has_letter k less = let text = type_at k less in record { text = type_text p k; begin = text.0; has = text.1; is = refl }
 

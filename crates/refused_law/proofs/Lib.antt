@@ -9,3 +9,5 @@ pub mod Read
 pub mod Standing
 pub mod Entries
 pub mod Listing
+pub mod FirstFaults
+pub mod ReadFirsts

@@ -196,7 +196,7 @@ module _ (bytes : List ℕ) (p : Program) (ids : HasIds bytes p) (owner : Owner)
   -- ---- lists of members
 
   -- an entry of a list that was read
-  read_entry : (which count mid : ℕ) (l : AtList bytes owner.place at which count mid) (es : List Listed) (stop k : ℕ) (d : Entry) → length (map entry_of es) ≡ count → EntriesTo (IsEntryOf bytes which) 0 mid (map entry_of es) stop
+  pub read_entry : (which count mid : ℕ) (l : AtList bytes owner.place at which count mid) (es : List Listed) (stop k : ℕ) (d : Entry) → length (map entry_of es) ≡ count → EntriesTo (IsEntryOf bytes which) 0 mid (map entry_of es) stop
       → slice_get (map entry_of es) k ≡ Some d → HasEntry bytes owner.place which k d
   read_entry which count mid l es stop k d many entries there =
       let x = entry_in (IsEntryOf bytes which) mid (map entry_of es) stop k d entries there in
@@ -269,7 +269,7 @@ module _ (bytes : List ℕ) (p : Program) (ids : HasIds bytes p) (owner : Owner)
 
   -- the lists of these counts, whose first begins there
   module _ (n0 n1 n2 n3 begin : ℕ) (counted : HasCounts bytes at (four_of n0 n1 n2 n3) begin) where
-    at_zero : AtList bytes owner.place at 0 n0 begin
+    pub at_zero : AtList bytes owner.place at 0 n0 begin
     at_zero = record { def = def; has = has_def; leads = leads; counts = four_of n0 n1 n2 n3; begin = begin; counted = counted; lists = []; many = refl; full = refl; is_count = refl }
 
     module _ (statics : List Entry) (m1 : ℕ) (many0 : length statics ≡ n0) (are0 : EntriesTo (IsEntryOf bytes 0) 0 begin statics m1) where

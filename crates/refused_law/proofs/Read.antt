@@ -39,11 +39,11 @@ use Rattle.refused_law.proofs.Whole.{just_pool}
 
 module _ (bytes : List ℕ) (are : AreBytes bytes) (p : Program) (left : ℕ) (head : head_at bytes ≡ Ok (p, left)) where
   -- the tables of the program, as they stand
-  pools : (q : Pools) × SpellsPools bytes 16777216 q × (p.strings ≡ q.strings) × (p.types ≡ q.types) × (p.fields ≡ q.fields) × (p.methods ≡ q.methods)
+  pub pools : (q : Pools) × SpellsPools bytes 16777216 q × (p.strings ≡ q.strings) × (p.types ≡ q.types) × (p.fields ≡ q.fields) × (p.methods ≡ q.methods)
   pools = let h = ((finds_head bytes).found (p, left) head).tables in
       (h.pools, h.spelled, ap (λ (x : Program). x.strings) h.is, ap (λ (x : Program). x.types) h.is, ap (λ (x : Program). x.fields) h.is, ap (λ (x : Program). x.methods) h.is)
 
-  has_tables : HasTables bytes p
+  pub has_tables : HasTables bytes p
   has_tables = let s = pools.1 in record {
     t = s.tables;
     stand = s.stand;
@@ -52,7 +52,7 @@ module _ (bytes : List ℕ) (are : AreBytes bytes) (p : Program) (left : ℕ) (h
         (subst (λ (ns : List ℕ). Entries s.tables.types.size (IsType bytes s.tables pools.0.strings) ns) (sym pools.3) s.types);
   }
 
-  sizes_are : AreSizes bytes (sizes_in p)
+  pub sizes_are : AreSizes bytes (sizes_in p)
   sizes_are = let s = pools.1 in
       let size : (at n size : ℕ) → n ≡ size → Is32 bytes at size → Is32 bytes at (min n 4294967295) = λ at n size e is. subst (Is32 bytes at) (same_length n size e (word_below bytes are at size is)) is in
       record {
@@ -78,7 +78,7 @@ module _ (bytes : List ℕ) (are : AreBytes bytes) (p : Program) (left : ℕ) (h
 
   -- ---- members
 
-  ids_are : HasIds bytes p
+  pub ids_are : HasIds bytes p
   unfolding has_tables pools
   ids_are = let s = pools.1 in let h = has_tables in record {
     fields = λ i f there.
@@ -100,7 +100,7 @@ module _ (bytes : List ℕ) (are : AreBytes bytes) (p : Program) (left : ℕ) (h
   -- ---- class_defs
 
   module _ (table : Extent) (stands : IsExtent bytes 96 32 table) (place : ℕ) (less : place < table.size) where
-    class_there : IsClassAt bytes place (table.offset + 32 * place)
+    pub class_there : IsClassAt bytes place (table.offset + 32 * place)
     class_there = record {
       stands = entry_at bytes 96 32 table stands place less;
       inside = let all = stands.inside (omega (arith, less)) in omega (arith, less, all);

@@ -56,18 +56,22 @@ pub record IsClassAt (bytes : List ℕ) (place at : ℕ) : Type 0 where
 pub same_length : (n size : ℕ) → n ≡ size → size < 2 ^ 32 → size ≡ min n 4294967295
 same_length n size e less = sym e ∙ sym (min-eq_left (omega (arith, e, less)))
 
-and_none : (a b : Bool) → (a && b) ≡ false → (a ≡ false) ⊎ (b ≡ false)
+pub and_none : (a b : Bool) → (a && b) ≡ false → (a ≡ false) ⊎ (b ≡ false)
 and_none true b h = inr h
 and_none false b h = inl refl
 
--- the first that fails a test
-record FailsTest (test : ℕ → Bool) (xs : List ℕ) : Type 0 where
-  place : ℕ
-  x : ℕ
-  there : slice_get xs place ≡ Some x
-  fails : test x ≡ false
+-- the entry of this number of a list of types
+pub half_there : (bytes : List ℕ) (base size : ℕ) (kinds : List ℕ) (i kind : ℕ) → Each (λ i n. IsHalfIndex bytes (base + 2 * i) size n) 0 kinds → slice_get kinds i ≡ Some kind → IsHalfIndex bytes (base + 2 * i) size kind
+half_there bytes base size kinds i kind each there = each_at (λ i n. IsHalfIndex bytes (base + 2 * i) size n) kinds i kind each there
 
-one_fails : (test : ℕ → Bool) (xs : List ℕ) → list_all test xs ≡ false → FailsTest test xs
+-- the first that fails a test
+pub record FailsTest (test : ℕ → Bool) (xs : List ℕ) : Type 0 where
+  pub place : ℕ
+  pub x : ℕ
+  pub there : slice_get xs place ≡ Some x
+  pub fails : test x ≡ false
+
+pub one_fails : (test : ℕ → Bool) (xs : List ℕ) → list_all test xs ≡ false → FailsTest test xs
 one_fails test [] h = absurd cc
 one_fails test (x ∷ xs) h = by_first (and_none (test x) (list_all test xs) h) (one_fails test xs)
   where
@@ -125,7 +129,7 @@ module _ (bytes : List ℕ) (are_bytes : AreBytes bytes) (p : Program) (h : HasT
   -- ---- its interfaces
 
   module _ (d : ClassDef) (is : IsReadDef bytes p at d) where
-    has_def : HasDef bytes place (def_of d)
+    pub has_def : HasDef bytes place (def_of d)
     has_def = record { at = at; stands = class.stands; is = is.is }
 
     pub fails_interfaces : (left : ℕ) → Fails (IsJust bytes) (interfaces_at bytes p d.interfaces left)
@@ -147,15 +151,12 @@ module _ (bytes : List ℕ) (are_bytes : AreBytes bytes) (p : Program) (h : HasT
         let has = type_has bytes h.t h.stand p.strings h.strings p.types h.types k inside in
         (has.0, subst (λ o. HasTypeText bytes k (text_or_none p o) has.0) (sym (type_there bytes h.t h.stand p.strings h.strings p.types h.types k inside)) has.1)
 
-    has_letter : (k : ℕ) → k < length p.types → HasLetter bytes k (letter_of p k)
+    pub has_letter : (k : ℕ) → k < length p.types → HasLetter bytes k (letter_of p k)
     unfolding letter_of
     has_letter k less = let text = type_at k less in record { text = type_text p k; begin = text.0; has = text.1; is = refl }
 
     other_letter : (k : ℕ) → is_class_type p k ≡ false → letter_of p k ≡ 76 → ⊥
     other_letter k differs is = true≢false (sym (eq-eqb (letter_of p k) 76 is) ∙ differs)
-
-    half_there : (base : ℕ) (size : ℕ) (kinds : List ℕ) (i kind : ℕ) → Each (λ i n. IsHalfIndex bytes (base + 2 * i) size n) 0 kinds → slice_get kinds i ≡ Some kind → IsHalfIndex bytes (base + 2 * i) size kind
-    half_there base size kinds i kind each there = each_at (λ i n. IsHalfIndex bytes (base + 2 * i) size n) kinds i kind each there
 
     interface_bad : (offset : ℕ) (kinds : List ℕ) → offset ≡ d.interfaces → AreParameters bytes (length p.types) offset kinds → FailsTest (is_class_type p) kinds → HasFault bytes (parts.Root place)
     interface_bad zero kinds same are f = absurd (none_there kinds are f.there)
@@ -164,7 +165,7 @@ module _ (bytes : List ℕ) (are_bytes : AreBytes bytes) (p : Program) (h : HasT
         none_there [] e g = absurd cc
         none_there (y ∷ ys) e g = absurd cc
     interface_bad (suc k) kinds same are f =
-        let half = half_there (suc k + 4) (length p.types) kinds f.place f.x are.entries.1 f.there in
+        let half = half_there bytes (suc k + 4) (length p.types) kinds f.place f.x are.entries.1 f.there in
         BadRoot (faults.Interface place (letter_of p f.x) (suc k) f.place f.x (length kinds) (def_of d) has_def ((omega arith), same)
         are.count (got_short kinds f.place f.x f.there) half.is (has_letter f.x half.below) (other_letter f.x f.fails) refl)
 

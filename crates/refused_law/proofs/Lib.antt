@@ -6,3 +6,8 @@ pub mod Whole
 pub mod Defs
 pub mod ValueFaults
 pub mod Read
+pub mod Standing
+pub mod Entries
+pub mod Listing
+pub mod FirstFaults
+pub mod ReadFirsts

@@ -70,12 +70,12 @@ module _ (bytes : List ℕ) (sizes : TableSizes) where
   value_ends zero at r h = absurd h
   value_ends (suc depth) at r h = layer_ends (IsValue bytes sizes depth) (EndsIn bytes depth) (value_ends depth) at r h
 
-  ends_of : (depth at : ℕ) (r : EncValue × ℕ) → IsValue bytes sizes depth at r → places.Ends bytes at r.1
+  pub ends_of : (depth at : ℕ) (r : EncValue × ℕ) → IsValue bytes sizes depth at r → places.Ends bytes at r.1
   ends_of depth at r h = record { depth = depth; ends = value_ends depth at r h }
 
 -- ---- entries one behind another, with what stands before each
 
-repeat_more : (Ends : ℕ → ℕ → Type 0) (n at mid stop : ℕ) → Repeat Ends n at mid → Ends mid stop → Repeat Ends (suc n) at stop
+pub repeat_more : (Ends : ℕ → ℕ → Type 0) (n at mid stop : ℕ) → Repeat Ends n at mid → Ends mid stop → Repeat Ends (suc n) at stop
 repeat_more Ends zero at mid stop h e = (stop, subst (λ (k : ℕ). Ends k stop) h e, refl)
 repeat_more Ends (suc n) at mid stop h e = (h.0, h.1, repeat_more Ends n h.0 mid stop h.2 e)
 

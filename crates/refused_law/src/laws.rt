@@ -1,19 +1,26 @@
 //! Laws of the faults that are answered.
 
-ghost use Rattle.std.specs.Prelude.{◌≡◌, ◌≤◌, ◌<◌, ◌+◌, ◌*◌, ℕ, List, Ok, Err, length, slice_index};
+ghost use Rattle.std.specs.Prelude.{◌≡◌, ◌≤◌, ◌<◌, ◌+◌, ◌*◌, ◌++◌, ℕ, List, Ok, Err, length, map, slice_index};
+ghost use Rattle.program_model.specs.declared.program.Class.{Class};
+ghost use Rattle.program_model.specs.declared.program.Field.{Field};
 ghost use Rattle.program_model.specs.declared.program.Program.{Program};
 ghost use Rattle.dex_pools.specs.PoolTables.{pools_at};
 ghost use Rattle.dex_pools.specs.Spelled.{IsExtent};
 ghost use Rattle.dex_pools.specs.declared.fault.PoolFault.{PoolFault};
 ghost use Rattle.dex_pools.specs.declared.header.Extent.{Extent};
 ghost use Rattle.dex_defs.specs.Places.{HasSet, HasRefs};
-ghost use Rattle.dex_read.specs.Classes.{def_at, interfaces_at, root_at};
+ghost use Rattle.dex_read.specs.ClassData.{members_at};
+ghost use Rattle.dex_read.specs.Classes.{def_at, listed_at, interfaces_at, root_at, begun_at};
 ghost use Rattle.dex_read.specs.Directory.{set_at, sets_at};
-ghost use Rattle.dex_read.specs.File.{head_at};
+ghost use Rattle.dex_read.specs.File.{head_at, classes_at};
 ghost use Rattle.dex_read.specs.Header.{header_at};
+ghost use Rattle.dex_read.specs.Standing.{standing_at};
+ghost use Rattle.dex_read.specs.declared.class_data.Listed.{Listed};
+ghost use Rattle.dex_read.specs.declared.class_data.Members.{Members};
 ghost use Rattle.dex_read.specs.declared.class_defs.ClassDef.{ClassDef};
 ghost use Rattle.dex_read.specs.declared.fault.DexFault.{DexFault};
-ghost use Rattle.refused_law.specs.Just.{IsJustPool, IsJust};
+ghost use Rattle.dex_read.specs.declared.members.Budget.{Budget};
+ghost use Rattle.refused_law.specs.Just.{IsJustPool, IsJust, IsJustMember};
 
 /// A fault of the header that is answered stands there, unless it is a passed limit.
 pub fn header_law()
@@ -43,10 +50,36 @@ pub fn class_def_law()
         → (e : DexFault) → root_at p d interfaces place ≡ Err e → IsJust bytes e }
 {}
 
+/// So does one of the class data of a class_def, unless the number of a member passes 32 bits: that one is answered as the
+/// greatest of them.
+pub fn class_data_law()
+    ensures { (bytes : List ℕ) → ((i : ℕ) → slice_index bytes i < 256) → (p : Program) (left : ℕ) → head_at bytes ≡ Ok (p, left)
+        → (table : Extent) → IsExtent bytes 96 32 table → (place : ℕ) → place < table.size
+        → (d : ClassDef) → def_at bytes p (table.offset + 32 * place) ≡ Ok d → 0 < d.data_at
+        → (e : DexFault) → members_at bytes p (record { place = place; kind = d.class }) d.data_at ≡ Err e → IsJustMember bytes e }
+{}
+
 /// So does one of a set of annotations, or of a list of such sets, that is placed in the file.
 pub fn sets_law()
     ensures sets { (bytes : List ℕ) → ((i : ℕ) → slice_index bytes i < 256) → (p : Program) (left : ℕ) → head_at bytes ≡ Ok (p, left)
         → (offset behind : ℕ) → (0 < offset → HasSet bytes offset) → (e : DexFault) → set_at bytes p offset behind ≡ Err e → IsJust bytes e }
     ensures lists { (bytes : List ℕ) → ((i : ℕ) → slice_index bytes i < 256) → (p : Program) (left : ℕ) → head_at bytes ≡ Ok (p, left)
         → (offset behind : ℕ) → (0 < offset → HasRefs bytes offset) → (e : DexFault) → sets_at bytes p offset behind ≡ Err e → IsJust bytes e }
+{}
+
+/// So does one of an interface that extends or implements a class of the file that is none, once all classes are read.
+pub fn standing_law()
+    ensures { (bytes : List ℕ) → ((i : ℕ) → slice_index bytes i < 256) → (p : Program) (left : ℕ) → head_at bytes ≡ Ok (p, left)
+        → (classes : List Class) (budget : Budget) → classes_at bytes p budget ≡ Ok classes
+        → (e : DexFault) → standing_at (record p { classes = classes }) ≡ Err e → IsJust bytes e }
+{}
+
+/// So does one of the first values of a class_def whose class data is read, for fields that are those of it.
+pub fn first_values_law()
+    ensures { (bytes : List ℕ) → ((i : ℕ) → slice_index bytes i < 256) → (p : Program) (left : ℕ) → head_at bytes ≡ Ok (p, left)
+        → (table : Extent) → IsExtent bytes 96 32 table → (place : ℕ) → place < table.size
+        → (d : ClassDef) → def_at bytes p (table.offset + 32 * place) ≡ Ok d
+        → (m : Members) → listed_at bytes p (record { place = place; kind = d.class }) d.data_at ≡ Ok m
+        → (fields : List Field) (behind : ℕ) → map (λ (f : Field). f.name) fields ≡ map (λ (e : Listed). e.number) (m.statics ++ m.instances)
+        → (e : DexFault) → begun_at bytes p d.static_values (length m.statics) fields behind ≡ Err e → IsJust bytes e }
 {}

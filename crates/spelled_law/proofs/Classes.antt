@@ -31,14 +31,14 @@ use Rattle.spelled_law.proofs.Turning.{Along, along_beside, along_split, Distinc
 
 -- ---- class data, or none
 
-record AreListed (bytes : List ℕ) (p : Program) (owner : Owner) (offset : ℕ) (m : Members) : Type 0 where
-  data_is : IsClassDataOf bytes offset (lists_of m)
-  statics : AllByRecursion (FieldSuits p owner true []) m.statics
-  instances : AllByRecursion (FieldSuits p owner false m.statics) m.instances
-  directs : AllByRecursion (MethodSuits p owner true []) m.directs
-  virtuals : AllByRecursion (MethodSuits p owner false m.directs) m.virtuals
-  fields_differ : Distinct (m.statics ++ m.instances)
-  methods_differ : Distinct (m.directs ++ m.virtuals)
+pub record AreListed (bytes : List ℕ) (p : Program) (owner : Owner) (offset : ℕ) (m : Members) : Type 0 where
+  pub data_is : IsClassDataOf bytes offset (lists_of m)
+  pub statics : AllByRecursion (FieldSuits p owner true []) m.statics
+  pub instances : AllByRecursion (FieldSuits p owner false m.statics) m.instances
+  pub directs : AllByRecursion (MethodSuits p owner true []) m.directs
+  pub virtuals : AllByRecursion (MethodSuits p owner false m.directs) m.virtuals
+  pub fields_differ : Distinct (m.statics ++ m.instances)
+  pub methods_differ : Distinct (m.directs ++ m.virtuals)
 
 by_place : (bytes : List ℕ) (p : Program) (owner : Owner) (offset : ℕ) (m : Members) → (offset ≡ 0 → ⊥) → (h : AreMembers bytes p owner offset m) → IsClassDataOf bytes offset (lists_of m)
 by_place bytes p owner zero m other h = absurd (other refl)
@@ -57,7 +57,7 @@ listed_with bytes p owner offset m other h = record {
       (methods_apart p owner false m.directs m.virtuals h.virtuals);
 }
 
-founds_listed : (bytes : List ℕ) (p : Program) (owner : Owner) (offset : ℕ) → Founds (AreListed bytes p owner offset) (classes.listed_at bytes p owner offset)
+pub founds_listed : (bytes : List ℕ) (p : Program) (owner : Owner) (offset : ℕ) → Founds (AreListed bytes p owner offset) (classes.listed_at bytes p owner offset)
 founds_listed bytes p owner offset = either
     (λ e. weaker (Ok no_members) (done no_members) (λ y q. subst (AreListed bytes p owner offset) (sym q) (record {
       data_is = subst (λ (n : ℕ). IsClassDataOf bytes n (lists_of no_members)) (sym (eqb-true offset 0 e)) refl;

@@ -78,14 +78,14 @@ Begun p (v ∷ vs) [] ys = ⊥
 Begun p (v ∷ vs) (x ∷ xs) [] = ⊥
 Begun p (v ∷ vs) (x ∷ xs) (y ∷ ys) = (is_of (field_letter p (slice_get p.fields x.name)) v ≡ true) × (y ≡ with_first v x) × Begun p vs xs ys
 
-record IsGiven (bytes : List ℕ) (p : Program) (statics i : ℕ) (s r : List Field × (ℕ × ℕ)) : Type 0 where
-  v : EncValue
-  is : IsValue bytes (sizes_in p) 64 s.1.0 (v, r.1.0)
-  inside : i < statics
-  fits : takes p v (slice_get s.0 i) ≡ true
-  fields : r.0 ≡ change_at (with_first v) i s.0
+pub record IsGiven (bytes : List ℕ) (p : Program) (statics i : ℕ) (s r : List Field × (ℕ × ℕ)) : Type 0 where
+  pub v : EncValue
+  pub is : IsValue bytes (sizes_in p) 64 s.1.0 (v, r.1.0)
+  pub inside : i < statics
+  pub fits : takes p v (slice_get s.0 i) ≡ true
+  pub fields : r.0 ≡ change_at (with_first v) i s.0
 
-founds_give : (bytes : List ℕ) (p : Program) (statics i : ℕ) (s : List Field × (ℕ × ℕ)) → Founds (IsGiven bytes p statics i s) (give_first bytes p statics i s)
+pub founds_give : (bytes : List ℕ) (p : Program) (statics i : ℕ) (s : List Field × (ℕ × ℕ)) → Founds (IsGiven bytes p statics i s) (give_first bytes p statics i s)
 unfolding give_first whole_value_at
 founds_give bytes p statics i s = weaker (give_first bytes p statics i s)
     (next (lifted of_pool (founds_value bytes (sizes_in p) 64 s.1)) (λ v _. when _ (done (change_at (with_first v.0) i s.0, v.1))))

@@ -19,3 +19,4 @@ pub mod LaidRounds
 pub mod LaidOut
 pub mod Rising
 pub mod Joined
+pub mod Counted

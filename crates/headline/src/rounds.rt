@@ -69,3 +69,9 @@ pub fn settled_law()
     ensures packed { (o : Outside) (admitted : List Bool) (p : Program) (t : Traced) (count : ℕ) → HaveRun o admitted p t count → IsSound t.program → has_narrow_classes t.program ≡ true
         → AllPacked admitted t.program }
 {}
+
+/// One round ran just where the rounds left the program as it was.
+pub fn one_round_law()
+    ensures same { (o : Outside) (admitted : List Bool) (p : Program) (t : Traced) (count : ℕ) → HaveRun o admitted p t count → count ≡ 1 → t.program ≡ p }
+    ensures one { (o : Outside) (admitted : List Bool) (p : Program) (t : Traced) (count : ℕ) → HaveRun o admitted p t count → t.program ≡ p → count ≡ 1 }
+{}

@@ -26,8 +26,8 @@ module _ (f : Program → ℕ) (R : Program → Program → Type 0) where
   on further p q r (inr (a, m)) (inr (b, n)) = inr (omega (arith, a, b), further p q r m n)
 
   never : ((p : Program) → R p p → ⊥) → (p : Program) → Lower f R p p → ⊥
-  never no p (inl a) = omega (arith, a)
-  never no p (inr (a, m)) = no p m
+  never behind p (inl a) = omega (arith, a)
+  never behind p (inr (a, m)) = behind p m
 
 less_on : (p q r : Program) → IsLess q p → IsLess r q → IsLess r p
 less_on = on bulk_of IsPlainer (on open_forms IsNearer (on calls_in HasFewerCopies (on moves_in LowerRank (λ p q r a b. omega (arith, a, b)))))

@@ -5,6 +5,7 @@ ghost use Rattle.program_model.specs.declared.program.Class.{Class};
 ghost use Rattle.program_model.specs.declared.program.Field.{Field};
 ghost use Rattle.program_model.specs.declared.program.Method.{Method};
 ghost use Rattle.program_model.specs.declared.program.Program.{Program};
+ghost use Rattle.dex_base.specs.Word.{Is32};
 ghost use Rattle.dex_pools.specs.PoolTables.{pools_at};
 ghost use Rattle.dex_pools.specs.Spelled.{IsExtent};
 ghost use Rattle.dex_pools.specs.declared.fault.PoolFault.{PoolFault};
@@ -14,7 +15,7 @@ ghost use Rattle.dex_read.specs.ClassData.{members_at};
 ghost use Rattle.dex_read.specs.Classes.{def_at, listed_at, interfaces_at, root_at, begun_at};
 ghost use Rattle.dex_read.specs.Directory.{set_at, sets_at, directory_at};
 ghost use Rattle.dex_read.specs.File.{head_at, classes_at};
-ghost use Rattle.dex_read.specs.Header.{header_at};
+ghost use Rattle.dex_read.specs.Header.{need_at, header_at};
 ghost use Rattle.dex_read.specs.Standing.{standing_at};
 ghost use Rattle.dex_read.specs.declared.class_data.Listed.{Listed};
 ghost use Rattle.dex_read.specs.declared.class_data.Members.{Members};
@@ -32,6 +33,12 @@ pub fn header_law()
 pub fn tables_law()
     ensures pools { (bytes : List ℕ) (left : ℕ) (e : PoolFault) → 112 ≤ length bytes → pools_at bytes left ≡ Err e → IsJustPool bytes e }
     ensures head { (bytes : List ℕ) (e : DexFault) → head_at bytes ≡ Err e → IsJust bytes e }
+{}
+
+/// So does one of the table of class_defs, which passes the end.
+pub fn class_table_law()
+    ensures { (bytes : List ℕ) (count offset : ℕ) → Is32 bytes 96 count → Is32 bytes 100 offset → 0 < count
+        → (e : DexFault) → need_at bytes offset (32 * count) ≡ Err e → IsJust bytes e }
 {}
 
 /// Behind tables that are read, so does one of a class_def of the table, one of its interfaces, and one of its superclass

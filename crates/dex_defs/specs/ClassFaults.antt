@@ -1,5 +1,5 @@
 -- What is wrong with classes, members and their code, and the whole of the faults.
-use Rattle.std.specs.Prelude.{◌≡◌, ◌+◌, ◌*◌, ◌<◌, ◌≤◌, ℕ, zero, suc, List, sum_by, codes, Bool, true, false, not, ◌||◌, ◌==◌, bit_and, if◌then◌else◌}
+use Rattle.std.specs.Prelude.{◌≡◌, ◌+◌, ◌*◌, ◌<◌, ◌≤◌, ℕ, zero, suc, List, sum_by, codes, Bool, true, false, not, ◌||◌, ◌==◌, bit_and, min, if◌then◌else◌}
 use Rattle.dex_base.specs.Word.{Is16, Is32}
 use Rattle.dex_base.specs.Leb.{IsUlebAt}
 use Rattle.program_model.specs.Texts.{first_unit, is_wide}
@@ -54,8 +54,9 @@ IsTableOf (suc zero) header = header ≡ 80
 IsTableOf (suc (suc which)) header = header ≡ 88
 
 pub data InMembers (bytes : List ℕ) (f : Fault) : Type 0 where
+  -- (differences may add up to more than 32 bits hold: then the fault names the greatest number that they do)
   NoMember : (class data_at which place before at step mid header size : ℕ) (def : Def) → HasDef bytes class def → Leads def.data_at data_at → EntryStands bytes data_at which place before at → IsUlebAt bytes at (step, mid)
-      → IsTableOf which header → HasSize bytes header size → size ≤ before + step → f ≡ Index at (before + step) size → InMembers bytes f
+      → IsTableOf which header → HasSize bytes header size → size ≤ before + step → f ≡ Index at (min (before + step) 4294967295) size → InMembers bytes f
   OtherClass : (class which place at owner : ℕ) (def : Def) (e : Entry) → HasDef bytes class def → HasEntry bytes class which place e → IsIdAt bytes which e.number at → Is16 bytes at owner → (owner ≡ def.name → ⊥) → f ≡ Member class place → InMembers bytes f
   NotDefined : (class pairs place pair first number : ℕ) → PairStands bytes class pairs pair → IsPairOf bytes class pairs first → pair ≡ first + 8 * place → Is32 bytes pair number
       → ((which at : ℕ) (e : Entry) → IsOfKind pairs which → HasEntry bytes class which at e → e.number ≡ number → ⊥) → f ≡ Member class place → InMembers bytes f

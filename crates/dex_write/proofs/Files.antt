@@ -2,7 +2,7 @@
 use Rattle.std.specs.Prelude.{Vec, Result, Ok, Err, IfOk}
 use Rattle.std.specs.declared.alloc.Global.{Global}
 use Rattle.std.specs.declared.alloc.AllocError.{AllocError}
-use Rattle.std.proofs.Common.{◌≡◌, ℕ, List, [], ◌∷◌, ◌++◌, sym, ap, subst, ◌∙◌, append-nil, ◌+◌, ◌<◌, length, take, get_or}
+use Rattle.std.proofs.Common.{◌≡◌, ℕ, List, [], ◌∷◌, ◌++◌, sym, ap, subst, ◌∙◌, append-nil, ◌+◌, ◌<◌, ◌^◌, length, take, get_or}
 use Rattle.dex_write.proofs.TakeLemmas.{take_one}
 use Rattle.std.specs.List.{flat_map}
 use Rattle.std.proofs.lemmas.List.Concat.{flat_map-append}
@@ -11,6 +11,8 @@ use Rattle.dex_pools.specs.Interned.{IsInterned}
 use Rattle.program_model.specs.declared.pass.Renumber.{Renumber}
 use Rattle.program_model.specs.declared.program.Class.{Class}
 use Rattle.program_model.specs.declared.program.Program.{Program}
+use Rattle.widths.specs.Widths.{IsInWidth}
+use Rattle.dex_write.specs.File.{IsSealed}
 use Rattle.dex_write.specs.Plans.{Plan}
 use Rattle.dex_write.specs.Codes.{IsPlan}
 use Rattle.dex_write.specs.Order.{IsOrder, classes_at}
@@ -18,9 +20,10 @@ use Rattle.dex_write.specs.Places.{file_for}
 use Rattle.dex_write.specs.Written.{ArePlans, MorePlans, IsWritten}
 
 pub ok_is_written : (p : Program) (i : Interner) (places : List ℕ) (plans : List Plan) (r : Result (Vec ℕ Global) AllocError) → IsInterned p i → IsOrder p places → ArePlans p i.numbers (flat_map (classes_at p) places) plans
-    → IfOk r (λ v. v.items ≡ file_for p i plans) → IfOk r (λ v. IsWritten p v.items)
-ok_is_written p i places plans (Ok v) n o a f = record { interner = i; interned = n; places = places; ordered = o; plans = plans; planned = a; file = f }
-ok_is_written p i places plans (Err x) n o a f = tt
+    → IfOk r (λ v. v.items ≡ file_for p i plans) → IfOk r (λ v. IsSealed p.version v.items) → IfOk r (λ v. length v.items < 2 ^ 32) → IsInWidth p → IfOk r (λ v. IsWritten p v.items)
+ok_is_written p i places plans (Ok v) n o a f s few wide =
+    record { interner = i; interned = n; places = places; ordered = o; plans = plans; planned = a; file = f; sealed = s; few = few; wide = wide }
+ok_is_written p i places plans (Err x) n o a f s few wide = tt
 
 both_planned : (p : Program) (r : Renumber) (cs ds : List Class) (xs ys : List Plan) → ArePlans p r cs xs → ArePlans p r ds ys → ArePlans p r (cs ++ ds) (xs ++ ys)
 both_planned p r [] ds [] ys h k = k

@@ -1,7 +1,7 @@
 //! The whole file, from its tables and its runs of items (Dalvik executable format, "header_item", "map_list"; FIPS
 //! 180-4; RFC 1950).
 
-ghost use Rattle.std.specs.Prelude.{◌≡◌, ◌≤◌, ◌+◌, ◌-◌, ◌*◌, ◌/◌, ◌++◌, ◌∷◌, [], length, replicate, IfOk, OnOk};
+ghost use Rattle.std.specs.Prelude.{◌≡◌, ◌≤◌, ◌<◌, ◌^◌, ◌+◌, ◌-◌, ◌*◌, ◌/◌, ◌++◌, ◌∷◌, [], length, replicate, IfOk, OnOk};
 ghost use Rattle.sha1.specs.Sha1.{sha1};
 ghost use Rattle.dex_write.specs.Numbers.{words};
 ghost use Rattle.dex_write.specs.File.{types_at, protos_at, fields_at, methods_at, classes_at, data_at, table_offset, front_pairs, back_pairs, table_rows, map_rows, map_words, magic_of, header_words, ends_behind, body_text, file_text, IsSealed};
@@ -226,12 +226,14 @@ fn signed(alloc: Global, body: &[u8]) -> Result<Vec<u8>, AllocError>
 fn sealed(alloc: Global, version: Version, body: &[u8]) -> Result<Vec<u8>, AllocError>
     ensures is { IfOk result (λ v. v.items ≡ file_text version body.now) }
     ensures long { OnOk result (length (sha1 body.now) ≡ 20) }
+    ensures few { IfOk result (λ v. length v.items < 2 ^ 32) }
 {
     let signed = signed(alloc, body)?;
     let mut out = Vec::with_capacity(alloc, body.len().saturating_add(32))?;
     push_magic(&mut out, version)?;
     push_words(&mut out, &[adler(&signed)])?;
     out.extend_from_slice(&signed)?;
+    word_of(out.len())?;
     Ok(out)
 }
 
@@ -245,6 +247,7 @@ pub fn file_of(
 ) -> Result<Vec<u8>, AllocError>
     ensures is { IfOk result (λ v. v.items ≡ file_text version (body_text counts tables.now runs.now)) }
     ensures sealed { IfOk result (λ v. IsSealed version v.items) }
+    ensures few { IfOk result (λ v. length v.items < 2 ^ 32) }
 {
     let body = body_of(alloc, counts, tables, runs)?;
     sealed(alloc, version, &body)

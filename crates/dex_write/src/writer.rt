@@ -1,6 +1,6 @@
 //! The whole writer: which items stand where.
 
-ghost use Rattle.std.specs.Prelude.{◌≡◌, length, map, slice_get, option_copied, IfOk, OnOk};
+ghost use Rattle.std.specs.Prelude.{◌≡◌, ◌<◌, ◌^◌, length, map, slice_get, option_copied, IfOk, OnOk};
 ghost use Rattle.std.specs.List.{flat_map};
 ghost use Rattle.dex_write.specs.Plans.{plan_in};
 ghost use Rattle.dex_write.specs.Codes.{IsPlan};
@@ -29,6 +29,7 @@ use dex_pools::Interner;
 use program_model::{Class, Program, Renumber};
 use seq::Seq;
 use std::alloc::{AllocError, Global};
+use widths::read_numbers;
 
 /// A class with its members in order and the code of its methods.
 fn order_class<'a>(
@@ -525,6 +526,7 @@ fn file_with(
 ) -> Result<Vec<u8>, AllocError>
     ensures is { IfOk result (λ v. v.items ≡ file_with program.now interner.now (map plan_in order.now) parts.now runs.now) }
     ensures sealed { IfOk result (λ v. IsSealed program.now.version v.items) }
+    ensures few { IfOk result (λ v. length v.items < 2 ^ 32) }
 {
     let counts = counts_of(interner, order)?;
     let tables = table_words(
@@ -620,6 +622,7 @@ fn file_for(
 ) -> Result<Vec<u8>, AllocError>
     ensures is { IfOk result (λ v. v.items ≡ file_for program.now interner.now (map plan_in order.now)) }
     ensures sealed { IfOk result (λ v. IsSealed program.now.version v.items) }
+    ensures few { IfOk result (λ v. length v.items < 2 ^ 32) }
 {
     let counts = counts_of(interner, order)?;
     let front = front_of(alloc, program, interner, order, starts_of(counts)?.data)?;
@@ -638,6 +641,7 @@ pub fn write_dex(alloc: Global, program: &Program) -> Result<Vec<u8>, AllocError
     ensures is { IfOk result (λ v. IsWritten program.now v.items) }
     ensures sealed { IfOk result (λ v. IsSealed program.now.version v.items) }
 {
+    read_numbers(program);
     let interner = Interner::collect(alloc, program)?;
     let places = written_order(alloc, program)?;
     let order = order_classes(alloc, program, interner.numbers(), &places)?;

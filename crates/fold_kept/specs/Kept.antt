@@ -12,7 +12,7 @@ use Rattle.removal_law.specs.Reach.{ShutsHold}
 use Rattle.thin_bridge.specs.Kept.{AnyCode}
 
 -- It keeps the rules and is typed, has the same tables, and the same classes and members but for bodies and source lines, and it
--- shows the same for this outside, where the table of shut methods holds what it says. `Owes` of rounds_bridge takes `formed` and
+-- shows the same for this outside, where the table of shut methods holds what it says. `Owes` of headline takes `formed` and
 -- `typed` for what is sound, `others` for the class graph, the outside by names and the classes that are defined, and `shown`.
 pub record IsKeptFor (o : Outside) (p q : Program) : Type 0 where
   pub formed : is_well_formed q ≡ true

@@ -7,15 +7,21 @@ use Rattle.program_model.specs.ProgramRules.{is_well_formed}
 use Rattle.class_defs.specs.ClassGraph.{IsTwice}
 use Rattle.dalvik_defs.specs.Naming.{named}
 use Rattle.dalvik_defs.specs.Outer.{outer_of}
+use Rattle.dalvik_defs.specs.Silence.{silenced}
+use Rattle.if_text.specs.Items.{Item}
+use Rattle.if_rules.specs.Fired.{IsTableOf, Without, With}
 use Rattle.removal_law.specs.Reach.{ShutsHold}
 use Rattle.reach_bridge.proofs.Unshut.{unshut}
 use Rattle.library_bridge.proofs.Narrowing.{narrowed_holds}
 use Rattle.command_line.specs.Spelling.{Spells}
+use Rattle.dex_defs.specs.Spells as dex
+use Rattle.spelled_law.proofs.OnceFile.{spells_once}
+use Rattle.spelled_law.proofs.Whole.{read_is_spelled}
 use Rattle.command_line.specs.declared.command.Tell.{Tell}
 use Rattle.command_line.specs.declared.command.CommandWords.{CommandWords}
 use Rattle.command_line.specs.declared.command.CommandWords.TheVariants.{Nothing, Optimise, Check, Live, Trace, Workload}
-use Rattle.silence_bridge.proofs.Optimised.{optimised_shows, optimised_sound, optimised_reached, optimised_folded, optimised_bound, optimised_loosened, optimised_quiet, optimised_skips, optimised_dead, optimised_fresh, optimised_packed, optimised_stays}
-use Rattle.silence_bridge.proofs.Inlined.{inlined_shows, inlined_sound, inlined_reached, inlined_folded, inlined_bound, inlined_loosened, inlined_quiet, inlined_skips, inlined_dead, inlined_fresh, inlined_packed, inlined_stays}
+use Rattle.headline.proofs.Optimised.{optimised_shows, optimised_sound, optimised_reached, optimised_folded, optimised_bound, optimised_loosened, optimised_quiet, optimised_skips, optimised_dead, optimised_fresh, optimised_packed, optimised_stays}
+use Rattle.headline.proofs.Inlined.{inlined_shows, inlined_sound, inlined_reached, inlined_folded, inlined_bound, inlined_loosened, inlined_quiet, inlined_skips, inlined_dead, inlined_fresh, inlined_packed, inlined_stays}
 use Rattle.pipeline.specs.Advised.{IsAdvised}
 use Rattle.pipeline.specs.Asks.{Verdict}
 use Rattle.pipeline.specs.Prepared.{IsAdvisedBy}
@@ -28,13 +34,22 @@ use Rattle.redex_cli.specs.Finished.{Finished, FinishedOf, IsOutputOf, Leaves, L
 use Rattle.redex_cli.specs.Refusals.{OutputBy}
 use Rattle.redex_cli.specs.Tables.{IsTableWith}
 use Rattle.redex_cli.specs.declared.fetching.Inputs.{Inputs}
-use Rattle.headline.specs.Headline.{Headline, KeepsMeaning, Shrinks}
+use Rattle.headline.proofs.LaidOut.{left_lies, written_left_lies}
+use Rattle.headline.specs.Headline.{Headline, KeepsMeaning, IsSpelled, Shrinks}
+use Rattle.headline.specs.Admitted.{admitted_in}
+use Rattle.headline.proofs.Rising.{names_rise_for, is_spelled}
+use Rattle.written_shown.proofs.Looks.{shown_on}
+
+-- the table of rules, with conditions or without, shuts no method
+none_shut : (p : Program) (items : List Item) (o : Outside) → IsTableOf p items o → o.shut ≡ []
+none_shut p items o (Without none table) = table.shut
+none_shut p items o (With settled) = settled.table.shut
 
 -- rules alone shut no method, and what a library shuts is shut by the definition
 table_holds : (rules : List ℕ) (library : Option (List ℕ)) (p : Program) (o : Outside) → is_well_formed p ≡ true → ((class : ℕ) → IsTwice p class → ⊥)
     → IsTableWith rules library p o
     → ShutsHold (named p) (outer_of p o)
-table_holds rules None p o well once table = unshut p o (table.closes.shut ∙ table.table.shut)
+table_holds rules None p o well once table = unshut p o (table.closes.shut ∙ none_shut p table.table.items table.ruled table.table.table)
 table_holds rules (Some bytes) p o well once table = narrowed_holds p well once table.closed o table.library table.narrowed
 
 -- the advisers were asked about methods first
@@ -77,6 +92,9 @@ module _ (p r : Program) (o : Outside) (rounds spared : ℕ) (voices : List Voic
         shown = optimised_shows p accepted.hierarchy well graph.resolved graph.acyclic graph.unsplit o accepted.types r leaves.origins (length voices) spared rounds given leaves.answers done holds;
         formed = (optimised_sound p accepted.hierarchy well graph.resolved graph.acyclic graph.unsplit o accepted.types r leaves.origins (length voices) spared rounds given leaves.answers done).formed;
         typed = (optimised_sound p accepted.hierarchy well graph.resolved graph.acyclic graph.unsplit o accepted.types r leaves.origins (length voices) spared rounds given leaves.answers done).typed;
+        once = (optimised_sound p accepted.hierarchy well graph.resolved graph.acyclic graph.unsplit o accepted.types r leaves.origins (length voices) spared rounds given leaves.answers done).once;
+        grounded = (optimised_sound p accepted.hierarchy well graph.resolved graph.acyclic graph.unsplit o accepted.types r leaves.origins (length voices) spared rounds given leaves.answers done).grounded;
+        lays = left_lies p r o rounds spared voices given accepted false leaves;
         reached = optimised_reached p accepted.hierarchy well graph.resolved graph.acyclic graph.unsplit o accepted.types r leaves.origins (length voices) spared rounds given leaves.answers done;
         folded = optimised_folded p accepted.hierarchy well graph.resolved graph.acyclic graph.unsplit o accepted.types r leaves.origins (length voices) spared rounds given leaves.answers done;
         bound = optimised_bound p accepted.hierarchy well graph.resolved graph.acyclic graph.unsplit o accepted.types r leaves.origins (length voices) spared rounds given leaves.answers done;
@@ -97,6 +115,9 @@ module _ (p r : Program) (o : Outside) (rounds spared : ℕ) (voices : List Voic
         shown = inlined_shows p accepted.hierarchy well graph.resolved graph.acyclic graph.unsplit o accepted.types r leaves.origins voices leaves.news spared rounds given leaves.answers done holds;
         formed = (inlined_sound p accepted.hierarchy well graph.resolved graph.acyclic graph.unsplit o accepted.types r leaves.origins voices leaves.news spared rounds given leaves.answers done).formed;
         typed = (inlined_sound p accepted.hierarchy well graph.resolved graph.acyclic graph.unsplit o accepted.types r leaves.origins voices leaves.news spared rounds given leaves.answers done).typed;
+        once = (inlined_sound p accepted.hierarchy well graph.resolved graph.acyclic graph.unsplit o accepted.types r leaves.origins voices leaves.news spared rounds given leaves.answers done).once;
+        grounded = (inlined_sound p accepted.hierarchy well graph.resolved graph.acyclic graph.unsplit o accepted.types r leaves.origins voices leaves.news spared rounds given leaves.answers done).grounded;
+        lays = left_lies p r o rounds spared voices given accepted true leaves;
         reached = inlined_reached p accepted.hierarchy well graph.resolved graph.acyclic graph.unsplit o accepted.types r leaves.origins voices leaves.news spared rounds given leaves.answers done;
         folded = inlined_folded p accepted.hierarchy well graph.resolved graph.acyclic graph.unsplit o accepted.types r leaves.origins voices leaves.news spared rounds given leaves.answers done;
         bound = inlined_bound p accepted.hierarchy well graph.resolved graph.acyclic graph.unsplit o accepted.types r leaves.origins voices leaves.news spared rounds given leaves.answers done;
@@ -116,16 +137,26 @@ keeps true voices given p r o rounds spared accepted holds leaves = keeps_inline
 
 shrinks : (inline : Bool) (voices : List Voice) (tells : List Tell) (inputs : Inputs) (output summary : List ℕ) → Finished inline voices tells inputs output summary → Shrinks inline voices tells inputs output
 shrinks inline voices tells inputs output summary f =
-    let accepted = f.accepted in record {
+    let accepted = f.accepted in
+    let means : dex.Spells inputs.file f.program = read_is_spelled inputs.file f.program f.small f.reads in
+    let kept : KeepsMeaning inline f.told [] f.program f.outside f.shrunk.left =
+    keeps inline f.told [] f.program f.shrunk.left f.outside f.shrunk.rounds f.shrunk.spared accepted (table_holds inputs.rules inputs.library f.program f.outside accepted.formed accepted.graph.once f.table) f.shrunk.leaves in
+    let spells : IsSpelled f.shrunk.left output = is_spelled f.shrunk.left output f.shrunk.written kept.formed kept.once kept.grounded (names_rise_for inline inputs.file f.program f.shrunk.left kept.admitted f.reads accepted.formed kept.stays)
+    (written_left_lies f.program f.shrunk.left f.outside f.shrunk.rounds f.shrunk.spared f.told [] accepted inline inputs.file output f.reads f.shrunk.leaves kept.formed f.shrunk.written) f.shrunk.are_bytes in record {
       program = f.program;
       reads = f.reads;
+      means = means;
+      only = λ other spelled. spells_once inputs.file other f.program f.small spelled means;
       outside = f.outside;
       table = f.table;
       told = f.told;
       are_told = f.are_told;
       left = f.shrunk.left;
       written = f.shrunk.written;
-      keeps = keeps inline f.told [] f.program f.shrunk.left f.outside f.shrunk.rounds f.shrunk.spared accepted (table_holds inputs.rules inputs.library f.program f.outside accepted.formed accepted.graph.once f.table) f.shrunk.leaves;
+      spells = spells;
+      keeps = kept;
+      shown = shown_on (silenced (named f.program) (outer_of f.program f.outside) (admitted_in f.program kept.admitted)) (named f.shrunk.left) (named spells.spelled) (outer_of f.program f.outside)
+          (spells.shows (outer_of f.program f.outside)) kept.shown;
     }
 
 of_command : (words : List (List ℕ)) (voices : List Voice) (held : Held) (output summary : List ℕ) (command : CommandWords) → Spells words command

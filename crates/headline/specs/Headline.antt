@@ -1,15 +1,24 @@
 -- What the output of `optimise` is to the rules and the file that it comes from.
 use Rattle.std.specs.Prelude.{◌≡◌, ◌⊎◌, ℕ, Bool, true, false, List, [], length, Ok}
 use Rattle.dalvik_defs.specs.Naming.{named}
-use Rattle.dalvik_defs.specs.Outer.{outer_of}
+use Rattle.dalvik_defs.specs.Outer.{Outer, outer_of}
 use Rattle.dalvik_defs.specs.Shown.{SameShown}
 use Rattle.dalvik_defs.specs.Silence.{silenced}
+use Rattle.dalvik_defs.specs.Step.{shows}
+use Rattle.dalvik_defs.specs.declared.script.Move.{Move}
+use Rattle.dalvik_defs.specs.declared.tables.Floats.{Floats}
+use Rattle.dalvik_defs.specs.declared.tables.Framework.{Framework}
 use Rattle.pass_defs.specs.Typed.{IsTyped}
 use Rattle.program_model.specs.ProgramRules.{is_well_formed}
 use Rattle.program_model.specs.declared.pass.Outside.{Outside}
 use Rattle.program_model.specs.declared.program.Program.{Program}
+use Rattle.dex_defs.specs.LaysOut.{LaysOut}
 use Rattle.dex_read.specs.File.{program_at}
 use Rattle.dex_write.specs.Written.{IsWritten}
+use Rattle.dex_defs.specs.Spells as dex
+use Rattle.dex_defs.specs.Valid.{IsSigned, IsValidFor}
+use Rattle.dex_defs.specs.Written as meant
+use Rattle.class_defs.specs.ClassGraph.{IsTwice, IsAncestor}
 use Rattle.dead_code.specs.Dead.{is_quiet_field}
 use Rattle.dead_code.specs.Wishes.{NoneDead}
 use Rattle.squeeze.specs.Needed.{NothingLeft}
@@ -18,9 +27,9 @@ use Rattle.compact_bridge.specs.Bridged.{AllPacked}
 use Rattle.copy_bridge.specs.Bridged.{AllFresh}
 use Rattle.pipeline.specs.Passes.{KeepsForms}
 use Rattle.pipeline.specs.Prepared.{IsAdvisedBy}
-use Rattle.rounds_bridge.specs.Ended.{NoneKnown, NoneBindable, NoneLoosable, NoneQuiet, NoneUnreached}
+use Rattle.headline.specs.Ended.{NoneKnown, NoneBindable, NoneLoosable, NoneQuiet, NoneUnreached}
 use Rattle.static_kept.specs.Staying.{StaysAlong, StaysAlongInlined}
-use Rattle.silence_bridge.specs.Admitted.{admitted_in}
+use Rattle.headline.specs.Admitted.{admitted_in}
 use Rattle.command_line.specs.Spelling.{Spells}
 use Rattle.command_line.specs.declared.command.CommandWords.TheVariants.{Optimise}
 use Rattle.command_line.specs.declared.command.OptimiseWords.{OptimiseWords}
@@ -50,9 +59,10 @@ pub record AreAdmitted (voices : List Voice) (given : List Bool) (program : Prog
   pub replied : HasRun turns voices news given answers
 
 -- What is left of a program shows what the program shows without its silent calls in the admitted methods, to every framework, under every
--- script and float table that fit, and is well-formed and typed. Advisers who reply so were asked which methods may be rewritten: these are
--- admitted. Facts that are certified of what is left leave nothing to write in their bodies (`NoneLeft` of const_prop), where the
--- superclass of no interface is a class of the program that is none, no call to name another method (`NoneLeft` of devirt), no method that
+-- script and float table that fit, and is well-formed and typed and lays out; no class of it is there twice or above itself. Advisers who
+-- reply so were asked which methods may be rewritten: these are admitted. Facts that are certified of what is left leave nothing to write
+-- in their bodies (`NoneLeft` of const_prop), where the superclass of no interface is a class of the program that is none, no call to name
+-- another method (`NoneLeft` of devirt), no method that
 -- could be static (`NoneLeft` of staticise), and no call and no division that does nothing (`NoneIdle` of quiet_code), or there are no such
 -- facts, or none were asked for, since no method is admitted or a kept constructor is none of its class (`KeepsForms` of pipeline). In
 -- their bodies, whose positions and regions 32 bits number, every position is reached, is no goto to the next one and no nop, but where the
@@ -68,6 +78,9 @@ pub record KeepsMeaning (inline : Bool) (voices : List Voice) (given : List Bool
   pub shown : SameShown (silenced (named program) (outer_of program outside) (admitted_in program admitted)) (named left) (outer_of program outside)
   pub formed : is_well_formed left ≡ true
   pub typed : IsTyped (named left)
+  pub once : (class : ℕ) → IsTwice left class → ⊥
+  pub grounded : (class : ℕ) → IsAncestor left class class → ⊥
+  pub lays : LaysOut left
   pub reached : outside.shrink ≡ true → NoneUnreached outside left
   pub folded : NoneKnown outside admitted left ⊎ KeepsForms outside admitted left
   pub bound : NoneBindable outside admitted left ⊎ KeepsForms outside admitted left
@@ -79,19 +92,35 @@ pub record KeepsMeaning (inline : Bool) (voices : List Voice) (given : List Bool
   pub packed : has_narrow_classes left ≡ true → AllPacked admitted left
   pub stays : StaysFor inline admitted program left
 
--- The file spells a program, the rules that their text spells make a table of it, which is closed, with the methods shut that the
+-- The written program of what is left has the entries that are used, in order, and the classes, each behind those above it. The output is
+-- a valid file that spells it and no other program, and signed; what is read of the output is this program again. Within each number of steps it shows what is left, whatever may be reached from outside.
+pub record IsSpelled (left : Program) (output : List ℕ) : Type 0 where
+  pub spelled : Program
+  pub is : meant.IsWritten left spelled
+  pub valid : IsValidFor output spelled
+  pub only : (other : Program) → dex.Spells output other → other ≡ spelled
+  pub again : (other : Program) → program_at output ≡ Ok other → other ≡ spelled
+  pub signed : IsSigned output
+  pub shows : (o : Outer) (f : Framework) (a : Floats) (script : List Move) (n : ℕ) → shows (named spelled) o f a script n ≡ shows (named left) o f a script n
+
+-- The file spells a program and no other, the rules that their text spells make a table of it, which is closed, with the methods shut that the
 -- library shuts where there is one, and the output is the file that is written for a program that keeps its meaning, when advisers who
--- reply so at first were told this and then asked. Not said yet: that the written file spells that program and is valid.
+-- reply so at first were told this and then asked. So the program that the output spells shows what the program shows without its silent
+-- calls in the admitted methods.
 pub record Shrinks (inline : Bool) (voices : List Voice) (tells : List Tell) (inputs : Inputs) (output : List ℕ) : Type 0 where
   pub program : Program
   pub reads : program_at inputs.file ≡ Ok program
+  pub means : dex.Spells inputs.file program
+  pub only : (other : Program) → dex.Spells inputs.file other → other ≡ program
   pub outside : Outside
   pub table : IsTableWith inputs.rules inputs.library program outside
   pub told : List Voice
   pub are_told : AreTold tells voices told
   pub left : Program
   pub written : IsWritten left output
+  pub spells : IsSpelled left output
   pub keeps : KeepsMeaning inline told [] program outside left
+  pub shown : SameShown (silenced (named program) (outer_of program outside) (admitted_in program keeps.admitted)) (named spells.spelled) (outer_of program outside)
 
 -- The words spell `optimise`, and the output is such a one of what the names hold, with advisers who reply so at first.
 pub record Headline (words : List (List ℕ)) (voices : List Voice) (held : Held) (output : List ℕ) : Type 0 where

@@ -1,1 +1,4 @@
+pub mod Ended
+pub mod Owed
+pub mod Admitted
 pub mod Headline

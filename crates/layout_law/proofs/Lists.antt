@@ -292,3 +292,11 @@ fewer_begin xs ys f low = fits_from (length (uleb_text (length (written xs)))) (
   where
     head : length (uleb_text (length (written xs))) ≤ length (uleb_text (length (written ys)))
     head = uleb_rises (length (written xs)) (length (written ys)) (omega (arith, count_by [] (distinct [] xs), count_by [] (distinct [] ys), f.count))
+
+-- lists of which all but a longest one have few bytes begin low
+pub begins_low : (xs : List Text) → (0 < length (distinct [] xs) → length (uleb_text (length (distinct [] xs))) + total (distinct [] xs) ≤ 65535 + longest (distinct [] xs)) → AreLow (begins_of xs)
+begins_low xs h = fits_from (length (uleb_text (length (written xs)))) (written xs) (ascend_by [] (distinct [] xs) tt) (λ some.
+    let same : length (written xs) ≡ length (distinct [] xs) = omega (arith, count_by [] (distinct [] xs)) in
+    let head : length (uleb_text (length (written xs))) ≡ length (uleb_text (length (distinct [] xs))) = ap (λ n. length (uleb_text n)) same in
+    let g = h (omega (arith, some, same)) in
+    omega (arith, g, head, total_by [] (distinct [] xs), longest_by [] (distinct [] xs)))

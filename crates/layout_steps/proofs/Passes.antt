@@ -16,7 +16,7 @@ use Rattle.layout_bridge.proofs.Programs.{removed_lies}
 use Rattle.layout_bridge.proofs.Thinned.{thinned_lies}
 use Rattle.layout_bridge.proofs.Folded.{folded_lies}
 use Rattle.layout_bridge.proofs.Recalled.{rebound_lies, quieted_lies}
-use Rattle.layout_static.proofs.Loosened.{staticised_lies}
+use Rattle.layout_steps.proofs.Loosened.{staticised_lies}
 use Rattle.layout_bridge.proofs.Renamed.{propagated_lies, compacted_lies}
 
 module _ (o : Outside) (admitted : List Bool) (p q : Program) (moved : List (List Origin)) (formed : is_well_formed p ≡ true) (l : LaysOut p) where

@@ -32,8 +32,8 @@ fn unchanged(traced: Traced) -> Passed
     }
 }
 
-/// Makes a hierarchy that of what a pass left of a program: it stays where nothing changed, and is built again where something
-/// did.
+/// Makes a hierarchy that of what a pass left of a program: it stays where nothing changed, and is let go and built again where
+/// something did.
 fn refresh_graph(
     alloc: Global,
     graph: &mut Option<Hierarchy>,
@@ -44,6 +44,7 @@ fn refresh_graph(
     if passed.changes.is_none() {
         return Ok(());
     }
+    *graph = None;
     let found = hierarchy_of(alloc, &passed.traced.program)?;
     *graph = found;
     Ok(())
@@ -187,7 +188,8 @@ pub fn facts_of(
     }
 }
 
-/// Makes facts those of what a pass left of a program: they stay where nothing changed. The only error is want of memory.
+/// Makes facts those of what a pass left of a program: they stay where nothing changed, and else are let go before others are
+/// found. The only error is want of memory.
 fn refresh_facts(
     alloc: Global,
     facts: &mut Option<Facts>,
@@ -203,6 +205,7 @@ fn refresh_facts(
     if passed.changes.is_none() {
         return Ok(());
     }
+    *facts = None;
     let found = facts_of(alloc, &passed.traced.program, graph, outside, admitted)?;
     *facts = found;
     Ok(())

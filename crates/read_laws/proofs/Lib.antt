@@ -27,6 +27,7 @@ pub mod MemberReading
 pub mod MethodReading
 pub mod Operands
 pub mod Readings
+pub mod Rising
 pub mod Spelled
 pub mod SpelledTables
 pub mod Spending

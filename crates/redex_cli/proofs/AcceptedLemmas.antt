@@ -11,15 +11,16 @@ use Rattle.type_bridge.proofs.Refused.{refused_program}
 use Rattle.verify.specs.Methods.{RefusesOne, TypesAll}
 use Rattle.verify.specs.declared.fault.TypeFault.{TypeFault}
 use Rattle.verify.specs.declared.fault.TypeFault.TheVariants.{NoMemory, IllTyped}
-use Rattle.redex_cli.specs.Accepted.{IsAccepted, IsGraphOf, IsIllTyped, IsTypeCause}
+use Rattle.redex_cli.specs.Accepted.{IsOfBytes, IsAccepted, IsGraphOf, IsIllTyped, IsTypeCause}
 use Rattle.redex_cli.specs.Files.{HasTypeFault}
 
 graph_of : (p : Program) (h : Hierarchy) → IsResolved p h → IsAcyclic p → NoSplit p → IsGraphOf p h
 graph_of p h resolved acyclic unsplit = record { resolved = resolved; once = resolved.of.once; acyclic = acyclic; unsplit = unsplit }
 
-pub accepted : (p : Program) (h : Hierarchy) → is_well_formed p ≡ true → (is_well_formed p ≡ true → IsResolved p h) → (is_well_formed p ≡ true → IsAcyclic p)
+pub accepted : (p : Program) (h : Hierarchy) → IsOfBytes p → is_well_formed p ≡ true → (is_well_formed p ≡ true → IsResolved p h) → (is_well_formed p ≡ true → IsAcyclic p)
     → (is_well_formed p ≡ true → NoSplit p) → TypesAll p h → IsAccepted p
-accepted p h well resolved acyclic unsplit types = record {
+accepted p h read well resolved acyclic unsplit types = record {
+  read = read;
   formed = well;
   hierarchy = h;
   graph = graph_of p h (resolved well) (acyclic well) (unsplit well);

@@ -1,7 +1,7 @@
 -- From what fetching, working and putting say to what a command says.
 use Rattle.std.proofs.Common.{◌≡◌, ◌⊎◌, ◌++◌, ℕ, List, [], ◌∷◌, Bool, IsTrue, Option, None, Some, refl, sym, ap, subst, ◌∙◌, inl, inr}
 use Rattle.redex_outside.specs.Counts.{NoneFell}
-use Rattle.rule_text.specs.Fault.{IsFault}
+use Rattle.if_text.specs.Faults.{IsIfFault}
 use Rattle.rule_text.specs.declared.fault.RuleFault.{RuleFault}
 use Rattle.redex_outside.specs.Held.{Held, AllSame, OthersSame, OldOrPrefix}
 use Rattle.redex_outside.specs.Voices.{Voice}
@@ -59,7 +59,7 @@ fetch_refuses names output IsFinal tells old new f g p q status r same = record 
 
 -- ---- what the names of the inputs hold
 
-holds_bad : (held : Held) (name text : List ℕ) (fault : RuleFault) → held name ≡ Some text → IsFault text fault
+holds_bad : (held : Held) (name text : List ℕ) (fault : RuleFault) → held name ≡ Some text → IsIfFault text fault
     → HoldsBadRules held (record { name = name; kind = kind.Rules }) fault
 holds_bad held name text fault there bad = record { are_rules = refl; bytes = text; there = there; bad = bad }
 
@@ -97,7 +97,7 @@ script_no_library e = cc
 
 -- what the names say by what the inputs say
 record AreInputs (names : List Fetch) (tells : Bool) (held : Held) (inputs : Inputs) : Type 0 where
-  rules : IsTrue tells → (fault : RuleFault) → IsFault inputs.rules fault → RulesCause held names fault
+  rules : IsTrue tells → (fault : RuleFault) → IsIfFault inputs.rules fault → RulesCause held names fault
   refused : IsTrue tells → (status : Status) → BytesRefused inputs status → FileCause held names status
   library : (fault : DexFault) → IsLibraryFault inputs.library fault → IsDexFault fault × HasLibrary names
   read : IsTrue tells → AreRead inputs → AllRead held names

@@ -1,6 +1,6 @@
 -- Finished outputs.
 use Rattle.std.proofs.Common.{◌≡◌, ◌≤◌, ℕ, List, [], Bool, length, true, false, Option, None, Some, Result, Ok, Err, refl, subst, sym, inl, inr}
-use Rattle.std.specs.Prelude.{IfOk}
+use Rattle.std.specs.Prelude.{◌<◌, IfOk, slice_index}
 use Rattle.call_graph.specs.Closed.{IsClosedSet}
 use Rattle.call_graph.specs.Least.{IsLeastSet}
 use Rattle.call_graph.specs.declared.live_set.LiveSet.{LiveSet}
@@ -19,7 +19,7 @@ use Rattle.program_model.specs.declared.pass.Origin.{Origin}
 use Rattle.program_model.specs.declared.pass.Outside.{Outside}
 use Rattle.program_model.specs.declared.program.Program.{Program}
 use Rattle.redex_outside.specs.Voices.{Voice}
-use Rattle.redex_cli.specs.Accepted.{IsAccepted}
+use Rattle.redex_cli.specs.Accepted.{IsAccepted, IsOfBytes}
 use Rattle.redex_cli.specs.Files.{AreRead, BytesRefused, FileRefused, HasGraphFault, IsDeclared, IsRead}
 use Rattle.redex_cli.specs.Finished.{AreTold, Checks, Finished, IsWorkload, LeavesBy, Shrunk, program_text, sizes_in, summary_text}
 use Rattle.redex_cli.specs.Lists.{ListsFile, live_text}
@@ -37,6 +37,11 @@ pub well_formed_if : (bytes : List ℕ) (result : Result Program DexFault) → (
 well_formed_if bytes (Ok p) formed gives = formed p gives
 well_formed_if bytes (Err e) formed gives = tt
 
+-- what is read of bytes
+pub read_if : (bytes : List ℕ) (result : Result Program DexFault) → ((i : ℕ) → slice_index bytes i < 256) → Gives is_free (λ program. program) result (program_at bytes) → IfOk result IsOfBytes
+read_if bytes (Ok p) small gives = record { bytes = bytes; are_bytes = small; reads = gives }
+read_if bytes (Err e) small gives = tt
+
 pub leaves : (inline : Bool) (voices news : List Voice) (given answers : List Bool) (program : Program) (outside : Outside) (left : Program) (rounds spared : ℕ) (origins : List (List Origin))
     → inline ≡ false → IsOptimisedBy outside program voices news given answers spared left origins rounds → LeavesBy inline voices given program outside left rounds spared
 leaves inline voices news given answers program outside left rounds spared origins none optimised =
@@ -49,25 +54,27 @@ leaves_inlined inline voices news given answers program outside left rounds spar
 
 pub shrunk : (inline : Bool) (voices : List Voice) (given : List Bool) (program : Program) (outside : Outside) (before after : Sizes) (left : Program) (rounds spared : ℕ) (output summary : List ℕ)
     → LeavesBy inline voices given program outside left rounds spared
-    → IsWritten left output → after ≡ sizes_in left (length output) → summary ≡ summary_text before after rounds spared → 1 ≤ rounds
+    → IsWritten left output → ((i : ℕ) → slice_index output i < 256) → after ≡ sizes_in left (length output) → summary ≡ summary_text before after rounds spared → 1 ≤ rounds
     → Shrunk inline voices given program outside before output summary
-shrunk inline voices given program outside before after left rounds spared output summary leaves written sizes says one_round = record {
+shrunk inline voices given program outside before after left rounds spared output summary leaves written bytes sizes says one_round = record {
   left = left;
   rounds = rounds;
   spared = spared;
   leaves = leaves;
   written = written;
+  are_bytes = bytes;
   says = subst (λ (sizes : Sizes). summary ≡ summary_text before sizes rounds spared) sizes says;
   one_round = one_round;
 }
 
 -- the file is found to have so many bytes, and the advisers were told and not yet asked
 pub finished : (inline : Bool) (voices told : List Voice) (tells : List Tell) (given : List Bool) (program : Program) (outside : Outside) (inputs : Inputs) (bytes : ℕ) (output summary : List ℕ) → bytes ≡ length inputs.file
-    → program_at inputs.file ≡ Ok program → IsAccepted program → IsTableWith inputs.rules inputs.library program outside → AreTold tells voices told → given ≡ []
+    → program_at inputs.file ≡ Ok program → ((i : ℕ) → slice_index inputs.file i < 256) → IsAccepted program → IsTableWith inputs.rules inputs.library program outside → AreTold tells voices told → given ≡ []
     → Shrunk inline told given program outside (sizes_in program bytes) output summary → Finished inline voices tells inputs output summary
-finished inline voices told tells given program outside inputs bytes output summary same reads accepted table are_told unasked shrunk = record {
+finished inline voices told tells given program outside inputs bytes output summary same reads small accepted table are_told unasked shrunk = record {
   program = program;
   reads = reads;
+  small = small;
   accepted = accepted;
   outside = outside;
   table = table;

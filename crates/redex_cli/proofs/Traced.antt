@@ -11,17 +11,16 @@ use Rattle.dalvik_defs.specs.declared.tables.Floats.{Floats}
 use Rattle.dalvik_defs.specs.declared.tables.Framework.{Framework}
 use Rattle.dalvik_model.specs.Standing.{IsSubject, MakesOnlyArrays, shown_by, subject_of}
 use Rattle.dex_read.specs.File.{program_at}
-use Rattle.hierarchy.specs.Shapes.{IsOf, IsResolved}
+use Rattle.hierarchy.specs.Shapes.{IsResolved}
 use Rattle.hierarchy.specs.declared.build.Hierarchy.{Hierarchy}
-use Rattle.keep_rules.specs.Table.{IsTable}
+use Rattle.if_rules.specs.Fired.{IsTableOf}
+use Rattle.if_text.specs.Items.{Item}
+use Rattle.if_text.specs.Readings.{AreRead, IsIfReading}
+use Rattle.if_text.specs.declared.rules.IfRules.{IfRules}
 use Rattle.program_model.specs.declared.pass.Outside.{Outside}
 use Rattle.program_model.specs.declared.program.Program.{Program}
 use Rattle.program_model.specs.ProgramRules.{is_well_formed}
 use Rattle.reach.specs.Closing.{Closes}
-use Rattle.rule_text.specs.ReadEntries.{IsReading}
-use Rattle.rule_text.specs.Related.{AreEntriesOf}
-use Rattle.rule_text.specs.Rules.{Entry}
-use Rattle.rule_text.specs.declared.rules.Rules.{Rules}
 use Rattle.text_defs.specs.EventLines.{event_lines}
 use Rattle.text_defs.specs.Plays.{play_of}
 use Rattle.text_defs.specs.declared.play.Play.{Play}
@@ -46,15 +45,13 @@ subject p o f a script accepted =
     let graph = accepted.graph in
     record { well = accepted.formed; accepted = record { once = graph.once; acyclic = graph.acyclic; unsplit = graph.unsplit } }
 
--- what the table of the rules is, from what is answered for all entries that are those of the rules
-pub table_for : (rules : Rules) (text : List ℕ) (p : Program) (h : Hierarchy) (ruled outside : Outside) → is_well_formed p ≡ true → IsResolved p h
-    → ((es : List Entry) → is_well_formed p ≡ true → IsOf p h → AreEntriesOf rules.entries.items es → IsTable p es ruled)
-    → IsReading text rules → Closes p ruled outside → IsTableFor text p outside
+-- what the table of the rules is, from what is answered for all items that are those of the rules
+pub table_for : (rules : IfRules) (text : List ℕ) (p : Program) (h : Hierarchy) (ruled outside : Outside) → is_well_formed p ≡ true → IsResolved p h
+    → ((items : List Item) → is_well_formed p ≡ true → IsResolved p h → AreRead items rules → IsTableOf p items ruled)
+    → IsIfReading text rules → Closes p ruled outside → IsTableFor text p outside
 table_for rules text p h ruled outside well resolved tables reading closes = record {
-  entries = reading.entries;
-  spells = reading.spells;
   ruled = ruled;
-  table = tables reading.entries well resolved.of reading.related;
+  table = record { items = reading.items; spells = reading.spells; table = tables reading.items well resolved reading.read };
   closes = closes;
 }
 

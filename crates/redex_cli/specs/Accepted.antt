@@ -1,7 +1,8 @@
 -- The programs that a run goes on with, and those that it refuses for their types.
-use Rattle.std.specs.Prelude.{◌≡◌, ℕ, true}
+use Rattle.std.specs.Prelude.{◌≡◌, ◌<◌, ℕ, List, Ok, true, slice_index}
 use Rattle.class_defs.specs.ClassGraph.{IsTwice}
 use Rattle.dalvik_defs.specs.Naming.{named}
+use Rattle.dex_read.specs.File.{program_at}
 use Rattle.hierarchy.specs.Shapes.{IsAcyclic, IsResolved}
 use Rattle.hierarchy.specs.Splitting.{NoSplit}
 use Rattle.hierarchy.specs.declared.build.Hierarchy.{Hierarchy}
@@ -20,9 +21,16 @@ pub record IsGraphOf (program : Program) (hierarchy : Hierarchy) : Type 0 where
   pub acyclic : IsAcyclic program
   pub unsplit : NoSplit program
 
--- The program is well-formed, its class graph is accepted, and each of its bodies is well typed: by the verifier's numbers,
--- and by names.
+-- Some bytes spell the program.
+pub record IsOfBytes (program : Program) : Type 0 where
+  pub bytes : List ℕ
+  pub are_bytes : (i : ℕ) → slice_index bytes i < 256
+  pub reads : program_at bytes ≡ Ok program
+
+-- The program is one that was read, and well-formed, its class graph is accepted, and each of its bodies is well typed: by the
+-- verifier's numbers, and by names.
 pub record IsAccepted (program : Program) : Type 0 where
+  pub read : IsOfBytes program
   pub formed : is_well_formed program ≡ true
   pub hierarchy : Hierarchy
   pub graph : IsGraphOf program hierarchy

@@ -7,7 +7,7 @@ use Rattle.hierarchy.specs.declared.fault.HierarchyFault.{HierarchyFault}
 use Rattle.program_model.specs.ProgramRules.{is_well_formed}
 use Rattle.program_model.specs.declared.program.Program.{Program}
 use Rattle.redex_outside.specs.Held.{Held}
-use Rattle.rule_text.specs.Fault.{IsFault}
+use Rattle.if_text.specs.Faults.{IsIfFault}
 use Rattle.rule_text.specs.declared.fault.RuleFault.{RuleFault}
 use Rattle.stub_library.specs.Stubs.{library_at}
 use Rattle.stub_library.specs.declared.library.Library.{Library}
@@ -154,7 +154,7 @@ pub record HoldsBadRules (held : Held) (fetch : Fetch) (fault : RuleFault) : Typ
   pub are_rules : fetch.kind ≡ kind.Rules
   pub bytes : List ℕ
   pub there : held fetch.name ≡ Some bytes
-  pub bad : IsFault bytes fault
+  pub bad : IsIfFault bytes fault
 
 -- One of these names holds such rules.
 abbrev pub OneBadRules : Held → List Fetch → RuleFault → Type 0

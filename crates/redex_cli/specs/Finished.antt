@@ -1,5 +1,5 @@
 -- What a command gives: a file to be put, and a text to be said.
-use Rattle.std.specs.Prelude.{◌≡◌, ◌≤◌, ℕ, Bool, true, false, IsTrue, Ok, None, Some, Option, List, [], ◌++◌, length, map, sum_by, codes}
+use Rattle.std.specs.Prelude.{◌≡◌, ◌<◌, ◌≤◌, ℕ, Bool, true, false, IsTrue, Ok, None, Some, Option, List, [], ◌++◌, length, map, slice_index, sum_by, codes}
 use Rattle.std.specs.Fmt.{decimal}
 use Rattle.command_line.specs.Spelling.{Spells}
 use Rattle.command_line.specs.declared.command.CommandWords.{CommandWords}
@@ -89,23 +89,25 @@ abbrev pub LeavesBy : Bool → List Voice → List Bool → Program → Outside 
 LeavesBy false voices given program outside left rounds spared = Leaves voices given program outside left rounds spared
 LeavesBy true voices given program outside left rounds spared = LeavesInlined voices given program outside left rounds spared
 
--- The output is the file that is written for what is left of the program by this table, when such advisers are asked, and the summary
--- counts the program, whose sizes are these, what is left, its file, the rounds and the spared methods.
+-- The output is the file that is written for what is left of the program by this table, in bytes, when such advisers are asked, and the
+-- summary counts the program, whose sizes are these, what is left, its file, the rounds and the spared methods.
 pub record Shrunk (inline : Bool) (voices : List Voice) (given : List Bool) (program : Program) (outside : Outside) (before : Sizes) (output summary : List ℕ) : Type 0 where
   pub left : Program
   pub rounds : ℕ
   pub spared : ℕ
   pub leaves : LeavesBy inline voices given program outside left rounds spared
   pub written : IsWritten left output
+  pub are_bytes : (i : ℕ) → slice_index output i < 256
   pub says : summary ≡ summary_text before (sizes_in left (length output)) rounds spared
   pub one_round : 1 ≤ rounds
 
--- The output is the finished one of these inputs, and this is its summary: the file spells a program that is accepted, and the
+-- The output is the finished one of these inputs, and this is its summary: the file's bytes spell a program that is accepted, and the
 -- output is what is written for what is left of it by the table of the rules and the library. The advisers, who reply so at first, were
 -- told this, and asked then.
 pub record Finished (inline : Bool) (voices : List Voice) (tells : List Tell) (inputs : Inputs) (output summary : List ℕ) : Type 0 where
   pub program : Program
   pub reads : program_at inputs.file ≡ Ok program
+  pub small : (i : ℕ) → slice_index inputs.file i < 256
   pub accepted : IsAccepted program
   pub outside : Outside
   pub table : IsTableWith inputs.rules inputs.library program outside

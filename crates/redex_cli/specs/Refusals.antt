@@ -1,6 +1,6 @@
 -- Why a run is refused, and what holds where it is not.
 use Rattle.std.specs.Prelude.{◌≡◌, ◌⊎◌, ◌+◌, ◌++◌, ℕ, List, Bool, IsTrue, Option, None, Some, Err}
-use Rattle.rule_text.specs.Fault.{IsFault}
+use Rattle.if_text.specs.Faults.{IsIfFault}
 use Rattle.rule_text.specs.declared.fault.RuleFault.{RuleFault}
 use Rattle.rule_text.specs.declared.fault.RuleFault.TheVariants as rule
 use Rattle.dex_read.specs.Counts.{PassesInFile}
@@ -85,7 +85,7 @@ ReadRefused _ = ⊥
 
 -- What the work on these inputs may be refused with.
 abbrev pub WorkRefused : Inputs → Status → Type 0
-WorkRefused inputs (BadRules fault) = IsRuleFault fault × IsFault inputs.rules fault
+WorkRefused inputs (BadRules fault) = IsRuleFault fault × IsIfFault inputs.rules fault
 WorkRefused inputs (BadDex (input.Library fault)) = IsLibraryFault inputs.library fault
 WorkRefused inputs status = ReadRefused status
 

@@ -9,7 +9,7 @@ use command_line::USAGE;
 use dex_pools::{PoolFault, Table};
 use dex_read::DexFault;
 use hierarchy::HierarchyFault;
-use keep_rules::RuleFault;
+use if_rules::RuleFault;
 use program_model::{Counted, LimitFault};
 use std::alloc::{AllocError, Global};
 use verify::TypeFault;

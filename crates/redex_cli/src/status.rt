@@ -5,7 +5,7 @@ ghost use Rattle.redex_cli.specs.Status.{code_of};
 
 use dex_read::DexFault;
 use hierarchy::HierarchyFault;
-use keep_rules::RuleFault;
+use if_rules::RuleFault;
 use program_model::LimitFault;
 use verify::TypeFault;
 

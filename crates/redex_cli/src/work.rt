@@ -1,6 +1,6 @@
 //! What the commands do between fetching and putting: values in, a value or a status out.
 
-ghost use Rattle.std.specs.Prelude.{◌≡◌, ◌<◌, ◌≤◌, ◌^◌, ◌∷◌, [], ℕ, List, true, None, Option, Ok, length, map, vec_len, string_bytes, IfOk, IfErr, OnOk};
+ghost use Rattle.std.specs.Prelude.{◌≡◌, ◌<◌, ◌≤◌, ◌^◌, ◌∷◌, [], ℕ, List, true, None, Option, Ok, length, map, slice_index, vec_len, string_bytes, IfOk, IfErr, OnOk};
 ghost use Rattle.dalvik_defs.specs.Naming.{named};
 ghost use Rattle.dalvik_defs.specs.Outer.{outer_of};
 ghost use Rattle.dalvik_defs.specs.Step.{shows};
@@ -10,14 +10,14 @@ ghost use Rattle.dex_read.specs.Faults.{is_free};
 ghost use Rattle.dex_read.specs.File.{program_at};
 ghost use Rattle.dex_read.specs.Kept.{KeepsLimits};
 ghost use Rattle.hierarchy.specs.Shapes.{IsCause, IsResolved};
+ghost use Rattle.if_text.specs.Faults.{IsIfFault};
+ghost use Rattle.if_text.specs.Readings.{IsIfReading};
 ghost use Rattle.program_model.specs.ProgramRules.{is_well_formed};
 ghost use Rattle.redex_outside.specs.Panels.{HasRun};
 ghost use Rattle.stub_library.specs.Stubs.{library_at};
 ghost use Rattle.text_defs.specs.Plays.{play_of};
-ghost use Rattle.redex_cli.specs.Accepted.{IsAccepted};
+ghost use Rattle.redex_cli.specs.Accepted.{IsAccepted, IsOfBytes};
 ghost use Rattle.redex_cli.specs.Files.{AreRead, BytesRefused, FileRefused, HasGraphFault, HasTypeFault, LibraryRefused};
-ghost use Rattle.rule_text.specs.Fault.{IsFault};
-ghost use Rattle.rule_text.specs.ReadEntries.{IsReading};
 ghost use Rattle.redex_cli.specs.Finished.{AreTold, Checks, Finished, IsWorkload, LeavesBy, Shrunk, program_text, sizes_in, turn_told};
 ghost use Rattle.redex_cli.specs.Refusals.{IsLibraryRefusal, LibraryEnds, MadeRefused, ReadRefused, TraceRefused, WorkRefused};
 ghost use Rattle.redex_cli.specs.Lists.{ListsFile};
@@ -36,7 +36,7 @@ use dalvik_model::{Event, run};
 use dex_read::{DexFault, read_dex};
 use dex_write::write_dex;
 use hierarchy::{Hierarchy, HierarchyFault};
-use keep_rules::{RuleFault, Rules, outside_of, read_rules};
+use if_rules::{IfRules, RuleFault, outside_of, read_rules};
 use pipeline::{Outcome, optimise, optimise_inlined};
 use program_model::{Outside, Program};
 use reach::close;
@@ -54,7 +54,7 @@ const WORKLOAD_RULES: &[u8] = b"-keep class ?0 { public static int run(int); }\n
 
 /// A fault of the rules as a status.
 fn rules_status(fault: RuleFault) -> Status
-    ensures refused { (inputs : Inputs) → IsFault inputs.rules fault → WorkRefused inputs result }
+    ensures refused { (inputs : Inputs) → IsIfFault inputs.rules fault → WorkRefused inputs result }
     ensures file { (inputs : Inputs) → BytesRefused inputs result }
 {
     match fault {
@@ -140,12 +140,14 @@ struct Classes {
 }
 
 /// The program that the bytes spell, which is well-formed.
-#[tactic(auto, using(crate::proofs::FinishedLemmas::well_formed_if))]
+#[tactic(auto, using(crate::proofs::FinishedLemmas::well_formed_if, crate::proofs::FinishedLemmas::read_if))]
 fn read_program(alloc: Global, bytes: &[u8]) -> Result<Program, DexFault>
     ensures gives { Gives is_free (λ program. program) result (program_at bytes.now) }
     ensures limits { IfOk result KeepsLimits }
     ensures counts { IfErr result CountsInFile }
     ensures formed { IfOk result (λ program. is_well_formed program ≡ true) }
+    ensures read { IfOk result IsOfBytes }
+    ensures small { OnOk result ((i : ℕ) → slice_index bytes.now i < 256) }
 {
     reads_well_formed(bytes);
     read_dex(alloc, bytes)
@@ -156,6 +158,7 @@ fn read_program(alloc: Global, bytes: &[u8]) -> Result<Program, DexFault>
 fn read_classes(alloc: Global, file: Seq<u8>) -> Result<Classes, Status>
     ensures limits { IfOk result (λ classes. KeepsLimits classes.program) }
     ensures read { IfOk result (λ classes. program_at file ≡ Ok classes.program) }
+    ensures small { OnOk result ((i : ℕ) → slice_index file i < 256) }
     ensures formed { IfOk result (λ classes. is_well_formed classes.program ≡ true) }
     ensures resolved { IfOk result (λ classes. IsResolved classes.program classes.hierarchy) }
     ensures accepted { IfOk result (λ classes. IsAccepted classes.program) }
@@ -188,14 +191,14 @@ struct Input {
 /// What the rules keep of a program, closed: the table of each text from which they may have been read.
 fn closed_outside(
     alloc: Global,
-    rules: &Rules,
+    rules: &mut IfRules,
     program: &Program,
     hierarchy: &Hierarchy,
 ) -> Result<Outside, AllocError>
     requires limits { KeepsLimits program.now }
     requires formed { is_well_formed program.now ≡ true }
     requires resolved { IsResolved program.now hierarchy.now }
-    ensures { (text : List ℕ) → IsReading text rules.now → IfOk result (IsTableFor text program.now) }
+    ensures { (text : List ℕ) → IsIfReading text rules.old → IfOk result (IsTableFor text program.now) }
 {
     let open = outside_of(alloc, rules, program, hierarchy)?;
     close(alloc, program, hierarchy, &open)
@@ -251,6 +254,7 @@ fn table_with(
 fn read_input(alloc: Global, inputs: Inputs) -> Result<Input, Status>
     requires { length inputs.rules < 2 ^ 32 }
     ensures program { IfOk result (λ input. program_at inputs.file ≡ Ok input.program) }
+    ensures small { OnOk result ((i : ℕ) → slice_index inputs.file i < 256) }
     ensures formed { IfOk result (λ input. is_well_formed input.program ≡ true) }
     ensures resolved { IfOk result (λ input. IsResolved input.program input.hierarchy) }
     ensures accepted { IfOk result (λ input. IsAccepted input.program) }
@@ -259,7 +263,7 @@ fn read_input(alloc: Global, inputs: Inputs) -> Result<Input, Status>
     ensures refused { IfErr result (WorkRefused inputs) }
     ensures bytes { IfErr result (BytesRefused inputs) }
 {
-    let rules = match read_rules(alloc, inputs.rules.as_slice()) {
+    let mut rules = match read_rules(alloc, inputs.rules.as_slice()) {
         Ok(rules) => rules,
         Err(fault) => return Err(rules_status(fault)),
     };
@@ -268,7 +272,7 @@ fn read_input(alloc: Global, inputs: Inputs) -> Result<Input, Status>
         Ok(classes) => classes,
         Err(status) => return Err(status),
     };
-    let closed = match closed_outside(alloc, &rules, &program, &hierarchy) {
+    let closed = match closed_outside(alloc, &mut rules, &program, &hierarchy) {
         Ok(closed) => closed,
         Err(_) => return Err(Status::NoMemory),
     };
@@ -338,6 +342,13 @@ fn left_of(
     }
 }
 
+/// Reads bytes, which so are known to be ones. It does nothing else.
+fn read_bytes(bytes: &[u8])
+    ensures { (i : ℕ) → slice_index bytes.now i < 256 }
+{
+    let _bytes = bytes;
+}
+
 /// Optimises a program, writes what is left and sums up.
 #[tactic(auto, using(crate::proofs::FinishedLemmas::shrunk))]
 fn optimise_program(
@@ -355,6 +366,7 @@ fn optimise_program(
 {
     let outcome = left_of(alloc, program, outside, inline, panel)?;
     let bytes = write_dex(alloc, &outcome.program)?;
+    read_bytes(&bytes);
     let after = sizes_of(&outcome.program, bytes.len());
     let summary = summary(alloc, before, after, outcome.rounds, outcome.spared)?;
     Ok(Optimised { bytes, summary })
@@ -390,7 +402,6 @@ fn optimise_input(
 }
 
 /// Optimises a file by its rules, and by its library where there is one.
-#[tactic(auto, using(crate::proofs::FinishedLemmas::finished))]
 pub fn optimise_file(
     alloc: Global,
     inputs: Inputs,

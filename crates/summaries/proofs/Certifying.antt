@@ -1,6 +1,6 @@
 -- What the analysis answers, by the tables under which it is closed.
 use Rattle.std.proofs.Common.{◌≡◌, Vec, Global, sym, subst}
-use Rattle.std.specs.Prelude.{Bool, true, List, Option, Some, None, IfSome}
+use Rattle.std.specs.Prelude.{true, List, Option, Some, None, IfSome}
 use Rattle.program_model.specs.ProgramRules.{is_well_formed}
 use Rattle.hierarchy.specs.Shapes.{IsResolved}
 use Rattle.domains.specs.Values.{any_value}
@@ -30,11 +30,11 @@ certify_some p o live targets None f c h a = tt
 certify_some p o live targets (Some t) f c h a = certify p o live targets t f c h a
 
 -- the facts with the frames that were filled in, where what is known beside them is checked
-pub closed_by : (k : Known) (o : Option (Vec (List (Option Frame)) Global)) (frames : Vec (List (Option Frame)) Global) (quiet : Vec Bool Global) (t : Facts) → (AreKnown k → IfSome o (λ f. AreFilled k f.items)) → (AreKnown k → IfSome o (λ f. Holds k f.items))
-    → o ≡ Some frames → is_well_formed k.program.now ≡ true → IsResolved k.program.now k.hierarchy.now → AreClasses k.program.now k.classes → k.facts.now.any ≡ any_value → t ≡ record k.facts.now { frames = frames; quiet = quiet }
+pub closed_by : (k : Known) (o : Option (Vec (List (Option Frame)) Global)) (frames : Vec (List (Option Frame)) Global) (t : Facts) → (AreKnown k → IfSome o (λ f. AreFilled k f.items)) → (AreKnown k → IfSome o (λ f. Holds k f.items))
+    → o ≡ Some frames → is_well_formed k.program.now ≡ true → IsResolved k.program.now k.hierarchy.now → AreClasses k.program.now k.classes → k.facts.now.any ≡ any_value → t ≡ record k.facts.now { frames = frames }
     → AreClosed k.program.now k.outside.now k.live.now k.targets.now t
-closed_by k o frames quiet t filled holds some formed resolved classes any e =
+closed_by k o frames t filled holds some formed resolved classes any e =
     let known : AreKnown k = record { formed = formed; resolved = resolved; classes = classes; any = any } in
     let f : AreFilled k frames.items = subst (λ (o : Option (Vec (List (Option Frame)) Global)). IfSome o (λ f. AreFilled k f.items)) some (filled known) in
     let h : Holds k frames.items = subst (λ (o : Option (Vec (List (Option Frame)) Global)). IfSome o (λ f. Holds k f.items)) some (holds known) in
-    subst (AreClosed k.program.now k.outside.now k.live.now k.targets.now) (sym e) (are_closed k frames quiet known f h)
+    subst (AreClosed k.program.now k.outside.now k.live.now k.targets.now) (sym e) (are_closed k frames k.facts.now.quiet known f h)

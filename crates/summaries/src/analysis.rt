@@ -12,7 +12,6 @@ ghost use Rattle.summaries.specs.Certified.{IsCertified};
 
 use crate::cells::number_cells;
 use crate::codes::{Codes, make_codes};
-use crate::quiet::Search;
 use crate::rows::{NONE, Rows, rows_of};
 use crate::sites::{Sites, make_sites};
 use crate::spread::{Ground, Spread};
@@ -92,14 +91,15 @@ fn checked(
     }
 }
 
-/// The facts with their frames and the quiet methods.
-fn with_frames(facts: Facts, frames: Vec<Seq<Option<Frame>>>, quiet: Vec<bool>) -> Facts
-    ensures { result ≡ record facts { frames = frames; quiet = quiet } }
+/// The facts with their frames.
+fn with_frames(facts: Facts, frames: Vec<Seq<Option<Frame>>>) -> Facts
+    ensures { result ≡ record facts { frames = frames } }
 {
     let Facts {
         parameters,
         results,
         fields,
+        quiet,
         any,
         ..
     } = facts;
@@ -121,47 +121,6 @@ struct Bounds<'a> {
     found: &'a Targets,
 }
 
-/// What the search found as facts, if they are closed.
-fn certified(
-    alloc: Global,
-    ground: Ground<'_>,
-    bounds: Bounds<'_>,
-    pieces: Pieces,
-) -> Result<Option<Facts>, AllocError>
-    requires { pieces.facts.any ≡ any_value }
-    ensures { is_well_formed ground.entry.program.now ≡ true → IsResolved ground.entry.program.now ground.entry.hierarchy.now
-        → AreClasses ground.entry.program.now ground.entry.classes
-        → IfOk result (λ o. IfSome o (AreClosed ground.entry.program.now bounds.entry.outside.now bounds.entry.live.now bounds.entry.found.now)) }
-{
-    let Pieces {
-        facts,
-        pools,
-        marks,
-        starts,
-    } = pieces;
-    let known = Known {
-        program: ground.program,
-        hierarchy: ground.hierarchy,
-        classes: ground.classes,
-        outside: bounds.outside,
-        live: bounds.live,
-        targets: bounds.found,
-        facts: &facts,
-        pools: &pools,
-        marks: &marks,
-    };
-    let Some(frames) = checked(alloc, &known, &starts)? else {
-        return Ok(None);
-    };
-    let search = Search {
-        program: ground.program,
-        hierarchy: ground.hierarchy,
-        codes: ground.codes,
-    };
-    let quiet = search.quiet(alloc, &frames)?;
-    Ok(Some(with_frames(facts, frames, quiet)))
-}
-
 /// What the search finds.
 fn searched(alloc: Global, ground: Ground<'_>, bounds: Bounds<'_>) -> Result<Pieces, AllocError>
     ensures { IfOk result (λ pieces. pieces.facts.any ≡ any_value) }
@@ -171,16 +130,15 @@ fn searched(alloc: Global, ground: Ground<'_>, bounds: Bounds<'_>) -> Result<Pie
     pieces_of(alloc, &spread)
 }
 
-/// What is known by the bodies of a program.
-fn facts_of_codes(
+/// What the search finds by the bodies of a program.
+fn searched_in(
     alloc: Global,
     program: &Program,
     classes: Classes<'_>,
     bounds: Bounds<'_>,
     codes: &Codes<'_>,
-) -> Result<Option<Facts>, AllocError>
-    ensures { is_well_formed program.now ≡ true → AreClasses program.now classes.entry
-        → IfOk result (λ o. IfSome o (AreClosed program.now bounds.entry.outside.now bounds.entry.live.now bounds.entry.found.now)) }
+) -> Result<Pieces, AllocError>
+    ensures { IfOk result (λ pieces. pieces.facts.any ≡ any_value) }
 {
     let hierarchy = classes.hierarchy;
     let numbering = number_cells(
@@ -201,8 +159,55 @@ fn facts_of_codes(
         found: &found,
         callers: &callers,
     };
-    let pieces = searched(alloc, ground, bounds)?;
-    certified(alloc, ground, bounds, pieces)
+    searched(alloc, ground, bounds)
+}
+
+/// What the search finds in a program. What it looked up is let go before anything is checked.
+fn searched_of(
+    alloc: Global,
+    program: &Program,
+    classes: Classes<'_>,
+    bounds: Bounds<'_>,
+) -> Result<Pieces, AllocError>
+    ensures { IfOk result (λ pieces. pieces.facts.any ≡ any_value) }
+{
+    let codes = make_codes(alloc, program, bounds.live)?;
+    searched_in(alloc, program, classes, bounds, &codes)
+}
+
+/// What the search found as facts, if they are closed.
+fn certified(
+    alloc: Global,
+    program: &Program,
+    classes: Classes<'_>,
+    bounds: Bounds<'_>,
+    pieces: Pieces,
+) -> Result<Option<Facts>, AllocError>
+    requires { pieces.facts.any ≡ any_value }
+    ensures { is_well_formed program.now ≡ true → AreClasses program.now classes.entry
+        → IfOk result (λ o. IfSome o (AreClosed program.now bounds.entry.outside.now bounds.entry.live.now bounds.entry.found.now)) }
+{
+    let Pieces {
+        facts,
+        pools,
+        marks,
+        starts,
+    } = pieces;
+    let known = Known {
+        program,
+        hierarchy: classes.hierarchy,
+        classes,
+        outside: bounds.outside,
+        live: bounds.live,
+        targets: bounds.found,
+        facts: &facts,
+        pools: &pools,
+        marks: &marks,
+    };
+    let Some(frames) = checked(alloc, &known, &starts)? else {
+        return Ok(None);
+    };
+    Ok(Some(with_frames(facts, frames)))
 }
 
 /// What is known of a program by the table of its classes.
@@ -218,19 +223,19 @@ fn facts_by(
     let hierarchy = classes.hierarchy;
     let live = live_members(alloc, program, hierarchy, outside)?;
     let found = targets(alloc, program, hierarchy, outside, &live)?;
-    let codes = make_codes(alloc, program, &live)?;
     let bounds = Bounds {
         outside,
         live: &live,
         found: &found,
     };
-    let facts = facts_of_codes(alloc, program, classes, bounds, &codes)?;
+    let pieces = searched_of(alloc, program, classes, bounds)?;
+    let facts = certified(alloc, program, classes, bounds, pieces)?;
     Ok(facts)
 }
 
 /// What is known of every run of a program that the framework begins as the table of the outside allows, by the hierarchy of
-/// the program's classes: of each position that a run may come to, of parameters, results and fields, and which methods are
-/// quiet. What is answered has been checked to be closed; where it weren't, nothing is answered. The only error is want of
+/// the program's classes: of each position that a run may come to, and of parameters, results and fields. No method is said
+/// to be quiet. What is answered has been checked to be closed; where it weren't, nothing is answered. The only error is want of
 /// memory.
 pub fn analyse(
     alloc: Global,

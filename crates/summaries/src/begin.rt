@@ -107,18 +107,13 @@ impl Spread<'_> {
     }
 
     /// Lets the framework enter a body, if it may, with anything in each parameter.
-    fn begin_entry(
-        &mut self,
-        alloc: Global,
-        targets: &Targets,
-        place: u32,
-    ) -> Result<(), AllocError> {
+    fn begin_entry(&mut self, targets: &Targets, place: u32) -> Result<(), AllocError> {
         let codes = self.ground.codes;
         match codes.at(place) {
             Some(code) => {
                 if is_on(&targets.entered, code.number) {
                     self.open_words(code);
-                    self.begin(alloc, place, true)?;
+                    self.begin(place, true)?;
                 }
                 Ok(())
             }
@@ -131,7 +126,7 @@ impl Spread<'_> {
         let ground = self.ground;
         let order = order_of(alloc, ground.codes, ground.sites, ground.found)?;
         for place in order.as_slice() {
-            self.begin_entry(alloc, targets, *place)?;
+            self.begin_entry(targets, *place)?;
         }
         Ok(())
     }

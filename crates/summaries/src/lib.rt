@@ -1,5 +1,4 @@
-//! What is known of every run of a program: of each register at each position, of parameters, results and fields, and which
-//! methods do nothing that anyone could see.
+//! What is known of every run of a program: of each register at each position, and of parameters, results and fields.
 //!
 //! [`analyse`] lets what is known spread from where runs begin until nothing rises any more (`spread.rt`), and has it
 //! checked. A body is walked through with the steps of `dom_frame` from node to node: nodes stand where its branches and
@@ -16,7 +15,8 @@
 //! Proved is that facts which are answered are closed, as `closed_facts` says (`specs/Certified.antt`). They are checked for
 //! it (`facts_check`), and where they weren't closed, nothing would be answered. So a fault in the search costs facts, and
 //! never makes a wrong one. What this stands on, that the program is well-formed and the hierarchy its own, is a premise of
-//! the contract. No clause says that the check passes, nor that a method which is marked as quiet is quiet.
+//! the contract. No clause says that the check passes. Which methods do nothing that anyone could see is not asked here: the
+//! table of quiet methods stays empty, by which none is known to be quiet (`quiet_code` asks `quiet_methods`).
 #![tactic(auto)]
 
 mod analysis;
@@ -26,7 +26,6 @@ mod codes;
 mod nodes;
 mod order;
 mod pools;
-mod quiet;
 mod rows;
 mod sites;
 mod spread;

@@ -41,7 +41,7 @@ fn no_places(alloc: Global, count: usize) -> Result<Vec<Place>, AllocError> {
 }
 
 /// Sets a mark, if there is such a number.
-fn set(marks: &mut [bool], number: u32, is: bool) {
+pub(crate) fn set(marks: &mut [bool], number: u32, is: bool) {
     if let Some(mark) = marks.get_mut(number as usize) {
         *mark = is;
     }
@@ -99,7 +99,7 @@ impl<'a> Nodes<'a> {
     }
 
     /// Lets a body wait.
-    fn queue(&mut self, code: u32) -> Result<(), AllocError> {
+    pub(crate) fn queue(&mut self, code: u32) -> Result<(), AllocError> {
         if !is_on(&self.queued, code) {
             set(&mut self.queued, code, true);
             self.queue.push_back(code)?;

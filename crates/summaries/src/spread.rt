@@ -5,9 +5,9 @@ ghost use Rattle.insn_set.specs.Flow.{targets_of};
 
 use crate::cells::{Cell, Cells, Numbering};
 use crate::codes::{Code, Codes};
-use crate::nodes::Nodes;
+use crate::nodes::{Nodes, set};
 use crate::pools::Passing;
-use crate::rows::{NONE, Rows, behind};
+use crate::rows::{NONE, Rows, behind, is_on};
 use crate::sites::{Site, Sites};
 use crate::waits::Waits;
 use call_targets::call_number;
@@ -36,7 +36,8 @@ pub(crate) struct Ground<'a> {
 
 /// What is known so far: the cells, the registers at nodes, what calls on objects pass, which bodies a run enters, which
 /// classes are initialised, and in the lists of which interfaces it looks for more of these. Calls on objects wait in
-/// `calls`, and bodies whose results rose in `results`.
+/// `calls`, and bodies whose results rose in `results`. `risen` has the bodies whose parameters rose since a run was last let
+/// come to their entries.
 #[derive(Drop)]
 pub(crate) struct Spread<'a> {
     pub(crate) ground: Ground<'a>,
@@ -44,6 +45,7 @@ pub(crate) struct Spread<'a> {
     pub(crate) nodes: Nodes<'a>,
     pub(crate) passing: Passing,
     pub(crate) entered: Vec<bool>,
+    risen: Vec<bool>,
     pub(crate) needed: Waits,
     pub(crate) listed: Waits,
     calls: Waits,
@@ -87,6 +89,39 @@ fn leaves_all(registers: &PatMap<Value>, insn: &Insn) -> bool {
         },
         _ => false,
     }
+}
+
+/// The registers with a value in one, or a wide one in two.
+fn with_value(
+    alloc: Global,
+    registers: &PatMap<Value>,
+    wide: bool,
+    to: u16,
+    value: Value,
+) -> Result<PatMap<Value>, AllocError> {
+    let low = registers.set(alloc, u32::from(to), value)?;
+    if wide {
+        low.set(alloc, behind(u32::from(to), 1), Value::any())
+    } else {
+        Ok(low)
+    }
+}
+
+/// The registers behind an instruction that takes a value. Of an object that is surely there a get needn't note that it is.
+fn stepped(
+    alloc: Global,
+    classes: &Classes<'_>,
+    registers: &PatMap<Value>,
+    insn: &Insn,
+    value: Value,
+) -> Result<Option<PatMap<Value>>, AllocError> {
+    if let Insn::InstanceGet { item, to, on, .. } = insn {
+        if has_object(registers, *on) {
+            let left = with_value(alloc, registers, item.is_wide(), *to, value)?;
+            return Ok(Some(left));
+        }
+    }
+    step(alloc, classes, registers, insn, &value)
 }
 
 /// The registers past a switch.
@@ -163,6 +198,7 @@ impl<'a> Spread<'a> {
             nodes: Nodes::new(alloc, ground.sites.nodes.as_slice(), codes)?,
             passing: Passing::new(alloc, calls)?,
             entered: vec![in alloc; false; codes]?,
+            risen: vec![in alloc; false; codes]?,
             needed: Waits::new(alloc, classes)?,
             listed: Waits::new(alloc, classes)?,
             calls: Waits::new(alloc, calls)?,
@@ -187,23 +223,24 @@ impl<'a> Spread<'a> {
         Ok(())
     }
 
-    /// Lets a run come to the entry of a body with its parameters, if they rose or it is the first.
-    fn enter(
-        &mut self,
-        alloc: Global,
-        place: u32,
-        code: &Code<'_>,
-        rose: bool,
-    ) -> Result<(), AllocError> {
-        let first = match self.entered.get_mut(place as usize) {
-            Some(entered) => {
-                let first = !*entered;
-                *entered = true;
-                first
-            }
-            None => false,
-        };
-        if !(rose || first) || code.body.insns.is_empty() {
+    /// Lets a body wait for a run to come to its entry, if its parameters rose or it is the first.
+    fn enter(&mut self, place: u32, rose: bool) -> Result<(), AllocError> {
+        let first = !is_on(&self.entered, place);
+        if !(rose || first) {
+            return Ok(());
+        }
+        set(&mut self.entered, place, true);
+        set(&mut self.risen, place, true);
+        self.nodes.queue(place)
+    }
+
+    /// Lets a run come to the entry of a body with its parameters, if they rose since one last did.
+    fn arrive(&mut self, alloc: Global, place: u32, code: &Code<'_>) -> Result<(), AllocError> {
+        if !is_on(&self.risen, place) {
+            return Ok(());
+        }
+        set(&mut self.risen, place, false);
+        if code.body.insns.is_empty() {
             return Ok(());
         }
         let registers = entry_of(alloc, &self.cells, code)?;
@@ -212,15 +249,10 @@ impl<'a> Spread<'a> {
     }
 
     /// Lets a run come to the entry of a body with what it is passed, where that rose or it is the first.
-    pub(crate) fn begin(
-        &mut self,
-        alloc: Global,
-        place: u32,
-        rose: bool,
-    ) -> Result<(), AllocError> {
+    pub(crate) fn begin(&mut self, place: u32, rose: bool) -> Result<(), AllocError> {
         let codes = self.ground.codes;
         match codes.at(place) {
-            Some(code) => self.enter(alloc, place, code, rose),
+            Some(_) => self.enter(place, rose),
             None => Ok(()),
         }
     }
@@ -237,7 +269,7 @@ impl<'a> Spread<'a> {
         match codes.at(place) {
             Some(code) => {
                 let rose = raise_by_args(alloc, &mut self.cells, code, args, registers)?;
-                self.enter(alloc, place, code, rose)
+                self.enter(place, rose)
             }
             None => Ok(()),
         }
@@ -393,7 +425,7 @@ impl<'a> Spread<'a> {
                     return Ok(Some(registers.share()?));
                 }
                 let value = taken(&self.cells, site, insn);
-                step(alloc, &self.ground.classes, registers, insn, &value)
+                stepped(alloc, &self.ground.classes, registers, insn, value)
             }
         }
     }
@@ -474,13 +506,14 @@ impl<'a> Spread<'a> {
         Ok(any)
     }
 
-    /// Walks through a body until none of its nodes waits.
+    /// Walks through a body until none of its nodes waits, and its parameters rise no more.
     fn settle(&mut self, alloc: Global, place: u32) -> Result<(), AllocError> {
         let codes = self.ground.codes;
         let Some(code) = codes.at(place) else {
             return Ok(());
         };
         for _ in 0..u32::MAX {
+            self.arrive(alloc, place, code)?;
             if !self.sweep(alloc, place, code)? {
                 break;
             }
@@ -496,7 +529,7 @@ impl<'a> Spread<'a> {
             Some(code) => {
                 let words = self.passing.words(call);
                 let rose = raise_by_words(alloc, &mut self.cells, code, words)?;
-                self.enter(alloc, place, code, rose)
+                self.enter(place, rose)
             }
             None => Ok(()),
         }
@@ -562,9 +595,9 @@ impl<'a> Spread<'a> {
     }
 
     /// Lets a class be initialised.
-    fn initialise(&mut self, alloc: Global, place: u32) -> Result<(), AllocError> {
+    fn initialise(&mut self, place: u32) -> Result<(), AllocError> {
         let first = self.initialiser(place);
-        self.begin(alloc, first, false)?;
+        self.begin(first, false)?;
         match self.ground.program.classes.as_slice().get(place as usize) {
             Some(class) => {
                 if class.flags.has(Flags::INTERFACE) {
@@ -608,7 +641,7 @@ impl<'a> Spread<'a> {
     /// Looks at one of what waits beside bodies, and answers whether anything did.
     fn turn_aside(&mut self, alloc: Global) -> Result<bool, AllocError> {
         if let Some(class) = self.needed.take_for_good() {
-            self.initialise(alloc, class)?;
+            self.initialise(class)?;
             return Ok(true);
         }
         if let Some(list) = self.listed.take_for_good() {

@@ -1,11 +1,10 @@
 -- The class_defs stand where the table of classes does, and the parts of classes are theirs.
-use Rattle.std.proofs.Common.{◌≡◌, ◌≤◌, ◌<◌, ◌+◌, ◌-◌, ◌*◌, ◌^◌, inl, inr, ℕ, zero, suc, Bool, true, List, [], ◌∷◌, ◌++◌, length, map, take, drop, refl, sym, ap, subst, ◌∙◌, arith, length-append, length-drop, Option, Some, None, ltb-true}
-use Rattle.std.specs.Prelude.{slice_get, slice_index_or}
+use Rattle.std.proofs.Common.{◌≡◌, ◌≤◌, ◌<◌, ◌+◌, ◌-◌, ◌*◌, ◌^◌, inl, inr, ℕ, zero, suc, true, List, [], ◌∷◌, ◌++◌, length, map, drop, refl, sym, ap, subst, ◌∙◌, arith, length-drop, Option, Some, None, ltb-true}
+use Rattle.std.specs.Prelude.{slice_get}
 use Rattle.std.specs.List.{flat_map, AllByRecursion}
 use Rattle.std.proofs.lemmas.List.{length-map, length-take-le}
 use Rattle.dex_base.specs.Decides.{Each}
 use Rattle.dex_pools.specs.declared.interner.Interner.{Interner}
-use Rattle.dex_pools.specs.declared.used.Named.{Named}
 use Rattle.dex_pools.specs.declared.used.Named.TheVariants as named
 use Rattle.dex_pools.specs.Interned.{IsInterned}
 use Rattle.dex_pools.specs.Used.{kind_names, source_names, class_names}
@@ -25,24 +24,22 @@ use Rattle.dex_write.specs.declared.tables.ClassOffsets.{ClassOffsets}
 use Rattle.dex_write.specs.Numbers.{words, at_place}
 use Rattle.dex_write.specs.Plans.{Plan, parameters_in, parameter_marks}
 use Rattle.dex_write.specs.Codes.{codes_behind, lines_behind}
-use Rattle.dex_write.specs.Sets.{set_counts, ref_counts, own_count, parameter_count, own_offsets, behind_class}
+use Rattle.dex_write.specs.Sets.{ref_counts, own_count, parameter_count, own_offsets, behind_class}
 use Rattle.dex_write.specs.Lists.{used_offset}
 use Rattle.dex_write.specs.Tables.{pair, source_word, class_row}
 use Rattle.dex_defs.specs.Here.{Here}
 use Rattle.dex_defs.specs.Arranged.{Both}
-use Rattle.dex_defs.specs.ClassDefs.{Def, IsDef}
+use Rattle.dex_defs.specs.ClassDefs.{IsDef}
 use Rattle.dex_defs.specs.Valid as valid
-use Rattle.dex_defs.specs.Valid.{ClassPart}
-use Rattle.dex_defs.specs.Written.{new_string, new_type, new_marks, written_method, written_class, written_by}
+use Rattle.dex_defs.specs.Written.{new_string, new_type, new_marks, written_method, written_by}
 use Rattle.names_law.specs.Used.{IsUsed, IsShort}
 use Rattle.names_law.proofs.Ranges.{ranges_kept}
 use Rattle.write_laws.specs.Fits.{TablesFit}
-use Rattle.write_laws.specs.Listing.{def_of}
 use Rattle.write_laws.proofs.Numbers.{Few}
 use Rattle.write_laws.proofs.Defs.{defs_of, FewDefs}
 use Rattle.write_laws.proofs.Pools.{proto_rows, words_at, rows_length, protos_long}
 use Rattle.write_laws.proofs.Lying.{total}
-use Rattle.write_laws.proofs.Fitting.{plan_long, sum_total}
+use Rattle.write_laws.proofs.Fitting.{sum_total}
 use Rattle.written_tables.specs.Widths.{ClassFits, HasWidths}
 use Rattle.written_tables.proofs.Fit.{FitsClass}
 use Rattle.written_tables.proofs.In.{In, in_left, in_right, in_got, all_in}

@@ -1,14 +1,14 @@
 -- The class data of each class that is written is spelled where its text stands.
-use Rattle.std.proofs.Common.{◌≡◌, ◌≤◌, ◌<◌, ◌+◌, ◌^◌, ℕ, zero, suc, Bool, true, false, List, [], ◌∷◌, ◌++◌, length, map, take, drop, refl, sym, ap, subst, ◌∙◌, arith, length-append, Option, Some, None}
-use Rattle.std.specs.Prelude.{nat_eq, slice_get, if◌then◌else◌}
-use Rattle.std.specs.List.{flat_map, AllByRecursion}
-use Rattle.std.proofs.lemmas.Bool.{eqb-true, eqb-false, ne_eqb}
+use Rattle.std.proofs.Common.{◌≡◌, ◌≤◌, ◌<◌, ◌+◌, ◌^◌, ℕ, zero, suc, Bool, true, false, List, [], ◌∷◌, ◌++◌, length, map, take, drop, refl, sym, ap, subst, ◌∙◌, arith, length-append, Some}
+use Rattle.std.specs.Prelude.{nat_eq, slice_get}
+use Rattle.std.specs.List.{AllByRecursion}
+use Rattle.std.proofs.lemmas.Bool.{eqb-true}
 use Rattle.std.proofs.lemmas.List.{length-map}
 use Rattle.lemmas.proofs.Options.{before_map}
-use Rattle.lemmas.proofs.Lists.{get_map, got_short}
+use Rattle.lemmas.proofs.Lists.{get_map}
 use Rattle.dex_base.specs.Leb.{EndsLeb, uleb_text}
 use Rattle.dex_base.proofs.Written.{uleb_spelled}
-use Rattle.code_write.specs.Pairs.{Numbered, in_order}
+use Rattle.code_write.specs.Pairs.{Numbered}
 use Rattle.dex_pools.specs.declared.interner.Interner.{Interner}
 use Rattle.dex_pools.specs.declared.used.Named.TheVariants as named
 use Rattle.dex_pools.specs.Interned.{IsInterned}
@@ -22,17 +22,16 @@ use Rattle.program_model.specs.MemberRules.{is_static, is_direct, field_fits, me
 use Rattle.dex_write.specs.declared.ordered.MethodPart.{MethodPart}
 use Rattle.dex_write.specs.declared.tables.ClassOffsets.{ClassOffsets}
 use Rattle.dex_write.specs.Plans.{Plan, flags_in, method_flags_in, field_flags, method_flags, spot_of, ordered_fields, ordered_methods}
-use Rattle.dex_write.specs.Codes.{code_offset, code_behind, codes_behind, lines_behind, parts_of}
+use Rattle.dex_write.specs.Codes.{code_behind, codes_behind, lines_behind, parts_of}
 use Rattle.dex_write.specs.Sets.{behind_class}
 use Rattle.dex_defs.specs.Here.{Here}
 use Rattle.dex_defs.specs.Arranged.{Both}
-use Rattle.dex_defs.specs.ClassData.{Entry, Lists, no_lists, IsClassData, IsClassDataOf}
-use Rattle.dex_defs.specs.Texts.{counts_text, fields_text, methods_text, class_data_text, member_count, data_text}
+use Rattle.dex_defs.specs.ClassData.{Lists, no_lists, IsClassDataOf}
+use Rattle.dex_defs.specs.Texts.{fields_text, methods_text, class_data_text, member_count, data_text}
 use Rattle.dex_defs.specs.Written.{new_field, new_method, written_field, written_by}
 use Rattle.names_law.specs.Used.{IsShort}
 use Rattle.names_law.proofs.Ranges.{ranges_kept}
-use Rattle.write_laws.specs.Fits.{TablesFit}
-use Rattle.write_laws.specs.Listing.{field_entry, method_entry, method_entries, lists_in}
+use Rattle.write_laws.specs.Listing.{field_entry, method_entries, lists_in}
 use Rattle.write_laws.specs.Placing.{code_offsets}
 use Rattle.write_laws.proofs.Numbers.{Few}
 use Rattle.write_laws.proofs.Members.{Climbs, Codeless, FitsLists, data_stands}
@@ -42,7 +41,7 @@ use Rattle.written_tables.proofs.In.{In, in_got, all_in}
 use Rattle.written_parts.specs.Parts.{class_parts}
 use Rattle.written_order.proofs.Sorting.{Above, Rises, order_rises}
 use Rattle.written_order.proofs.Grouped.{Spot}
-use Rattle.written_parts.proofs.Members.{Planned, field_short, method_short, all_of_list, field_used, method_used}
+use Rattle.written_parts.proofs.Members.{field_short, method_short, all_of_list, field_used, method_used}
 use Rattle.written_parts.proofs.Small.{plan_fields_few, plan_methods_few}
 use Rattle.written_sets.proofs.Standing.{Stands, Unplaced, Placed}
 use Rattle.written_classes.proofs.Directories.{FewMembers}

@@ -1,12 +1,12 @@
 -- The directory of each class that is written is spelled where its text stands.
-use Rattle.std.proofs.Common.{◌≡◌, ◌≤◌, ◌<◌, ◌+◌, ◌*◌, ◌^◌, ℕ, zero, suc, Bool, true, false, List, [], ◌∷◌, ◌++◌, length, map, drop, refl, sym, ap, subst, ◌∙◌, arith, length-append, length-drop}
-use Rattle.std.specs.Prelude.{nat_eq, slice_get, if◌then◌else◌}
-use Rattle.std.specs.List.{flat_map, All, AllByRecursion}
-use Rattle.std.proofs.lemmas.Bool.{eqb-true, eqb-false}
+use Rattle.std.proofs.Common.{◌≡◌, ◌≤◌, ◌<◌, ◌+◌, ◌*◌, ◌^◌, ℕ, zero, suc, Bool, true, false, List, [], ◌∷◌, ◌++◌, length, map, drop, refl, sym, ap, subst, ◌∙◌, arith, length-append}
+use Rattle.std.specs.Prelude.{if◌then◌else◌}
+use Rattle.std.specs.List.{AllByRecursion}
+use Rattle.std.proofs.lemmas.Bool.{eqb-true}
 use Rattle.std.proofs.lemmas.List.Elements.{All-from_recursion}
 use Rattle.dex_base.specs.Word.{Is32}
 use Rattle.dex_base.specs.Decides.{Each}
-use Rattle.code_write.specs.Pairs.{Numbered, in_order}
+use Rattle.code_write.specs.Pairs.{Numbered}
 use Rattle.program_model.specs.declared.pass.Renumber.{Renumber}
 use Rattle.program_model.specs.declared.value.EncValue.{EncValue}
 use Rattle.dex_write.specs.declared.ordered.MethodPart.{MethodPart}
@@ -17,12 +17,12 @@ use Rattle.dex_write.specs.Codes.{codes_behind, lines_behind}
 use Rattle.dex_write.specs.Sets.{pair_list, field_pairs, method_pairs, own_count, parameter_count, behind_class}
 use Rattle.dex_defs.specs.Here.{Here}
 use Rattle.dex_defs.specs.Arranged.{Both}
-use Rattle.dex_defs.specs.Annotations.{Directory, no_directory, ArePairs, IsDirectory, IsDirectoryOf}
+use Rattle.dex_defs.specs.Annotations.{Directory, no_directory, IsDirectory, IsDirectoryOf}
 use Rattle.dex_defs.specs.Texts.{pairs_words, directory_words, is_nothing, directory_text}
 use Rattle.dex_defs.specs.Texts as kept
 use Rattle.dex_defs.specs.Valid.{NamesAll}
-use Rattle.write_laws.proofs.Here.{here_left, here_is, here_same}
-use Rattle.write_laws.proofs.Numbers.{Few, same_words, words_append, words_length, here_words, first_word, other_words}
+use Rattle.write_laws.proofs.Here.{here_is, here_same}
+use Rattle.write_laws.proofs.Numbers.{Few, same_words, words_length, here_words, first_word, other_words}
 use Rattle.write_laws.proofs.Pools.{words_at}
 use Rattle.written_parts.specs.Parts.{directory_of, class_parts}
 use Rattle.written_order.proofs.Sorting.{order_all, order_long}

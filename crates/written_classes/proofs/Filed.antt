@@ -1,28 +1,25 @@
 -- What is written is valid where its code, its annotations and its first values are spelled.
-use Rattle.std.proofs.Common.{◌≡◌, ◌<◌, ◌≤◌, ◌+◌, ◌*◌, ◌^◌, ℕ, List, [], ◌++◌, length, map, refl, sym, ap, ◌∙◌, subst, arith}
+use Rattle.std.proofs.Common.{◌≡◌, ◌<◌, ◌+◌, ◌*◌, ◌^◌, ℕ, List, length, map, sym, ap, ◌∙◌, subst, arith}
 use Rattle.std.specs.Prelude.{nat_eq, slice_get, Some, true}
 use Rattle.std.specs.List.{flat_map, AllByRecursion, list_any}
 use Rattle.dex_base.specs.Decides.{Each}
 use Rattle.dex_pools.specs.declared.interner.Interner.{Interner}
 use Rattle.dex_pools.specs.Interned.{IsInterned}
-use Rattle.dex_pools.specs.Finds.{Ascends}
-use Rattle.dex_pools.specs.Order.{list_below}
 use Rattle.dex_pools.specs.Written.{mark_text}
 use Rattle.program_model.specs.declared.program.Class.{Class}
 use Rattle.program_model.specs.declared.program.Program.{Program}
 use Rattle.program_model.specs.ProgramRules.{is_well_formed}
 use Rattle.class_defs.specs.ClassGraph.{IsTwice, IsAncestor}
-use Rattle.dex_write.specs.declared.tables.ClassOffsets.{ClassOffsets}
 use Rattle.dex_write.specs.Numbers.{words}
 use Rattle.dex_write.specs.File.{data_at, IsSealed}
-use Rattle.dex_write.specs.Places.{counts_of, front_of, back_of, parts_in, file_for}
+use Rattle.dex_write.specs.Places.{counts_of, front_of, back_of, file_for}
 use Rattle.dex_write.specs.Sets.{set_counts, ref_counts, parameter_offsets, directory_texts, marks_of, mark_starts}
 use Rattle.dex_write.specs.Data.{data_texts, array_text}
 use Rattle.dex_write.specs.Order.{classes_at, IsOrder}
 use Rattle.dex_write.specs.Plans.{Plan}
 use Rattle.dex_write.specs.Codes.{parts_of}
 use Rattle.dex_write.specs.Lists.{list_starts, list_text, type_lists, classes_use}
-use Rattle.dex_write.specs.Tables.{pair, class_words}
+use Rattle.dex_write.specs.Tables.{class_words}
 use Rattle.dex_write.specs.Written.{ArePlans}
 use Rattle.dex_write.specs.Written as writer
 use Rattle.dex_defs.specs.Here.{Here}
@@ -50,7 +47,6 @@ use Rattle.write_laws.proofs.Coded.{plans_fit}
 use Rattle.write_laws.proofs.Defs.{defs_stand}
 use Rattle.write_laws.proofs.Whole.{file_placed, file_lies, strings_length}
 use Rattle.write_laws.proofs.Slice.{file_leads, tables_are, parameters_long, lie_few}
-use Rattle.write_laws.proofs.Pools.{proto_rows}
 use Rattle.write_laws.proofs.Written.{counts_written}
 use Rattle.write_laws.proofs.Last.{written_is_valid}
 use Rattle.write_laws.proofs.Ordering.{orders_in}
@@ -59,6 +55,7 @@ use Rattle.written_tables.specs.Widths.{HasWidths}
 use Rattle.written_tables.proofs.Fit.{Parts, parts_of as well_formed_parts, FitsClass, class_at_fits}
 use Rattle.written_tables.proofs.Texts.{texts_fit}
 use Rattle.written_tables.proofs.Used.{all_used}
+use Rattle.written_order.specs.Rises.{NamesRise}
 use Rattle.written_classes.specs.Left.{Left}
 use Rattle.written_parts.specs.Parts.{first_values, offsets_of, parts_of_file, sets_of_file}
 use Rattle.written_order.proofs.Order.{order_is, order_behind, order_every}
@@ -76,25 +73,25 @@ use Rattle.written_parts.proofs.KindFields.{HasPlan, all_planned, all_own, sets_
 
 -- ---- what stands where it is named
 
-marks_there : (file : List ℕ) (p : Program) (i : Interner) (plans : List Plan) → AllLie file p i plans → Same (flat_map (λ s. s.offsets) (sets_of_file p i plans)) (map (λ start. (stops_of p i plans).lines + start) (mark_starts i.numbers 0 (flat_map (marks_of i.numbers) plans))) (flat_map (λ s. map texts.mark_text s.marks) (sets_of_file p i plans)) (map (mark_text i.numbers) (flat_map (marks_of i.numbers) plans))
+pub marks_there : (file : List ℕ) (p : Program) (i : Interner) (plans : List Plan) → AllLie file p i plans → Same (flat_map (λ s. s.offsets) (sets_of_file p i plans)) (map (λ start. (stops_of p i plans).lines + start) (mark_starts i.numbers 0 (flat_map (marks_of i.numbers) plans))) (flat_map (λ s. map texts.mark_text s.marks) (sets_of_file p i plans)) (map (mark_text i.numbers) (flat_map (marks_of i.numbers) plans))
     → Both (Stands file) (flat_map (λ s. s.offsets) (sets_of_file p i plans)) (flat_map (λ s. map texts.mark_text s.marks) (sets_of_file p i plans))
 marks_there file p i plans lies same =
     all_stand file 1 (stops_of p i plans).lines (flat_map (λ s. s.offsets) (sets_of_file p i plans)) (flat_map (λ s. map texts.mark_text s.marks) (sets_of_file p i plans)) (stops_of p i plans).marks
     (lie_same file 1 (stops_of p i plans).lines (flat_map (λ s. s.offsets) (sets_of_file p i plans)) (map (λ start. (stops_of p i plans).lines + start) (mark_starts i.numbers 0 (flat_map (marks_of i.numbers) plans))) (flat_map (λ s. map texts.mark_text s.marks) (sets_of_file p i plans)) (map (mark_text i.numbers) (flat_map (marks_of i.numbers) plans)) (stops_of p i plans).marks same lies.marks)
 
-offsets_there : (file : List ℕ) (p : Program) (i : Interner) (plans : List Plan) → AllLie file p i plans → Same (flat_map set_offsets (parts_of_file p i plans)) (front_of p i plans (data_at (counts_of i plans))).sets.offsets (map (λ s. offsets_text s.offsets) (sets_of_file p i plans)) (entry_texts (stops_of p i plans).lines (flat_map set_counts plans) (mark_starts i.numbers 0 (flat_map (marks_of i.numbers) plans)))
+pub offsets_there : (file : List ℕ) (p : Program) (i : Interner) (plans : List Plan) → AllLie file p i plans → Same (flat_map set_offsets (parts_of_file p i plans)) (front_of p i plans (data_at (counts_of i plans))).sets.offsets (map (λ s. offsets_text s.offsets) (sets_of_file p i plans)) (entry_texts (stops_of p i plans).lines (flat_map set_counts plans) (mark_starts i.numbers 0 (flat_map (marks_of i.numbers) plans)))
     → Both (Stands file) (flat_map set_offsets (parts_of_file p i plans)) (map (λ s. offsets_text s.offsets) (sets_of_file p i plans))
 offsets_there file p i plans lies same =
     all_stand file 4 (stops_of p i plans).refs (flat_map set_offsets (parts_of_file p i plans)) (map (λ s. offsets_text s.offsets) (sets_of_file p i plans)) (stops_of p i plans).sets
     (lie_same file 4 (stops_of p i plans).refs (flat_map set_offsets (parts_of_file p i plans)) (front_of p i plans (data_at (counts_of i plans))).sets.offsets (map (λ s. offsets_text s.offsets) (sets_of_file p i plans)) (entry_texts (stops_of p i plans).lines (flat_map set_counts plans) (mark_starts i.numbers 0 (flat_map (marks_of i.numbers) plans))) (stops_of p i plans).sets same lies.sets)
 
-members_there : (file : List ℕ) (p : Program) (i : Interner) (plans : List Plan) → AllLie file p i plans → Same (map (λ c. c.def.data_at) (parts_of_file p i plans)) (front_of p i plans (data_at (counts_of i plans))).data.offsets (map (λ c. data_text c.lists) (parts_of_file p i plans)) (data_texts (front_of p i plans (data_at (counts_of i plans))).code.at plans)
+pub members_there : (file : List ℕ) (p : Program) (i : Interner) (plans : List Plan) → AllLie file p i plans → Same (map (λ c. c.def.data_at) (parts_of_file p i plans)) (front_of p i plans (data_at (counts_of i plans))).data.offsets (map (λ c. data_text c.lists) (parts_of_file p i plans)) (data_texts (front_of p i plans (data_at (counts_of i plans))).code.at plans)
     → Both (Stands file) (map (λ c. c.def.data_at) (parts_of_file p i plans)) (map (λ c. data_text c.lists) (parts_of_file p i plans))
 members_there file p i plans lies same =
     all_stand file 1 (stops_of p i plans).directories (map (λ c. c.def.data_at) (parts_of_file p i plans)) (map (λ c. data_text c.lists) (parts_of_file p i plans)) (stops_of p i plans).members
     (lie_same file 1 (stops_of p i plans).directories (map (λ c. c.def.data_at) (parts_of_file p i plans)) (front_of p i plans (data_at (counts_of i plans))).data.offsets (map (λ c. data_text c.lists) (parts_of_file p i plans)) (data_texts (front_of p i plans (data_at (counts_of i plans))).code.at plans) (stops_of p i plans).members same lies.members)
 
-annotations_there : (file : List ℕ) (p : Program) (i : Interner) (plans : List Plan) → AllLie file p i plans → Same (map (λ c. c.def.annotations) (parts_of_file p i plans)) (front_of p i plans (data_at (counts_of i plans))).directories.offsets (map (λ c. directory_text c.directory) (parts_of_file p i plans)) (directory_texts plans (front_of p i plans (data_at (counts_of i plans))).sets.offsets (front_of p i plans (data_at (counts_of i plans))).refs.offsets)
+pub annotations_there : (file : List ℕ) (p : Program) (i : Interner) (plans : List Plan) → AllLie file p i plans → Same (map (λ c. c.def.annotations) (parts_of_file p i plans)) (front_of p i plans (data_at (counts_of i plans))).directories.offsets (map (λ c. directory_text c.directory) (parts_of_file p i plans)) (directory_texts plans (front_of p i plans (data_at (counts_of i plans))).sets.offsets (front_of p i plans (data_at (counts_of i plans))).refs.offsets)
     → Both (Stands file) (map (λ c. c.def.annotations) (parts_of_file p i plans)) (map (λ c. directory_text c.directory) (parts_of_file p i plans))
 annotations_there file p i plans lies same =
     all_stand file 4 (stops_of p i plans).codes (map (λ c. c.def.annotations) (parts_of_file p i plans)) (map (λ c. directory_text c.directory) (parts_of_file p i plans)) (stops_of p i plans).directories
@@ -106,7 +103,7 @@ interfaces_few : (p : Program) (i : Interner) (plans : List Plan) → Few (list_
 unfolding type_lists
 interfaces_few p i plans f = subst Few (sym (interfaces_are p i plans)) (few_uses _ _ f)
 
-offsets_few : (file : List ℕ) (p : Program) (i : Interner) (plans : List Plan) → length file < 2 ^ 32 → AllLie file p i plans → FewOffsets (offsets_of p i plans)
+pub offsets_few : (file : List ℕ) (p : Program) (i : Interner) (plans : List Plan) → length file < 2 ^ 32 → AllLie file p i plans → FewOffsets (offsets_of p i plans)
 offsets_few file p i plans few lies = record {
   interfaces = interfaces_few p i plans (lie_few file 4 (data_at (counts_of i plans)) (list_starts (data_at (counts_of i plans)) (type_lists p i plans)) (map list_text (type_lists p i plans)) (stops_of p i plans).lists few lies.lists);
   directories = lie_few file 4 (stops_of p i plans).codes (front_of p i plans (data_at (counts_of i plans))).directories.offsets (directory_texts plans (front_of p i plans (data_at (counts_of i plans))).sets.offsets (front_of p i plans (data_at (counts_of i plans))).refs.offsets) (stops_of p i plans).directories few lies.directories;
@@ -116,7 +113,7 @@ offsets_few file p i plans few lies = record {
 
 -- ---- the table of classes
 
-table_there : (p : Program) (i : Interner) (plans : List Plan) → FitsPlans p i plans → OrdersIn p i → SameCounts i plans (written_by i p) → Here (file_for p i plans) (valid.classes_at (written_by i p)) (words (class_words i.numbers (offsets_of p i plans) 0 plans))
+pub table_there : (p : Program) (i : Interner) (plans : List Plan) → FitsPlans p i plans → OrdersIn p i → SameCounts i plans (written_by i p) → Here (file_for p i plans) (valid.classes_at (written_by i p)) (words (class_words i.numbers (offsets_of p i plans) 0 plans))
 table_there p i plans fits orders counts =
     let file : List ℕ = file_for p i plans in
     let strings : List ℕ = (front_of p i plans (data_at (counts_of i plans))).strings.offsets in
@@ -128,7 +125,7 @@ table_there p i plans fits orders counts =
 -- ---- the whole
 
 rest_of : (p : Program) (i : Interner) (places : List ℕ) (plans : List Plan) → IsInterned p i → IsOrder p places → ArePlans p i.numbers (flat_map (classes_at p) places) plans
-    → is_well_formed p ≡ true → ((class : ℕ) → IsTwice p class → ⊥) → ((class : ℕ) → IsAncestor p class class → ⊥) → HasWidths p → Ascends list_below p.strings → length (file_for p i plans) < 2 ^ 32
+    → is_well_formed p ≡ true → ((class : ℕ) → IsTwice p class → ⊥) → ((class : ℕ) → IsAncestor p class class → ⊥) → HasWidths p → NamesRise p → length (file_for p i plans) < 2 ^ 32
     → Left (file_for p i plans) p i plans (written_by i p) → Rest (file_for p i plans) p i plans (written_by i p) (parts_of_file p i plans) (sets_of_file p i plans)
 rest_of p i places plans interned ordered are formed once acyclic widths sorted few_file left =
     let file : List ℕ = file_for p i plans in
@@ -184,7 +181,7 @@ rest_of p i places plans interned ordered are formed once acyclic widths sorted 
       values = record { offsets_are = firsts_named p i plans; texts_are = values_texts p i few interned fits plans planned };
     }
 
-pub filed : (p : Program) (bytes : List ℕ) (w : writer.IsWritten p bytes) → is_well_formed p ≡ true → ((class : ℕ) → IsTwice p class → ⊥) → ((class : ℕ) → IsAncestor p class class → ⊥) → HasWidths p → Ascends list_below p.strings → IsSealed p.version bytes → length bytes < 2 ^ 32
+pub filed : (p : Program) (bytes : List ℕ) (w : writer.IsWritten p bytes) → is_well_formed p ≡ true → ((class : ℕ) → IsTwice p class → ⊥) → ((class : ℕ) → IsAncestor p class class → ⊥) → HasWidths p → NamesRise p → IsSealed p.version bytes → length bytes < 2 ^ 32
     → Left bytes p w.interner w.plans (written_by w.interner p) → IsValidFile p bytes (written_by w.interner p)
 filed p bytes w formed once acyclic widths sorted sealed few left =
     let i : Interner = w.interner in

@@ -1,7 +1,7 @@
 -- The first values of the written file are spelled where they are named.
-use Rattle.std.proofs.Common.{◌≡◌, ◌≤◌, ◌<◌, ◌^◌, inl, inr, ℕ, zero, suc, Bool, true, false, List, [], ◌∷◌, ◌++◌, length, map, take, drop, refl, sym, ap, subst, ◌∙◌, arith, length-append, Option, Some, None, pos}
+use Rattle.std.proofs.Common.{◌≡◌, ◌<◌, ◌^◌, inl, inr, ℕ, zero, suc, Bool, true, false, List, [], ◌∷◌, length, map, take, drop, refl, sym, ap, subst, ◌∙◌, arith, length-append, Option, Some, None, pos}
 use Rattle.std.specs.Prelude.{slice_get, min, ◌&&◌, ◌==◌, if◌then◌else◌}
-use Rattle.std.specs.List.{flat_map, list_all, AllByRecursion}
+use Rattle.std.specs.List.{flat_map, AllByRecursion}
 use Rattle.std.proofs.lemmas.Bool.{and_parts}
 use Rattle.std.proofs.lemmas.List.{length-map}
 use Rattle.lemmas.proofs.Lists.{all_at}
@@ -35,7 +35,6 @@ use Rattle.dex_write.specs.Plans.{Plan, Numbered}
 use Rattle.dex_write.specs.Codes.{codes_behind, lines_behind}
 use Rattle.dex_write.specs.Sets.{behind_class}
 use Rattle.dex_write.specs.Data.{first_count, zero_of, value_or}
-use Rattle.dex_defs.specs.Here.{Here}
 use Rattle.dex_defs.specs.Arranged.{Both}
 use Rattle.dex_defs.specs.Values.{AreValuesOf}
 use Rattle.dex_defs.specs.ValueTexts as texts
@@ -45,6 +44,7 @@ use Rattle.names_law.specs.Used.{IsUsed, IsShort}
 use Rattle.written_tables.proofs.Fit.{FitsClass}
 use Rattle.written_tables.proofs.Naming.{value_named}
 use Rattle.written_tables.proofs.In.{In, in_left, in_got, all_in}
+use Rattle.written_order.specs.Rises.{NamesRise}
 use Rattle.written_values.specs.Fitting.{SizesFit, LayerFits, ValueFits}
 use Rattle.written_values.specs.Wide.{IsWideLayer, IsWide, IsWideFirst, WideField, WideClass, HasWideValues}
 use Rattle.written_values.proofs.Values.{array_stands}
@@ -148,7 +148,7 @@ values_stand bytes sizes zero (v ∷ vs) fit f few (Placed a lt h) = absurd (ome
 values_stand bytes sizes (suc k) (v ∷ vs) fit f few (Placed a lt h) = array_stands bytes sizes fit v vs (suc k) f few h
 
 module _ (p : Program) (i : Interner) (few : IsShort p) (h : IsInterned p i) (fits : (k : ℕ) (c : Class) → slice_get p.classes k ≡ Some c → FitsClass p c)
-    (wide : HasWideValues p) (old : Ascends list_below p.strings) (new : Ascends list_below (written_by i p).strings) where
+    (wide : HasWideValues p) (old : NamesRise p) (new : Ascends list_below (written_by i p).strings) where
   abbrev sizes : TableSizes
   sizes = sizes_in (written_by i p)
 

@@ -5,8 +5,6 @@ use Rattle.std.specs.List.{flat_map}
 use Rattle.lemmas.proofs.Lists.{got_short}
 use Rattle.dex_base.specs.Decides.{Entries}
 use Rattle.dex_pools.specs.declared.interner.Interner.{Interner}
-use Rattle.dex_pools.specs.Finds.{Ascends}
-use Rattle.dex_pools.specs.Order.{list_below}
 use Rattle.program_model.specs.declared.program.Class.{Class}
 use Rattle.program_model.specs.declared.program.Program.{Program}
 use Rattle.program_model.specs.ProgramRules.{is_well_formed}
@@ -26,6 +24,7 @@ use Rattle.write_laws.specs.Kinds.{IsValidFile}
 use Rattle.written_tables.specs.Widths.{HasWidths}
 use Rattle.written_tables.proofs.Fit.{Parts, parts_of, class_at_fits}
 use Rattle.written_order.specs.Behind.{AllBehind}
+use Rattle.written_order.specs.Rises.{NamesRise}
 use Rattle.written_classes.specs.Left.{Left}
 use Rattle.written_order.proofs.Order.{order_is, order_behind}
 use Rattle.written_classes.proofs.Filed.{filed}
@@ -47,7 +46,7 @@ none_left bytes p i q e = record {
   marks = tt;
 }
 
-pub bare : (p : Program) (bytes : List ℕ) → writer.IsWritten p bytes → p.classes ≡ [] → is_well_formed p ≡ true → HasWidths p → Ascends list_below p.strings → IsSealed p.version bytes → length bytes < 2 ^ 32
+pub bare : (p : Program) (bytes : List ℕ) → writer.IsWritten p bytes → p.classes ≡ [] → is_well_formed p ≡ true → HasWidths p → NamesRise p → IsSealed p.version bytes → length bytes < 2 ^ 32
     → (interner : Interner) × IsValidFile p bytes (written_by interner p)
 bare p bytes w none formed widths sorted sealed few =
     let parts : Parts p = parts_of p formed in

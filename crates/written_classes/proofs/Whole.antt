@@ -4,8 +4,6 @@ use Rattle.std.specs.Prelude.{slice_get, Some, true}
 use Rattle.std.specs.List.{flat_map, AllByRecursion}
 use Rattle.dex_pools.specs.declared.interner.Interner.{Interner}
 use Rattle.dex_pools.specs.Interned.{IsInterned}
-use Rattle.dex_pools.specs.Finds.{Ascends}
-use Rattle.dex_pools.specs.Order.{list_below}
 use Rattle.program_model.specs.declared.program.Class.{Class}
 use Rattle.program_model.specs.declared.program.Program.{Program}
 use Rattle.program_model.specs.ProgramRules.{is_well_formed}
@@ -18,7 +16,6 @@ use Rattle.dex_write.specs.Plans.{Plan}
 use Rattle.dex_write.specs.Written.{ArePlans}
 use Rattle.dex_write.specs.Written as writer
 use Rattle.dex_defs.specs.Arranged.{Both}
-use Rattle.dex_defs.specs.Spells.{sizes_in}
 use Rattle.dex_defs.specs.ValueTexts as texts
 use Rattle.dex_defs.specs.Written.{written_by}
 use Rattle.names_law.specs.Used.{IsShort}
@@ -33,9 +30,10 @@ use Rattle.write_laws.proofs.Tabled.{short_of, is_short, tables_are_fit}
 use Rattle.written_tables.specs.Widths.{HasWidths}
 use Rattle.written_tables.proofs.Fit.{Parts, parts_of as well_formed_parts, FitsClass, class_at_fits}
 use Rattle.written_tables.proofs.Texts.{texts_fit}
+use Rattle.written_order.specs.Rises.{NamesRise}
 use Rattle.written_values.specs.Wide.{HasWideValues}
 use Rattle.written_classes.specs.Left.{Left, LeftOfCode}
-use Rattle.written_parts.specs.Parts.{first_values, offsets_of, parts_of_file}
+use Rattle.written_parts.specs.Parts.{offsets_of, parts_of_file}
 use Rattle.written_parts.proofs.Small.{values_texts}
 use Rattle.written_sets.proofs.Standing.{Stands, all_stand}
 use Rattle.written_parts.proofs.KindFields.{HasPlan, all_planned, firsts_named}
@@ -43,13 +41,13 @@ use Rattle.written_sets.proofs.Reading.{all_read}
 use Rattle.written_classes.proofs.FirstFits.{all_values}
 use Rattle.written_classes.proofs.Filed.{filed}
 
-firsts_there : (file : List ℕ) (p : Program) (i : Interner) (plans : List Plan) → AllLie file p i plans → Same (map (λ c. c.def.values) (parts_of_file p i plans)) (back_of p i.numbers plans (front_of p i plans (data_at (counts_of i plans)))).firsts.offsets (map (λ c. texts.array_text c.values) (parts_of_file p i plans)) (map (array_text p i.numbers) plans)
+pub firsts_there : (file : List ℕ) (p : Program) (i : Interner) (plans : List Plan) → AllLie file p i plans → Same (map (λ c. c.def.values) (parts_of_file p i plans)) (back_of p i.numbers plans (front_of p i plans (data_at (counts_of i plans)))).firsts.offsets (map (λ c. texts.array_text c.values) (parts_of_file p i plans)) (map (array_text p i.numbers) plans)
     → Both (Stands file) (map (λ c. c.def.values) (parts_of_file p i plans)) (map (λ c. texts.array_text c.values) (parts_of_file p i plans))
 firsts_there file p i plans lies same =
     all_stand file 1 (stops_of p i plans).marks (map (λ c. c.def.values) (parts_of_file p i plans)) (map (λ c. texts.array_text c.values) (parts_of_file p i plans)) (stops_of p i plans).values
     (lie_same file 1 (stops_of p i plans).marks (map (λ c. c.def.values) (parts_of_file p i plans)) (back_of p i.numbers plans (front_of p i plans (data_at (counts_of i plans)))).firsts.offsets (map (λ c. texts.array_text c.values) (parts_of_file p i plans)) (map (array_text p i.numbers) plans) (stops_of p i plans).values same lies.values)
 
-left_of : (p : Program) (i : Interner) (places : List ℕ) (plans : List Plan) → IsInterned p i → ArePlans p i.numbers (flat_map (classes_at p) places) plans → is_well_formed p ≡ true → HasWidths p → HasWideValues p → Ascends list_below p.strings
+left_of : (p : Program) (i : Interner) (places : List ℕ) (plans : List Plan) → IsInterned p i → ArePlans p i.numbers (flat_map (classes_at p) places) plans → is_well_formed p ≡ true → HasWidths p → HasWideValues p → NamesRise p
     → LeftOfCode (file_for p i plans) p i plans (written_by i p) → Left (file_for p i plans) p i plans (written_by i p)
 left_of p i places plans interned are formed widths wide sorted left =
     let file : List ℕ = file_for p i plans in
@@ -69,7 +67,7 @@ left_of p i places plans interned are formed widths wide sorted left =
       marks = all_read p i few interned fits wide sorted tables.strings_ascend file plans planned;
     }
 
-pub whole : (p : Program) (bytes : List ℕ) (w : writer.IsWritten p bytes) → is_well_formed p ≡ true → ((class : ℕ) → IsTwice p class → ⊥) → ((class : ℕ) → IsAncestor p class class → ⊥) → HasWidths p → HasWideValues p → Ascends list_below p.strings → IsSealed p.version bytes → length bytes < 2 ^ 32
+pub whole : (p : Program) (bytes : List ℕ) (w : writer.IsWritten p bytes) → is_well_formed p ≡ true → ((class : ℕ) → IsTwice p class → ⊥) → ((class : ℕ) → IsAncestor p class class → ⊥) → HasWidths p → HasWideValues p → NamesRise p → IsSealed p.version bytes → length bytes < 2 ^ 32
     → LeftOfCode bytes p w.interner w.plans (written_by w.interner p) → IsValidFile p bytes (written_by w.interner p)
 whole p bytes w formed once acyclic widths wide sorted sealed few left =
     let left_file : LeftOfCode (file_for p w.interner w.plans) p w.interner w.plans (written_by w.interner p) = subst (λ b. LeftOfCode b p w.interner w.plans (written_by w.interner p)) w.file left in

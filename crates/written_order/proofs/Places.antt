@@ -1,8 +1,8 @@
 -- The classes above a class by the two ways in which they are found, and what it is to be among numbers.
-use Rattle.std.proofs.Common.{◌≡◌, ◌≤◌, ◌<◌, ◌+◌, ◌⊎◌, inl, inr, ⊎_elim, ℕ, zero, suc, Bool, true, false, not, cond, List, [], ◌∷◌, ◌++◌, length, map, refl, sym, ap, subst, ◌∙◌, append_assoc, append-nil, arith, Option, Some, None, le_of_suc-le-suc}
-use Rattle.std.specs.Prelude.{nat_eq, nat_lt, slice_get, slice_index_or, ◌&&◌, ◌||◌, if◌then◌else◌}
-use Rattle.std.specs.List.{flat_map, list_any, list_all, position, position_or_len}
-use Rattle.std.proofs.lemmas.Bool.{eqb-true, eqb-false, eq-eqb, lt-ltb, ltb-true, and_parts, or_cases, true≢false}
+use Rattle.std.proofs.Common.{◌≡◌, ◌≤◌, ◌<◌, ◌+◌, ◌⊎◌, inl, inr, ⊎_elim, ℕ, zero, suc, Bool, true, false, List, [], ◌∷◌, ◌++◌, length, map, refl, sym, ap, subst, ◌∙◌, arith, Option, Some, None, le_of_suc-le-suc}
+use Rattle.std.specs.Prelude.{nat_eq, nat_lt, slice_get, ◌||◌, if◌then◌else◌}
+use Rattle.std.specs.List.{flat_map, list_any, list_all, position_or_len}
+use Rattle.std.proofs.lemmas.Bool.{eqb-true, eq-eqb, lt-ltb, ltb-true, and_parts}
 use Rattle.std.proofs.lemmas.Bool.Decides.{leb_tells}
 use Rattle.lemmas.proofs.Lists.{got_short}
 use Rattle.lemmas.proofs.Options.{some_same, none_some}
@@ -12,7 +12,7 @@ use Rattle.program_model.specs.declared.program.Program.{Program}
 use Rattle.program_model.specs.Lookups.{class_place}
 use Rattle.program_model.specs.Texts.{has_type}
 use Rattle.class_defs.specs.ClassGraph.{IsTwice, IsAbove}
-use Rattle.dex_write.specs.Order.{first_from, place_in, place_of, above, kinds_above}
+use Rattle.dex_write.specs.Order.{first_from, place_of, above, kinds_above}
 use Rattle.dex_defs.specs.Written.{place_list, above_class}
 
 -- ---- numbers of a list

@@ -1,16 +1,16 @@
 -- The classes of the written program are those of the plans, and each stands behind those above it.
-use Rattle.std.proofs.Common.{◌≡◌, ◌≤◌, ◌<◌, ◌+◌, ◌⊎◌, inl, inr, ⊎_elim, ℕ, zero, suc, Bool, true, false, List, [], ◌∷◌, ◌++◌, length, map, refl, sym, ap, subst, ◌∙◌, arith, Option, Some, None, ltb-true}
-use Rattle.std.specs.Prelude.{nat_eq, nat_lt, slice_get, ◌||◌, ◌&&◌, option_to_list}
+use Rattle.std.proofs.Common.{◌≡◌, ◌≤◌, ◌<◌, ◌+◌, inl, inr, ℕ, zero, suc, Bool, true, false, List, [], ◌∷◌, ◌++◌, length, map, refl, sym, ap, subst, ◌∙◌, arith, Option, Some, None, ltb-true}
+use Rattle.std.specs.Prelude.{nat_eq, slice_get, ◌||◌}
 use Rattle.std.specs.List.{flat_map, list_any, list_all, AllByRecursion}
-use Rattle.std.proofs.lemmas.Bool.{eqb-true, eqb-false, eq-eqb, and_parts}
+use Rattle.std.proofs.lemmas.Bool.{eqb-true, eq-eqb, and_parts}
 use Rattle.lemmas.proofs.Options.{some_same}
-use Rattle.lemmas.proofs.Bools.{clash, or_left, or_right, neither_of, none_or}
+use Rattle.lemmas.proofs.Bools.{clash, or_left, or_right, neither_of}
 use Rattle.dex_pools.specs.declared.interner.Interner.{Interner}
 use Rattle.dex_pools.specs.declared.used.Named.{Named}
 use Rattle.dex_pools.specs.declared.used.Named.TheVariants as named
 use Rattle.dex_pools.specs.Interned.{IsInterned}
 use Rattle.dex_pools.specs.Written.{renumbered}
-use Rattle.dex_pools.specs.Used.{class_names, program_names, kind_names, source_names, marks_names, field_names, method_names}
+use Rattle.dex_pools.specs.Used.{class_names, program_names, kind_names}
 use Rattle.dex_pools.specs.Numbering.{used_in, type_key}
 use Rattle.program_model.specs.declared.pass.Renumber.{Renumber}
 use Rattle.program_model.specs.declared.program.Class.{Class}
@@ -21,14 +21,14 @@ use Rattle.dex_write.specs.Order.{classes_at}
 use Rattle.dex_write.specs.Plans.{Plan}
 use Rattle.dex_write.specs.Lists.{class_use}
 use Rattle.dex_write.specs.Written.{ArePlans}
-use Rattle.dex_defs.specs.Written.{one_entry, entries, new_type, written_class, class_order, written_by}
-use Rattle.names_law.specs.Used.{IsSet, IsUsed, IsShort}
+use Rattle.dex_defs.specs.Written.{entries, new_type, written_class, class_order, written_by}
+use Rattle.names_law.specs.Used.{IsUsed, IsShort}
 use Rattle.names_law.proofs.Ordering.{AsMany, used_marked}
 use Rattle.names_law.proofs.Closed.{names_used}
 use Rattle.names_law.proofs.Ascending.{one_number}
 use Rattle.written_tables.proofs.Fit.{FitsClass}
-use Rattle.written_tables.proofs.In.{In, in_right, in_flat, in_got, all_in, all_of}
-use Rattle.written_order.specs.Behind.{Behind, AllBehind}
+use Rattle.written_tables.proofs.In.{In, in_flat, in_got, all_in}
+use Rattle.written_order.specs.Behind.{AllBehind}
 use Rattle.written_order.proofs.Places.{has}
 use Rattle.written_order.proofs.Order.{has_append}
 

@@ -1,13 +1,12 @@
--- In a program whose strings ascend, new numbers of strings rise with the old ones.
-use Rattle.std.proofs.Common.{◌≡◌, ◌<◌, ◌≤◌, ◌⊎◌, inl, inr, ℕ, zero, suc, Bool, true, false, List, [], ◌∷◌, length, refl, sym, ap, subst, ◌∙◌, arith, Some, ltb-true}
-use Rattle.std.specs.Prelude.{nat_lt, slice_get}
+-- New numbers of strings that annotations name rise with the old ones.
+use Rattle.std.proofs.Common.{◌≡◌, ◌<◌, ◌≤◌, ◌⊎◌, inl, inr, ℕ, zero, suc, true, false, List, [], ◌∷◌, length, refl, sym, ap, subst, ◌∙◌, arith, Some, ltb-true}
+use Rattle.std.specs.Prelude.{nat_lt, slice_get, take}
 use Rattle.std.specs.Option.{option_map}
 use Rattle.std.specs.Ordering.{nat_cmp, ordering_reverse}
 use Rattle.std.specs.Cmp.Lexicographic.{slice_cmp}
 use Rattle.std.specs.declared.cmp.Ordering.{Ordering}
 use Rattle.std.specs.declared.cmp.Ordering.TheVariants.{Less, Equal, Greater}
 use Rattle.std.proofs.lemmas.Cmp.{nat_list_cmp_total}
-use Rattle.std.proofs.lemmas.Bool.{lt-ltb}
 use Rattle.lemmas.proofs.Lists.{get_there}
 use Rattle.lemmas.proofs.Options.{some_same}
 use Rattle.dex_pools.specs.declared.interner.Interner.{Interner}
@@ -24,6 +23,7 @@ use Rattle.names_law.specs.Orders.{OrdersIn}
 use Rattle.names_law.proofs.Ordering.{AsMany, used_marked, orders_in}
 use Rattle.names_law.proofs.Ascending.{one_number}
 use Rattle.names_law.proofs.Carried.{carried}
+use Rattle.written_order.specs.Rises.{NamesRise}
 use Rattle.written_order.proofs.Places.{below_tells}
 
 abbrev cmp : List ℕ → List ℕ → Ordering
@@ -53,8 +53,19 @@ pair_lower (z ∷ zs) (suc j) (suc k) x y h e f lt = pair_lower zs j k x y (tail
 both_ways : (x y : List ℕ) → cmp x y ≡ Less → cmp y x ≡ Less → ⊥
 both_ways x y a b = let s : Less ≡ Greater = sym a ∙ (nat_list_cmp_total.antisymm x y ∙ ap ordering_reverse b) in absurd cc
 
-module _ (p : Program) (i : Interner) (few : IsShort p) (h : IsInterned p i) (old : Ascends list_below p.strings) (new : Ascends list_below (written_by i p).strings) where
-  pub strings_rise : (a b : ℕ) → IsUsed (used_in p) (named.Text a) → IsUsed (used_in p) (named.Text b) → has_string p a ≡ true → has_string p b ≡ true → nat_lt a b ≡ true → nat_lt (new_string i.numbers a) (new_string i.numbers b) ≡ true
+-- what stands early in a list stands in its front
+taken : (k : ℕ) (xs : List (List ℕ)) (n : ℕ) (t : List ℕ) → n < k → slice_get xs n ≡ Some t → slice_get (take k xs) n ≡ Some t
+taken zero xs n t lt e = absurd (omega (arith, lt))
+taken (suc k) [] n t lt e = e
+taken (suc k) (x ∷ xs) zero t lt e = e
+taken (suc k) (x ∷ xs) (suc n) t lt e = taken k xs n t (omega (arith, lt)) e
+
+-- a used string of those that ascend
+abbrev pub UsedLow : (p : Program) → NamesRise p → ℕ → Type 0
+UsedLow p old n = IsUsed (used_in p) (named.Text n) × (n < old.strings)
+
+module _ (p : Program) (i : Interner) (few : IsShort p) (h : IsInterned p i) (old : NamesRise p) (new : Ascends list_below (written_by i p).strings) where
+  pub strings_rise : (a b : ℕ) → UsedLow p old a → UsedLow p old b → has_string p a ≡ true → has_string p b ≡ true → nat_lt a b ≡ true → nat_lt (new_string i.numbers a) (new_string i.numbers b) ≡ true
   strings_rise a b ua ub ha hb lt = by_order (below_tells (new_string i.numbers a) (new_string i.numbers b))
     where
       many : AsMany p (used_in p)
@@ -86,7 +97,7 @@ module _ (p : Program) (i : Interner) (few : IsShort p) (h : IsInterned p i) (ol
           tb = get_there p.strings b below_b
 
           by_more : ((nat_lt (new_string i.numbers b) (new_string i.numbers a) ≡ true) × (new_string i.numbers b < new_string i.numbers a)) ⊎ ((nat_lt (new_string i.numbers b) (new_string i.numbers a) ≡ false) × (new_string i.numbers a ≤ new_string i.numbers b)) → nat_lt (new_string i.numbers a) (new_string i.numbers b) ≡ true
-          by_more (inl y) = absurd (both_ways ta.0 tb.0 (pair_lower p.strings a b ta.0 tb.0 old ta.1 tb.1 low) (pair_lower (written_by i p).strings (new_string i.numbers b) (new_string i.numbers a) tb.0 ta.0 new (kept b tb.0 ub tb.1) (kept a ta.0 ua ta.1) y.1))
+          by_more (inl y) = absurd (both_ways ta.0 tb.0 (pair_lower (take old.strings p.strings) a b ta.0 tb.0 old.ascend (taken old.strings p.strings a ta.0 ua.1 ta.1) (taken old.strings p.strings b tb.0 ub.1 tb.1) low) (pair_lower (written_by i p).strings (new_string i.numbers b) (new_string i.numbers a) tb.0 ta.0 new (kept b tb.0 ub.0 tb.1) (kept a ta.0 ua.0 ta.1) y.1))
           by_more (inr w) =
-              let same : a ≡ b = one_number (used_in p).strings (string_key p.strings) (length p.strings) i.order.strings.items i.numbers.strings.items h.strings many.strings few.strings a b (below_a, ua) (below_b, ub) (omega (arith, z.1, w.1)) in
+              let same : a ≡ b = one_number (used_in p).strings (string_key p.strings) (length p.strings) i.order.strings.items i.numbers.strings.items h.strings many.strings few.strings a b (below_a, ua.0) (below_b, ub.0) (omega (arith, z.1, w.1)) in
               absurd (omega (arith, same, low))

@@ -1,11 +1,10 @@
 -- Numbered things in order: which there are, that their numbers rise, and that it is the order of the written program.
-use Rattle.std.proofs.Common.{◌≡◌, ◌≢◌, ◌≤◌, ◌<◌, ◌+◌, ◌⊎◌, inl, inr, ⊎_elim, ℕ, zero, suc, Bool, true, false, List, [], ◌∷◌, ◌++◌, length, map, refl, sym, ap, subst, ◌∙◌, arith, Option, Some, None}
+use Rattle.std.proofs.Common.{◌≡◌, ◌≤◌, ◌+◌, inl, inr, ℕ, suc, Bool, true, false, List, [], ◌∷◌, ◌++◌, length, map, refl, sym, ap, subst, ◌∙◌, arith}
 use Rattle.std.specs.Prelude.{nat_eq, nat_lt, nat_le, ◌&&◌, ◌||◌, slice_get, sum_by, if◌then◌else◌}
-use Rattle.std.specs.Option.{option_map}
 use Rattle.std.specs.List.{list_any, AllByRecursion}
-use Rattle.std.proofs.lemmas.Bool.{eqb-true, eqb-false, eq-eqb, ne_eqb, ltb-true, or_cases, and_parts}
+use Rattle.std.proofs.lemmas.Bool.{eqb-true, eq-eqb, ltb-true, or_cases, and_parts}
 use Rattle.std.proofs.lemmas.List.Sums.{sum_by-cons}
-use Rattle.lemmas.proofs.Bools.{clash, or_left, or_right, none_or, neither_of, or_none}
+use Rattle.lemmas.proofs.Bools.{clash, neither_of, or_none}
 use Rattle.lemmas.proofs.Lists.{get_map}
 use Rattle.lemmas.proofs.Options.{before_map}
 use Rattle.program_model.specs.Distinct.{same_entry, differ_from}

@@ -3,3 +3,4 @@ pub mod News
 pub mod Standing
 pub mod FineSets
 pub mod Reading
+pub mod Low

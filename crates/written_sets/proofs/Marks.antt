@@ -1,15 +1,15 @@
 -- The annotations that are written are those of the written program, in its order.
-use Rattle.std.proofs.Common.{◌≡◌, ◌<◌, ◌≤◌, ◌+◌, inl, inr, ℕ, zero, suc, Bool, true, false, List, [], ◌∷◌, ◌++◌, length, map, refl, sym, ap, subst, ◌∙◌, arith, append-nil, Option, Some, None, ltb-true}
-use Rattle.std.specs.Prelude.{nat_eq, nat_lt, slice_get, ◌&&◌}
+use Rattle.std.proofs.Common.{◌≡◌, ◌<◌, ◌≤◌, ◌+◌, inl, inr, ℕ, suc, Bool, true, false, List, [], ◌∷◌, ◌++◌, map, refl, sym, ap, subst, ◌∙◌, arith, append-nil, Option, Some, None, ltb-true}
+use Rattle.std.specs.Prelude.{nat_eq, nat_lt, slice_get}
 use Rattle.std.specs.List.{flat_map, list_all, AllByRecursion}
 use Rattle.std.proofs.lemmas.Bool.{and_parts, eqb-false, ltb-false, lt-ltb}
 use Rattle.lemmas.proofs.Lists.{get_map}
 use Rattle.lemmas.proofs.Options.{before_map}
-use Rattle.lemmas.proofs.Bools.{clash, neither_of}
+use Rattle.lemmas.proofs.Bools.{neither_of}
 use Rattle.code_write.specs.Pairs.{Numbered, in_order}
 use Rattle.dex_pools.specs.declared.used.Named.{Named}
 use Rattle.dex_pools.specs.declared.used.Named.TheVariants as named
-use Rattle.dex_pools.specs.Used.{joined, names_of_value, names_of_element, names_of_note, element_names, note_names, mark_names, marks_names}
+use Rattle.dex_pools.specs.Used.{names_of_value, names_of_element, names_of_note, element_names, note_names, mark_names}
 use Rattle.dex_pools.specs.Finds.{Ascends}
 use Rattle.dex_pools.specs.Marks.{mark_below}
 use Rattle.dex_pools.specs.Value.{element_below}
@@ -18,23 +18,22 @@ use Rattle.program_model.specs.declared.pass.Renumber.{Renumber}
 use Rattle.program_model.specs.declared.program.Program.{Program}
 use Rattle.program_model.specs.declared.value.EncValue.{EncValue}
 use Rattle.program_model.specs.declared.value.Element.{Element}
-use Rattle.program_model.specs.declared.value.Note.{Note, Note-F, out-Note, roll-Note, out-roll-Note, fold-Note, fold_out-Note}
+use Rattle.program_model.specs.declared.value.Note.{Note, Note-F, out-Note, roll-Note, out-roll-Note, fold_out-Note}
 use Rattle.program_model.specs.declared.value.Mark.{Mark}
 use Rattle.program_model.specs.Neighbours.{neighbours}
-use Rattle.program_model.specs.Texts.{has_string, has_type}
-use Rattle.program_model.specs.ValueRules.{element_fits, named_in_order, note_fits, value_fits, mark_fits, typed_in_order, marks_fit}
-use Rattle.program_model.specs.MemberRules.{in_groups}
-use Rattle.dex_write.specs.Plans.{spot, spot_where, is_same}
+use Rattle.program_model.specs.Texts.{has_string}
+use Rattle.program_model.specs.ValueRules.{mark_fits, typed_in_order, marks_fit}
+use Rattle.dex_write.specs.Plans.{spot}
 use Rattle.dex_write.specs.Sets.{marks_from, mark_list, ordered_marks}
 use Rattle.dex_defs.specs.Written.{new_string, new_type, new_layer, new_element, new_note, new_mark, new_marks}
 use Rattle.dex_defs.specs.Written as written
 use Rattle.dex_defs.specs.ValueTexts as texts
-use Rattle.written_tables.proofs.In.{In, in_left, in_right, in_flat, in_got, Place, place_in, has_in, all_of}
+use Rattle.written_tables.proofs.In.{In, in_got, Place, place_in, has_in, all_of}
 use Rattle.written_tables.proofs.Naming.{element_of, note_of}
 use Rattle.written_order.proofs.Places.{has}
 use Rattle.written_order.proofs.Sorting.{Differ}
-use Rattle.written_order.proofs.Grouped.{group_from, Spot, in_plan, plan_ordered, group_spots}
-use Rattle.written_parts.proofs.ValueTexts.{AllText, note_same}
+use Rattle.written_order.proofs.Grouped.{group_from, Spot, plan_ordered, group_spots}
+use Rattle.written_parts.proofs.ValueTexts.{note_same}
 
 abbrev pub class_of : Mark → ℕ
 class_of m = (out-Note m.note).class

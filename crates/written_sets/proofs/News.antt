@@ -1,5 +1,5 @@
 -- The values of a used annotation of a well-formed program fit in the written program.
-use Rattle.std.proofs.Common.{◌≡◌, ◌<◌, ◌^◌, inl, inr, ℕ, zero, suc, Bool, true, false, List, [], ◌∷◌, ◌++◌, length, map, refl, sym, ap, subst, ◌∙◌, arith}
+use Rattle.std.proofs.Common.{◌≡◌, ◌<◌, ◌^◌, inl, inr, ℕ, zero, suc, Bool, true, List, [], ◌∷◌, length, map, refl, sym, ap, subst, ◌∙◌, arith}
 use Rattle.std.specs.Prelude.{◌&&◌, nat_lt}
 use Rattle.std.specs.List.{list_all, AllByRecursion}
 use Rattle.std.proofs.lemmas.Bool.{and_parts}
@@ -23,7 +23,7 @@ use Rattle.program_model.specs.declared.value.Mark.{Mark}
 use Rattle.program_model.specs.Neighbours.{neighbours}
 use Rattle.program_model.specs.Texts.{has_string, has_type, has_field, has_method}
 use Rattle.program_model.specs.ValueRules.{element_fits, named_in_order, note_fits, names_fit, value_fits, mark_fits}
-use Rattle.dex_defs.specs.Written.{in_order, new_string, new_type, new_field, new_method, new_element, new_value, new_mark}
+use Rattle.dex_defs.specs.Written.{new_string, new_type, new_field, new_method, new_value, new_mark}
 use Rattle.written_values.specs.Fitting.{NoteFits, LayerFits, ValueFits, MarkFits}
 use Rattle.written_values.specs.Wide.{IsWideNote, IsWideLayer, IsWide, IsWideMark}
 use Rattle.written_tables.proofs.In.{In, in_left, in_right}

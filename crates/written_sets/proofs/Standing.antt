@@ -1,5 +1,5 @@
 -- Items that lie where they are named stand there, one by one.
-use Rattle.std.proofs.Common.{◌≡◌, ◌≤◌, ◌<◌, ◌+◌, ◌*◌, ◌^◌, inl, inr, ℕ, zero, suc, Bool, true, false, List, [], ◌∷◌, ◌++◌, length, map, refl, sym, ap, subst, ◌∙◌, arith, length-append}
+use Rattle.std.proofs.Common.{◌≡◌, ◌<◌, ◌+◌, ◌*◌, ◌^◌, ℕ, zero, suc, List, [], ◌∷◌, ◌++◌, length, map, refl, sym, ap, subst, ◌∙◌, arith}
 use Rattle.std.specs.List.{flat_map, AllByRecursion}
 use Rattle.dex_base.specs.Word.{Is32}
 use Rattle.dex_base.specs.Decides.{Each}
@@ -10,14 +10,13 @@ use Rattle.program_model.specs.declared.value.Mark.{Mark}
 use Rattle.dex_write.specs.Numbers.{words}
 use Rattle.dex_defs.specs.Here.{Here}
 use Rattle.dex_defs.specs.Arranged.{IsAt, Nothing, Something, Lie, Both}
-use Rattle.dex_defs.specs.Annotations.{IsOffset, IsMark, IsMarkOf, AreMarks, AreMarksOf}
+use Rattle.dex_defs.specs.Annotations.{IsMarkOf, AreMarksOf}
 use Rattle.dex_defs.specs.Texts.{offsets_text}
-use Rattle.dex_defs.specs.Texts as kept
 use Rattle.dex_defs.specs.ValueTexts as texts
 use Rattle.dex_defs.specs.Valid.{SetPart}
 use Rattle.written_sets.specs.Reads.{Reads}
-use Rattle.write_laws.proofs.Here.{here_is, here_same}
-use Rattle.write_laws.proofs.Numbers.{Few, same_words, words_length, here_words, first_word, other_words}
+use Rattle.write_laws.proofs.Here.{here_same}
+use Rattle.write_laws.proofs.Numbers.{Few, same_words, words_length, here_words}
 
 -- nothing stands, and the offset is 0, or the text stands there
 pub data Stands (bytes : List ℕ) (offset : ℕ) (text : List ℕ) : Type 0 where

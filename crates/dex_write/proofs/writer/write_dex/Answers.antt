@@ -4,4 +4,4 @@ use Rattle.dex_write.proofs.Files.{ok_is_written}
 use Rattle.dex_write.proofs.writer.write_dex.Goals as goal
 
 pub returns-clause-is : goal.returns-clause-is
-returns-clause-is c = ok_is_written c.args.program.now c.in_ok-interner.interner c.in_ok-places.places.items (map plan_in c.in_ok-order.order.items) c.file_for.result c.in_ok-interner.ensures c.in_ok-places.ensures.is (rw (c.numbers.ensures, c.deref.ensures.value) at c.in_ok-order.ensures.are) (rw c.as_slice.ensures.value at c.file_for.ensures.is)
+returns-clause-is c = ok_is_written c.args.program.now c.in_ok-interner.interner c.in_ok-places.places.items (map plan_in c.in_ok-order.order.items) c.file_for.result c.in_ok-interner.ensures c.in_ok-places.ensures.is (rw (c.numbers.ensures, c.deref.ensures.value) at c.in_ok-order.ensures.are) (rw c.as_slice.ensures.value at c.file_for.ensures.is) c.file_for.ensures.sealed c.file_for.ensures.few c.read_numbers.ensures

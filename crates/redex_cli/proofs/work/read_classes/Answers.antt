@@ -5,7 +5,7 @@ use Rattle.redex_cli.proofs.work.read_classes.Goals as goal
 
 pub returns-in-Ok-verify_all-clause-accepted : goal.returns-in-Ok-verify_all-clause-accepted
 returns-in-Ok-verify_all-clause-accepted c =
-    accepted c.in-Ok.program c.in-Ok-build.hierarchy c.in-Ok.ensures.formed c.in-Ok-build.ensures.resolved c.in-Ok-build.ensures.acyclic c.in-Ok-build.ensures.unsplit
+    accepted c.in-Ok.program c.in-Ok-build.hierarchy c.in-Ok.ensures.read c.in-Ok.ensures.formed c.in-Ok-build.ensures.resolved c.in-Ok-build.ensures.acyclic c.in-Ok-build.ensures.unsplit
     c.in-Ok-verify_all.ensures.typed
 
 pub returns-in-Err-verify_all-clause-file : goal.returns-in-Err-verify_all-clause-file

@@ -1,0 +1,9 @@
+mod Fills
+mod GlobLemmas
+mod Grows
+mod Javas
+mod Lives
+mod MatchingLemmas
+mod Rounds
+mod Tables
+mod Takes

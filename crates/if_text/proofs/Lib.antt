@@ -1,0 +1,6 @@
+pub mod Counts
+mod Halts
+mod Items
+mod Kept
+mod Loops
+mod Texts

@@ -1,0 +1,4 @@
+pub mod Ordered
+pub mod Falling
+pub mod Named
+pub mod Written

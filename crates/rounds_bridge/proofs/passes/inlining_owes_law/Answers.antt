@@ -1,8 +1,0 @@
-use Rattle.rounds_bridge.proofs.Inlining.{inlining_owes, inlining_stays}
-use Rattle.rounds_bridge.proofs.passes.inlining_owes_law.Goals as goal
-
-pub returns-clause-owes : goal.returns-clause-owes
-returns-clause-owes c = inlining_owes
-
-pub returns-clause-stays : goal.returns-clause-stays
-returns-clause-stays c = inlining_stays

@@ -1,9 +1,0 @@
-use Rattle.rounds_bridge.proofs.Repeated.{all_rounds_owe}
-use Rattle.rounds_bridge.proofs.Staying.{rounds_stay}
-use Rattle.rounds_bridge.proofs.rounds.rounds_law.Goals as goal
-
-pub returns-clause-owes : goal.returns-clause-owes
-returns-clause-owes c = all_rounds_owe
-
-pub returns-clause-stays : goal.returns-clause-stays
-returns-clause-stays c = rounds_stay

@@ -1,0 +1,14 @@
+pub mod Bodies
+pub mod Calls
+pub mod Fields
+pub mod Forms
+pub mod Frames
+pub mod Handlers
+pub mod Least
+pub mod Signed
+pub mod Sorted
+pub mod Spelling
+pub mod Standing
+pub mod Sweeping
+pub mod Tables
+pub mod Units

@@ -1,0 +1,156 @@
+-- A written program answers look-ups as the program does, and so it shows the same.
+use Rattle.std.proofs.Common.{◌≡◌, ◌<◌, ℕ, Bool, true, false, List, [], length, map, Option, Some, None, refl, sym, ap, ◌∙◌, subst, arith}
+use Rattle.std.specs.Prelude.{nat_eq, slice_get, find}
+use Rattle.std.specs.List.{list_any, AllByRecursion}
+use Rattle.std.proofs.lemmas.Option.{slice_get_within}
+use Rattle.lemmas.proofs.Lists.{map_long}
+use Rattle.lemmas.proofs.Options.{some_same}
+use Rattle.class_defs.specs.ClassGraph.{IsAncestor, IsTwice}
+use Rattle.dalvik_defs.specs.Names.{Text, text_eq}
+use Rattle.dalvik_defs.specs.Naming.{type_at, named_class, named}
+use Rattle.dalvik_defs.specs.Outer.{Outer}
+use Rattle.dalvik_defs.specs.Step.{shows}
+use Rattle.dalvik_defs.specs.Under.{class_named}
+use Rattle.dalvik_defs.specs.declared.program.NamedClass.{NamedClass}
+use Rattle.dalvik_defs.specs.declared.script.Move.{Move}
+use Rattle.dalvik_defs.specs.declared.tables.Floats.{Floats}
+use Rattle.dalvik_defs.specs.declared.tables.Framework.{Framework}
+use Rattle.dalvik_defs.proofs.Calm.{text_sound}
+use Rattle.dex_defs.specs.Written.{written_class, class_order, entries, written_by}
+use Rattle.dex_pools.specs.Interned.{IsInterned}
+use Rattle.dex_pools.specs.declared.interner.Interner.{Interner}
+use Rattle.dex_write.specs.Order.{IsOrder}
+use Rattle.program_model.specs.ProgramRules.{is_well_formed}
+use Rattle.program_model.specs.declared.program.Class.{Class}
+use Rattle.program_model.specs.declared.program.Program.{Program}
+use Rattle.names_law.specs.Used.{IsShort}
+use Rattle.names_law.specs.Members.{KeepsClass}
+use Rattle.names_law.proofs.Carried.{entries_long}
+use Rattle.names_law.proofs.Keeping.{classes_kept}
+use Rattle.write_laws.proofs.Tabled.{short_of, is_short}
+use Rattle.removal_law.specs.Reach.{TellsApart}
+use Rattle.removal_law.proofs.Lists.{clash}
+use Rattle.removal_law.proofs.Walks.{text_same}
+use Rattle.removal_bridge.proofs.Formed.{apart_program}
+use Rattle.change_bridge.specs.Unique.{IsUnique}
+use Rattle.change_bridge.proofs.Unique.{unique_named}
+use Rattle.written_tables.proofs.In.{In, in_map, Place, place_in, all_in}
+use Rattle.written_tables.proofs.Fit.{Parts, parts_of, FitsClass, class_at_fits}
+use Rattle.written_order.specs.Behind.{AllBehind}
+use Rattle.written_order.proofs.Order.{order_is, order_behind, order_every}
+use Rattle.written_order.proofs.Plans.{behind_inside}
+use Rattle.written_shown.proofs.Alike.{AlikeClass, AlikeOption, LooksAlike}
+use Rattle.written_shown.proofs.Looks.{alike_shows}
+use Rattle.written_shown.proofs.Twins.{Image, image, in_entries, entries_in, finds, is_there, any_there, some_there, order_long}
+use Rattle.written_shown.proofs.Classes.{class_found, class_alike}
+
+module _ (p : Program) (i : Interner) (order : List ℕ) (formed : is_well_formed p ≡ true) (once : (class : ℕ) → IsTwice p class → ⊥) (grounded : (class : ℕ) → IsAncestor p class class → ⊥) (h : IsInterned p i) (ordered : IsOrder p order) where
+  abbrev q : Program
+  q = written_by i p
+
+  abbrev parts : Parts p
+  parts = parts_of p formed
+
+  abbrev fits : (k : ℕ) (c : Class) → slice_get p.classes k ≡ Some c → FitsClass p c
+  fits k c e = class_at_fits p k c parts e
+
+  unique : IsUnique (named p)
+  unique = unique_named p formed once
+
+  few : IsShort p
+  few = is_short p (short_of p parts.short)
+
+  same_order : class_order p ≡ order
+  same_order = order_is p (λ k c e. (fits k c e).above) once grounded order ordered
+
+  behind : AllBehind p [] order
+  behind = order_behind p (λ k c e. (fits k c e).above) once grounded order ordered
+
+  every : (k : ℕ) → k < length p.classes → list_any (nat_eq k) order ≡ true
+  every k lt = order_every p (λ k c e. (fits k c e).above) once grounded order ordered k lt
+
+  -- each class, and what is written of it
+  alike : (c : Class) → In c p.classes → AlikeClass (named_class p c) (named_class q (written_class i.numbers p c))
+  alike c j =
+      let at : Place c p.classes = place_in c p.classes j in
+      class_alike p formed unique (apart_program p formed) i at.at c at.is (fits at.at c at.is) (all_in (KeepsClass p i q) c p.classes (classes_kept p i few h) j)
+
+  found : (c : Class) → In c p.classes → class_named (named p) (type_at p c.name) ≡ Some (named_class p c)
+  found c j = let at : Place c p.classes = place_in c p.classes j in class_found p unique at.at c at.is
+
+  written : (c : Class) → In c p.classes → In (named_class q (written_class i.numbers p c)) (named q).classes
+  written c j =
+      let at : Place c p.classes = place_in c p.classes j in
+      in_map (named_class q) (written_class i.numbers p c) q.classes
+      (entries_in (written_class i.numbers p) p.classes (class_order p) at.at c at.is (subst (λ l. list_any (nat_eq at.at) l ≡ true) (sym same_order) (every at.at (slice_get_within p.classes at.at c at.is))))
+
+  -- where a class that is written comes from
+  pub record Comes (d : NamedClass) : Type 0 where
+    pub class : Class
+    pub is_in : In class p.classes
+    pub is : named_class q (written_class i.numbers p class) ≡ d
+
+  comes : (d : NamedClass) → In d (named q).classes → Comes d
+  comes d j =
+      let u : Image (named_class q) q.classes d = image (named_class q) d q.classes j in
+      let v : Image (written_class i.numbers p) p.classes u.x = in_entries (written_class i.numbers p) p.classes (class_order p) u.x u.is_in in
+      record { class = v.x; is_in = v.is_in; is = ap (named_class q) v.is ∙ u.is }
+
+  class_looks : (t : Text) → AlikeOption (class_named (named p) t) (class_named (named q) t)
+  class_looks t = by (class_named (named p) t) (class_named (named q) t) refl refl
+    where
+      from_q : (d : NamedClass) → class_named (named q) t ≡ Some d → (c : NamedClass) × ((class_named (named p) t ≡ Some c) × AlikeClass c d)
+      from_q d e =
+          let y = is_there (λ d. text_eq d.name t) (named q).classes d e in
+          let z : Comes d = comes d y.is_in in
+          let a : AlikeClass (named_class p z.class) (named_class q (written_class i.numbers p z.class)) = alike z.class z.is_in in
+          let name : type_at p z.class.name ≡ t = sym a.name ∙ ap (λ x. x.name) z.is ∙ text_sound d.name t y.passes in
+          (named_class p z.class, (ap (class_named (named p)) (sym name) ∙ found z.class z.is_in, subst (AlikeClass (named_class p z.class)) z.is a))
+
+      by : (o r : Option NamedClass) → class_named (named p) t ≡ o → class_named (named q) t ≡ r → AlikeOption o r
+      by None None e d = tt
+      by (Some c) (Some x) e d = let y = from_q x d in subst (λ z. AlikeClass z x) (some_same y.0 c (sym y.1.0 ∙ e)) y.1.1
+      by None (Some x) e d = let y = from_q x d in none (sym e ∙ y.1.0)
+        where
+          none : {c : NamedClass} → None ≡ Some c → ⊥
+          none s = absurd cc
+      by (Some c) None e d =
+          let y = is_there (λ d. text_eq d.name t) (named p).classes c e in
+          let u : Image (named_class p) p.classes c = image (named_class p) c p.classes y.is_in in
+          let a : AlikeClass (named_class p u.x) (named_class q (written_class i.numbers p u.x)) = alike u.x u.is_in in
+          let name : text_eq (named_class q (written_class i.numbers p u.x)).name t ≡ true = ap (λ x. text_eq x t) (a.name ∙ ap (λ x. x.name) u.is) ∙ y.passes in
+          finds (λ d. text_eq d.name t) (named_class q (written_class i.numbers p u.x)) (named q).classes (written u.x u.is_in) name d
+
+  abbrev says : (Text → List Text → Bool) → NamedClass → Bool
+  says test c = test c.name c.interfaces
+
+  lists_look : (test : Text → List Text → Bool) → list_any (λ c. test c.name c.interfaces) (named q).classes ≡ list_any (λ c. test c.name c.interfaces) (named p).classes
+  lists_look test = by (list_any (says test) (named q).classes) (list_any (says test) (named p).classes) refl refl
+    where
+      same : (c : Class) → In c p.classes → says test (named_class q (written_class i.numbers p c)) ≡ says test (named_class p c)
+      same c j = let a = alike c j in ap (λ t. test t (named_class q (written_class i.numbers p c)).interfaces) a.name ∙ ap (test (type_at p c.name)) a.interfaces
+
+      by : (o r : Bool) → list_any (says test) (named q).classes ≡ o → list_any (says test) (named p).classes ≡ r → o ≡ r
+      by true true d e = refl
+      by false false d e = refl
+      by true false d e =
+          let y = some_there (says test) (named q).classes d in
+          let z : Comes y.0 = comes y.0 y.1.is_in in
+          clash (list_any (says test) (named p).classes) (any_there (says test) (named_class p z.class) (named p).classes (in_map (named_class p) z.class p.classes z.is_in) (sym (same z.class z.is_in) ∙ ap (says test) z.is ∙ y.1.passes)) e
+      by false true d e =
+          let y = some_there (says test) (named p).classes e in
+          let u : Image (named_class p) p.classes y.0 = image (named_class p) y.0 p.classes y.1.is_in in
+          clash (list_any (says test) (named q).classes) (any_there (says test) (named_class q (written_class i.numbers p u.x)) (named q).classes (written u.x u.is_in) (same u.x u.is_in ∙ ap (says test) u.is ∙ y.1.passes)) d
+
+  looks : LooksAlike (named p) (named q)
+  looks = record {
+    version = refl;
+    count = map_long (named_class q) q.classes ∙ ap (λ l. length (entries (written_class i.numbers p) p.classes l)) same_order
+        ∙ entries_long (written_class i.numbers p) p.classes order (behind_inside p [] order behind) ∙ order_long p order behind every ∙ sym (map_long (named_class p) p.classes);
+    class = class_looks;
+    lists = lists_look;
+  }
+
+pub written_shows : (p : Program) (i : Interner) (order : List ℕ) → is_well_formed p ≡ true → ((class : ℕ) → IsTwice p class → ⊥) → ((class : ℕ) → IsAncestor p class class → ⊥) → IsInterned p i → IsOrder p order
+    → (o : Outer) (f : Framework) (a : Floats) (script : List Move) (n : ℕ) → shows (named (written_by i p)) o f a script n ≡ shows (named p) o f a script n
+written_shows p i order formed once grounded h ordered o f a script n = alike_shows (named p) (named (written_by i p)) (looks p i order formed once grounded h ordered) o f a script n

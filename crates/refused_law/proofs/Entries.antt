@@ -1,8 +1,7 @@
 -- A fault of class data that is answered stands there.
-use Rattle.std.proofs.Common.{◌≡◌, ◌≤◌, ◌<◌, inl, inr, ℕ, zero, suc, ◌+◌, Bool, true, false, ltb, eqb, List, [], ◌∷◌, ◌++◌, length, min, Result, Ok, refl, sym, ap, subst, ◌∙◌, arith, true≢false}
+use Rattle.std.proofs.Common.{◌≡◌, ◌≤◌, ◌<◌, ℕ, zero, suc, ◌+◌, false, ltb, eqb, List, [], ◌∷◌, ◌++◌, length, min, Result, Ok, refl, sym, ap, subst, ◌∙◌, arith, true≢false}
 use Rattle.std.specs.Prelude.{slice_index}
-use Rattle.std.proofs.Math.Nat.{min-eq_left, min_comm}
-use Rattle.std.proofs.lemmas.Bool.{ltb-true, ltb-false, eq-eqb}
+use Rattle.std.proofs.lemmas.Bool.{ltb-false, eq-eqb}
 use Rattle.lemmas.proofs.Bools.{neither_of}
 use Rattle.dex_base.specs.declared.fault.BaseFault.{BaseFault}
 use Rattle.dex_base.specs.declared.fault.BaseFault.TheVariants as base
@@ -27,8 +26,8 @@ use Rattle.dex_read.specs.Word.{number_at}
 use Rattle.dex_read.specs.Faults.{of_base}
 use Rattle.file_laws.proofs.ClassData.{IsStep, founds_step}
 use Rattle.file_laws.proofs.Words.{finds_number}
-use Rattle.refused_law.specs.Just.{IsJust, IsJustMember}
-use Rattle.refused_law.proofs.Failing.{Fails, sound, unless, fails_next, fails_lifted, fails_more, fails_by}
+use Rattle.refused_law.specs.Just.{IsJust}
+use Rattle.refused_law.proofs.Failing.{Fails, sound, unless, fails_next, fails_lifted, fails_by}
 
 -- ---- entries one behind another
 
@@ -117,37 +116,29 @@ module _ (bytes : List ℕ) (class data_at which count mid : ℕ) (l : AtList by
     stands : EntryStands bytes data_at which place s.1 s.0
     stands = stands_at place front s less good
 
-    fails_leb : (at : ℕ) → IsPlaced bytes (Number at) → Fails (IsJustMember bytes) (number_at bytes at)
-    fails_leb at placed = fails_more (λ e h. inl h) (fails_dex_number bytes at placed)
-
-    by_width : (header size step stop : ℕ) → IsTableOf which header → HasSize bytes header size → IsUlebAt bytes s.0 (step, stop) → size ≤ s.1 + step → (b : Bool) → ltb (s.1 + step) 4294967295 ≡ b
-        → IsJustMember bytes (dex.Pool (pool.Index s.0 (min (s.1 + step) 4294967295) size))
-    by_width header size step stop of_table is_size is_step high true e = let small = ltb-true (s.1 + step) 4294967295 e in
-        subst (λ (k : ℕ). IsJustMember bytes (dex.Pool (pool.Index s.0 k size))) (sym (min-eq_left (omega (arith, small))))
-        (inl (BadMember (faults.NoMember class data_at which place s.1 s.0 step stop header size l.def l.has l.leads stands is_step of_table is_size high refl)))
-    by_width header size step stop of_table is_size is_step high false e =
-        inr (s.0, size, ap (λ (k : ℕ). dex.Pool (pool.Index s.0 k size)) (min_comm (s.1 + step) 4294967295 ∙ min-eq_left (ltb-false (s.1 + step) 4294967295 e)))
+    fails_leb : (at : ℕ) → IsPlaced bytes (Number at) → Fails (IsJust bytes) (number_at bytes at)
+    fails_leb at placed = fails_dex_number bytes at placed
 
     -- the number of an entry
-    fails_step : (header size : ℕ) → IsTableOf which header → HasSize bytes header size → Fails (IsJustMember bytes) (stepped_at bytes size s.1 s.0)
+    fails_step : (header size : ℕ) → IsTableOf which header → HasSize bytes header size → Fails (IsJust bytes) (stepped_at bytes size s.1 s.0)
     unfolding stepped_at
     fails_step header size of_table is_size = fails_next (fails_leb s.0 (placed.Classes (EntryStep class data_at which place s.1 s.0 l.def l.has l.leads stands))) (λ step h.
         unless (dex.Pool (pool.Index s.0 (min (s.1 + step.0) 4294967295) size))
-        (λ none. by_width header size step.0 step.1 of_table is_size ((finds_number bytes s.0).found step h) (ltb-false (s.1 + step.0) size none) (ltb (s.1 + step.0) 4294967295) refl) (λ _. sound (s.1 + step.0, step.1)))
+        (λ none. BadMember (faults.NoMember class data_at which place s.1 s.0 step.0 step.1 header size l.def l.has l.leads stands ((finds_number bytes s.0).found step h) of_table is_size (ltb-false (s.1 + step.0) size none) refl)) (λ _. sound (s.1 + step.0, step.1)))
 
-    fails_order : (number : ℕ × ℕ) (size : ℕ) → IsStep bytes size s.1 s.0 number → Fails (IsJustMember bytes) (ascends_at place s.1 number.0)
+    fails_order : (number : ℕ × ℕ) (size : ℕ) → IsStep bytes size s.1 s.0 number → Fails (IsJust bytes) (ascends_at place s.1 number.0)
     unfolding ascends_at
     fails_order number size is = unless (dex.Pool (pool.Order table.Members place)) (λ none. let e = neither_of (eqb place 0) (ltb s.1 number.0) none in
-        inl (order_bad bytes class data_at which count mid l place s number.1 (not_zero place e.0) stands
+        (order_bad bytes class data_at which count mid l place s number.1 (not_zero place e.0) stands
         (subst (λ (k : ℕ). IsUlebAt bytes s.0 (k, number.1)) (let low = ltb-false s.1 number.0 e.1 in omega (arith, low, is.number)) is.is_step))) (λ _. sound tt)
 
-    pub fails_field_entry : (size : ℕ) → IsTableOf which 80 → HasSize bytes 80 size → Fails (IsJustMember bytes) (field_entry_at bytes size place s)
+    pub fails_field_entry : (size : ℕ) → IsTableOf which 80 → HasSize bytes 80 size → Fails (IsJust bytes) (field_entry_at bytes size place s)
     unfolding field_entry_at
     fails_field_entry size of_table is_size = fails_next (fails_step 80 size of_table is_size) (λ number h. let is = (founds_step bytes size s.1 s.0).found number h in
         fails_next (fails_leb number.1 (placed.Classes (EntryFlags class data_at which place s.1 s.0 is.step number.1 l.def l.has l.leads stands is.is_step))) (λ flags _.
         fails_next (fails_order number size is) (λ order _. sound (record { number = number.0; flags = record { 0 = flags.0 }; code = 0 }, (flags.1, number.0)))))
 
-    pub fails_method_entry : (size : ℕ) → 2 ≤ which → IsTableOf which 88 → HasSize bytes 88 size → Fails (IsJustMember bytes) (method_entry_at bytes size place s)
+    pub fails_method_entry : (size : ℕ) → 2 ≤ which → IsTableOf which 88 → HasSize bytes 88 size → Fails (IsJust bytes) (method_entry_at bytes size place s)
     unfolding method_entry_at
     fails_method_entry size method of_table is_size = fails_next (fails_step 88 size of_table is_size) (λ number h. let is = (founds_step bytes size s.1 s.0).found number h in
         fails_next (fails_leb number.1 (placed.Classes (EntryFlags class data_at which place s.1 s.0 is.step number.1 l.def l.has l.leads stands is.is_step))) (λ flags g.

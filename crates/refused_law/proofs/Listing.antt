@@ -32,10 +32,10 @@ use Rattle.dex_read.specs.Word.{number_at}
 use Rattle.file_laws.specs.ClassData.{entry_of}
 use Rattle.file_laws.proofs.ClassData.{founds_field_entry, founds_method_entry, founds_field, founds_method, founds_fields, founds_methods}
 use Rattle.file_laws.proofs.Words.{finds_number}
-use Rattle.refused_law.specs.Just.{IsJustMember}
+use Rattle.refused_law.specs.Just.{IsJust}
 use Rattle.refused_law.proofs.Defs.{and_none}
 use Rattle.refused_law.proofs.Entries.{entries_more, last_more, longer, AtList, IsFront, stands_at, front_more, fails_front, fails_dex_number, fails_field_entry, fails_method_entry, has_entry}
-use Rattle.refused_law.proofs.Failing.{Fails, sound, unless, fails_next, fails_more}
+use Rattle.refused_law.proofs.Failing.{Fails, sound, unless, fails_next}
 
 -- ---- an entry of a list that is read
 
@@ -225,41 +225,41 @@ module _ (bytes : List ℕ) (p : Program) (ids : HasIds bytes p) (owner : Owner)
   module _ (which count mid : ℕ) (l : AtList bytes owner.place at which count mid) (static : Bool) (earlier : List Listed) (of_table : faults.IsTableOf which 80) (field : which < 2)
       (entry : (before at : ℕ) (e : Entry) (stop : ℕ) → IsFieldEntry bytes before at e stop → IsEntryOf bytes which before at e stop) (id : (number at : ℕ) → IsEntryAt bytes 80 8 number at → faults.IsIdAt bytes which number at)
       (list : (flags : Flags) → suits_list which flags.0 0 ≡ cond static (is_static flags) (not (is_static flags))) (partner : Before which earlier) where
-    one_field : (i : ℕ) (front : List Entry) (s : ℕ × ℕ) → i < count → IsFront bytes which mid i front s → Fails (IsJustMember bytes) (field_at bytes p owner static earlier i s)
+    one_field : (i : ℕ) (front : List Entry) (s : ℕ × ℕ) → i < count → IsFront bytes which mid i front s → Fails (IsJust bytes) (field_at bytes p owner static earlier i s)
     unfolding field_at
     one_field i front s less good = fails_next (fails_field_entry bytes owner.place at which count mid l i front s less good (sizes_in p).fields of_table ids.field_size) (λ e h.
         let r = (founds_field_entry bytes (sizes_in p).fields i s).found e h in
-        unless (dex.Member owner.place i) (λ none. inl (field_bad which i static earlier e.0 (has_entry bytes owner.place at which count mid l i front s less good (entry_of e.0) e.1.0 (entry s.1 s.0 (entry_of e.0) e.1.0 r.is)) r.below field
+        unless (dex.Member owner.place i) (λ none. (field_bad which i static earlier e.0 (has_entry bytes owner.place at which count mid l i front s less good (entry_of e.0) e.1.0 (entry s.1 s.0 (entry_of e.0) e.1.0 r.is)) r.below field
         (id e.0.number) (list e.0.flags) partner none)) (λ _. sound e))
 
     field_more : (i : ℕ) (front : List Entry) (s : ℕ × ℕ) (x : Listed × (ℕ × ℕ)) → IsFront bytes which mid i front s → field_at bytes p owner static earlier i s ≡ Ok x → IsFront bytes which mid (suc i) (front ++ entry_of x.0 ∷ []) x.1
     field_more i front s x good h = let r = ((founds_field bytes p owner static earlier i s).found x h).0 in
         front_more bytes owner.place at which count mid l i front s (entry_of x.0) x.1 good (entry s.1 s.0 (entry_of x.0) x.1.0 r.is) r.number
 
-    field_list : Fails (IsJustMember bytes) (fields_at bytes p owner static earlier count mid)
+    field_list : Fails (IsJust bytes) (fields_at bytes p owner static earlier count mid)
     field_list = fails_front (field_at bytes p owner static earlier) entry_of (IsFront bytes which mid) field_more count one_field 0 count [] (mid, 0) (omega arith) (no_front which mid)
 
   module _ (which count mid : ℕ) (l : AtList bytes owner.place at which count mid) (direct : Bool) (earlier : List Listed) (of_table : faults.IsTableOf which 88) (method : 2 ≤ which)
       (entry : (before at : ℕ) (e : Entry) (stop : ℕ) → IsMethodEntry bytes before at e stop → IsEntryOf bytes which before at e stop) (id : (number at : ℕ) → IsEntryAt bytes 88 8 number at → faults.IsIdAt bytes which number at)
       (list : (flags : Flags) (first : ℕ) → suits_list which flags.0 first ≡ cond direct (is_static flags || (is_private flags || first == 60)) (not (is_static flags || (is_private flags || first == 60)))) (partner : Before which earlier) where
-    one_method : (i : ℕ) (front : List Entry) (s : ℕ × ℕ) → i < count → IsFront bytes which mid i front s → Fails (IsJustMember bytes) (method_at bytes p owner direct earlier i s)
+    one_method : (i : ℕ) (front : List Entry) (s : ℕ × ℕ) → i < count → IsFront bytes which mid i front s → Fails (IsJust bytes) (method_at bytes p owner direct earlier i s)
     unfolding method_at
     one_method i front s less good = fails_next (fails_method_entry bytes owner.place at which count mid l i front s less good (sizes_in p).methods method of_table ids.method_size) (λ e h.
         let r = (founds_method_entry bytes (sizes_in p).methods i s).found e h in
-        unless (dex.Member owner.place i) (λ none. inl (method_bad which i direct earlier e.0 (has_entry bytes owner.place at which count mid l i front s less good (entry_of e.0) e.1.0 (entry s.1 s.0 (entry_of e.0) e.1.0 r.is)) r.below method
+        unless (dex.Member owner.place i) (λ none. (method_bad which i direct earlier e.0 (has_entry bytes owner.place at which count mid l i front s less good (entry_of e.0) e.1.0 (entry s.1 s.0 (entry_of e.0) e.1.0 r.is)) r.below method
         (id e.0.number) (list e.0.flags) partner none)) (λ _. sound e))
 
     method_more : (i : ℕ) (front : List Entry) (s : ℕ × ℕ) (x : Listed × (ℕ × ℕ)) → IsFront bytes which mid i front s → method_at bytes p owner direct earlier i s ≡ Ok x → IsFront bytes which mid (suc i) (front ++ entry_of x.0 ∷ []) x.1
     method_more i front s x good h = let r = ((founds_method bytes p owner direct earlier i s).found x h).0 in
         front_more bytes owner.place at which count mid l i front s (entry_of x.0) x.1 good (entry s.1 s.0 (entry_of x.0) x.1.0 r.is) r.number
 
-    method_list : Fails (IsJustMember bytes) (methods_at bytes p owner direct earlier count mid)
+    method_list : Fails (IsJust bytes) (methods_at bytes p owner direct earlier count mid)
     method_list = fails_front (method_at bytes p owner direct earlier) entry_of (IsFront bytes which mid) method_more count one_method 0 count [] (mid, 0) (omega arith) (no_front which mid)
 
   -- ---- class data
 
-  leb : (m : ℕ) → placed.IsPlaced bytes (parts.Number m) → Fails (IsJustMember bytes) (number_at bytes m)
-  leb m is = fails_more (λ e h. inl h) (fails_dex_number bytes m is)
+  leb : (m : ℕ) → placed.IsPlaced bytes (parts.Number m) → Fails (IsJust bytes) (number_at bytes m)
+  leb m is = fails_dex_number bytes m is
 
   abbrev uleb : (m : ℕ) (r : ℕ × ℕ) → number_at bytes m ≡ Ok r → IsUlebAt bytes m r
   uleb m r h = (finds_number bytes m).found r h
@@ -305,7 +305,7 @@ module _ (bytes : List ℕ) (p : Program) (ids : HasIds bytes p) (owner : Owner)
           is_count = refl;
         }
 
-  pub fails_members : Fails (IsJustMember bytes) (members_at bytes p owner at)
+  pub fails_members : Fails (IsJust bytes) (members_at bytes p owner at)
   unfolding members_at
   fails_members =
       fails_next (leb at (placed.Classes (FirstCount owner.place at def has_def leads))) (λ c0 h0. let i0 = uleb at c0 h0 in

@@ -29,7 +29,7 @@ use Rattle.dex_read.specs.Tables.{sizes_in}
 use Rattle.file_laws.proofs.Classes.{founds_def, founds_interfaces}
 use Rattle.file_laws.proofs.Tables.{finds_head}
 use Rattle.read_laws.proofs.Bounds.{AreBytes, word_below}
-use Rattle.refused_law.specs.Just.{IsJust, IsJustMember}
+use Rattle.refused_law.specs.Just.{IsJust}
 use Rattle.refused_law.proofs.Failing.{Fails, sound, fails_either, fails_lifted, fails_more, each_at}
 use Rattle.refused_law.proofs.Defs.{HasTables, IsClassAt, same_length, fails_def, fails_interfaces, fails_root}
 use Rattle.refused_law.proofs.Listing.{HasIds, fails_members}
@@ -112,7 +112,7 @@ module _ (bytes : List ℕ) (are : AreBytes bytes) (p : Program) (left : ℕ) (h
     pub fails_its_interfaces : (d : ClassDef) (behind : ℕ) → def_at bytes p (table.offset + 32 * place) ≡ Ok d → Fails (IsJust bytes) (interfaces_at bytes p d.interfaces behind)
     fails_its_interfaces d behind h = fails_interfaces bytes are p has_tables place (table.offset + 32 * place) class_there d ((founds_def bytes p (table.offset + 32 * place)).found d h) behind
 
-    pub fails_its_members : (d : ClassDef) → def_at bytes p (table.offset + 32 * place) ≡ Ok d → 0 < d.data_at → Fails (IsJustMember bytes) (members_at bytes p (record { place = place; kind = d.class }) d.data_at)
+    pub fails_its_members : (d : ClassDef) → def_at bytes p (table.offset + 32 * place) ≡ Ok d → 0 < d.data_at → Fails (IsJust bytes) (members_at bytes p (record { place = place; kind = d.class }) d.data_at)
     fails_its_members d h some = let is = (founds_def bytes p (table.offset + 32 * place)).found d h in
         fails_members bytes p ids_are (record { place = place; kind = d.class }) (def_of d) (record { at = table.offset + 32 * place; stands = class_there.stands; is = is.is }) refl d.data_at (some, refl)
 

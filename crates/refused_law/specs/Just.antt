@@ -1,5 +1,5 @@
 -- What it means that a fault that is answered stands in the file.
-use Rattle.std.specs.Prelude.{◌≡◌, ◌⊎◌, ℕ, List}
+use Rattle.std.specs.Prelude.{ℕ, List}
 use Rattle.dex_pools.specs.declared.fault.PoolFault.{PoolFault}
 use Rattle.dex_pools.specs.declared.fault.PoolFault.TheVariants as pool
 use Rattle.dex_read.specs.declared.fault.DexFault.{DexFault}
@@ -33,7 +33,3 @@ IsJust bytes (dex.Member class place) = HasFault bytes (Member class place)
 IsJust bytes (dex.Root class) = HasFault bytes (Root class)
 IsJust bytes (dex.FrameSize method) = HasFault bytes (FrameSize method)
 IsJust bytes (dex.Limit limit) = Unit {0}
-
--- A member's number may pass 32 bits, and is then answered as the greatest of them, in a fault of its own.
-abbrev pub IsJustMember : List ℕ → DexFault → Type 0
-IsJustMember bytes e = IsJust bytes e ⊎ ((at : ℕ) × (size : ℕ) × (e ≡ dex.Pool (pool.Index at 4294967295 size)))

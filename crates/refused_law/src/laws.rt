@@ -22,7 +22,7 @@ ghost use Rattle.dex_read.specs.declared.class_data.Members.{Members};
 ghost use Rattle.dex_read.specs.declared.class_defs.ClassDef.{ClassDef};
 ghost use Rattle.dex_read.specs.declared.fault.DexFault.{DexFault};
 ghost use Rattle.dex_read.specs.declared.members.Budget.{Budget};
-ghost use Rattle.refused_law.specs.Just.{IsJustPool, IsJust, IsJustMember};
+ghost use Rattle.refused_law.specs.Just.{IsJustPool, IsJust};
 
 /// A fault of the header that is answered stands there, unless it is a passed limit.
 pub fn header_law()
@@ -58,13 +58,12 @@ pub fn class_def_law()
         → (e : DexFault) → root_at p d interfaces place ≡ Err e → IsJust bytes e }
 {}
 
-/// So does one of the class data of a class_def, unless the number of a member passes 32 bits: that one is answered as the
-/// greatest of them.
+/// So does one of the class data of a class_def.
 pub fn class_data_law()
     ensures { (bytes : List ℕ) → ((i : ℕ) → slice_index bytes i < 256) → (p : Program) (left : ℕ) → head_at bytes ≡ Ok (p, left)
         → (table : Extent) → IsExtent bytes 96 32 table → (place : ℕ) → place < table.size
         → (d : ClassDef) → def_at bytes p (table.offset + 32 * place) ≡ Ok d → 0 < d.data_at
-        → (e : DexFault) → members_at bytes p (record { place = place; kind = d.class }) d.data_at ≡ Err e → IsJustMember bytes e }
+        → (e : DexFault) → members_at bytes p (record { place = place; kind = d.class }) d.data_at ≡ Err e → IsJust bytes e }
 {}
 
 /// So does one of a set of annotations, or of a list of such sets, that is placed in the file.

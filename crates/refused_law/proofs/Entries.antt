@@ -1,8 +1,7 @@
 -- A fault of class data that is answered stands there.
-use Rattle.std.proofs.Common.{◌≡◌, ◌≤◌, ◌<◌, inl, inr, ℕ, zero, suc, ◌+◌, Bool, true, false, ltb, eqb, List, [], ◌∷◌, ◌++◌, length, min, Result, Ok, refl, sym, ap, subst, ◌∙◌, arith, true≢false}
+use Rattle.std.proofs.Common.{◌≡◌, ◌≤◌, ◌<◌, ℕ, zero, suc, ◌+◌, false, ltb, eqb, List, [], ◌∷◌, ◌++◌, length, min, Result, Ok, refl, sym, ap, subst, ◌∙◌, arith, true≢false}
 use Rattle.std.specs.Prelude.{slice_index}
-use Rattle.std.proofs.Math.Nat.{min-eq_left, min_comm}
-use Rattle.std.proofs.lemmas.Bool.{ltb-true, ltb-false, eq-eqb}
+use Rattle.std.proofs.lemmas.Bool.{ltb-false, eq-eqb}
 use Rattle.lemmas.proofs.Bools.{neither_of}
 use Rattle.dex_base.specs.declared.fault.BaseFault.{BaseFault}
 use Rattle.dex_base.specs.declared.fault.BaseFault.TheVariants as base
@@ -28,7 +27,7 @@ use Rattle.dex_read.specs.Faults.{of_base}
 use Rattle.file_laws.proofs.ClassData.{IsStep, founds_step}
 use Rattle.file_laws.proofs.Words.{finds_number}
 use Rattle.refused_law.specs.Just.{IsJust}
-use Rattle.refused_law.proofs.Failing.{Fails, sound, unless, fails_next, fails_lifted, fails_more, fails_by}
+use Rattle.refused_law.proofs.Failing.{Fails, sound, unless, fails_next, fails_lifted, fails_by}
 
 -- ---- entries one behind another
 
@@ -120,16 +119,12 @@ module _ (bytes : List ℕ) (class data_at which count mid : ℕ) (l : AtList by
     fails_leb : (at : ℕ) → IsPlaced bytes (Number at) → Fails (IsJust bytes) (number_at bytes at)
     fails_leb at placed = fails_dex_number bytes at placed
 
-    past_table : (header size step stop : ℕ) → IsTableOf which header → HasSize bytes header size → IsUlebAt bytes s.0 (step, stop) → size ≤ s.1 + step
-        → IsJust bytes (dex.Pool (pool.Index s.0 (min (s.1 + step) 4294967295) size))
-    past_table header size step stop of_table is_size is_step high = BadMember (faults.NoMember class data_at which place s.1 s.0 step stop header size l.def l.has l.leads stands is_step of_table is_size high refl)
-
     -- the number of an entry
     fails_step : (header size : ℕ) → IsTableOf which header → HasSize bytes header size → Fails (IsJust bytes) (stepped_at bytes size s.1 s.0)
     unfolding stepped_at
     fails_step header size of_table is_size = fails_next (fails_leb s.0 (placed.Classes (EntryStep class data_at which place s.1 s.0 l.def l.has l.leads stands))) (λ step h.
         unless (dex.Pool (pool.Index s.0 (min (s.1 + step.0) 4294967295) size))
-        (λ none. past_table header size step.0 step.1 of_table is_size ((finds_number bytes s.0).found step h) (ltb-false (s.1 + step.0) size none)) (λ _. sound (s.1 + step.0, step.1)))
+        (λ none. BadMember (faults.NoMember class data_at which place s.1 s.0 step.0 step.1 header size l.def l.has l.leads stands ((finds_number bytes s.0).found step h) of_table is_size (ltb-false (s.1 + step.0) size none) refl)) (λ _. sound (s.1 + step.0, step.1)))
 
     fails_order : (number : ℕ × ℕ) (size : ℕ) → IsStep bytes size s.1 s.0 number → Fails (IsJust bytes) (ascends_at place s.1 number.0)
     unfolding ascends_at

@@ -142,7 +142,7 @@ value_type bytes sizes Is at r (defs.Boolean tag e is) = record {
 
 -- ---- one value behind another
 
-fails_steps : {S F : Type 0} {Has : F → Type 0} (f : ℕ → S → Result S F) (Good : ℕ → S → Type 0) → ((i : ℕ) (s t : S) → Good i s → f i s ≡ Ok t → Good (suc i) t) → (total : ℕ) → ((i : ℕ) (s : S) → i < total → Good i s → Fails Has (f i s))
+pub fails_steps : {S F : Type 0} {Has : F → Type 0} (f : ℕ → S → Result S F) (Good : ℕ → S → Type 0) → ((i : ℕ) (s t : S) → Good i s → f i s ≡ Ok t → Good (suc i) t) → (total : ℕ) → ((i : ℕ) (s : S) → i < total → Good i s → Fails Has (f i s))
     → (from n : ℕ) (s : S) → from + n ≡ total → Good from s → Fails Has (steps f from n s)
 fails_steps f Good more total each from zero s all good = sound s
 fails_steps f Good more total each from (suc n) s all good = fails_next (each from s (omega (arith, all)) good) (λ t h. fails_steps f Good more total each (suc from) n t (omega (arith, all)) (more from s t good h))

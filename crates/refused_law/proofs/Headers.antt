@@ -1,10 +1,11 @@
 -- A fault of the header that is answered stands there.
-use Rattle.std.proofs.Common.{◌≡◌, ◌≤◌, ℕ, ◌+◌, Bool, true, false, cond, eqb, List, length, take, drop, Ok, Err, refl, sym, subst, ◌∙◌, arith, true≢false}
+use Rattle.std.proofs.Common.{◌≡◌, ◌<◌, ◌*◌, ◌≤◌, ℕ, ◌+◌, Bool, true, false, cond, eqb, List, length, take, drop, Ok, Err, refl, sym, subst, ◌∙◌, arith, true≢false}
 use Rattle.std.specs.Int.{w32, from_le_bytes}
 use Rattle.std.specs.List.{starts_with}
 use Rattle.std.specs.Prelude.{nat_eq}
 use Rattle.std.proofs.lemmas.Bool.{leb-false, eq-eqb}
 use Rattle.dex_base.specs.Adler.{adler_of}
+use Rattle.dex_base.specs.Word.{Is32}
 use Rattle.dex_base.proofs.Decides.{not_both}
 use Rattle.program_model.specs.declared.limits.Counted.{Counted}
 use Rattle.program_model.specs.declared.limits.Counted.TheVariants.{Types, Protos, Fields, Methods}
@@ -35,6 +36,11 @@ fails_word bytes at inside = stands (word_at bytes at) (finds_word bytes at) (fr
 pub fails_need : (bytes : List ℕ) (at count : ℕ) → IsPlaced bytes (Bytes at count) → Fails (IsJust bytes) (need_at bytes at count)
 unfolding need_at
 fails_need bytes at count placed = unless (dex.Short at) (λ no. BadPart (Bytes at count) placed (leb-false (at + count) (length bytes) no, refl)) (λ _. sound tt)
+
+-- the table of classes, where it has some
+pub fails_class_table : (bytes : List ℕ) (count offset : ℕ) → Is32 bytes 96 count → Is32 bytes 100 offset → 0 < count → Fails (IsJust bytes) (need_at bytes offset (32 * count))
+fails_class_table bytes count offset size place some =
+    fails_need bytes offset (32 * count) (placed.Tables (placed.TheTable 96 32 (record { size = count; offset = offset }) (placed.Classes refl refl) (record { size = size; offset = place }) some))
 
 module _ (bytes : List ℕ) where
   by_tests : (a b : Bool) → Fails (λ e. e ≡ dex.Magic) (cond a (Ok V035) (cond b (Ok V037) (Err dex.Magic)))

@@ -11,3 +11,6 @@ pub mod Entries
 pub mod Listing
 pub mod FirstFaults
 pub mod ReadFirsts
+pub mod OnceEntries
+pub mod DirectoryFaults
+pub mod ReadDirectories

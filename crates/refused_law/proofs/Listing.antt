@@ -35,7 +35,7 @@ use Rattle.file_laws.proofs.Words.{finds_number}
 use Rattle.refused_law.specs.Just.{IsJust}
 use Rattle.refused_law.proofs.Defs.{and_none}
 use Rattle.refused_law.proofs.Entries.{entries_more, last_more, longer, AtList, IsFront, stands_at, front_more, fails_front, fails_dex_number, fails_field_entry, fails_method_entry, has_entry}
-use Rattle.refused_law.proofs.Failing.{Fails, sound, unless, fails_next, fails_more}
+use Rattle.refused_law.proofs.Failing.{Fails, sound, unless, fails_next}
 
 -- ---- an entry of a list that is read
 

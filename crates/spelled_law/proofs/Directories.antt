@@ -33,11 +33,11 @@ use Rattle.spelled_law.proofs.Turning.{Over, over_same, over_beside, Beside, Dis
 
 -- ---- one pair
 
-record IsPair (bytes : List ℕ) (at : ℕ) (r : ℕ × ℕ) : Type 0 where
-  number : Is32 bytes at r.0
-  offset : Is32 bytes (at + 4) r.1
+pub record IsPair (bytes : List ℕ) (at : ℕ) (r : ℕ × ℕ) : Type 0 where
+  pub number : Is32 bytes at r.0
+  pub offset : Is32 bytes (at + 4) r.1
 
-founds_pair : (bytes : List ℕ) (size at : ℕ) → Founds (IsPair bytes at) (pair_at bytes size at)
+pub founds_pair : (bytes : List ℕ) (size at : ℕ) → Founds (IsPair bytes at) (pair_at bytes size at)
 unfolding pair_at
 founds_pair bytes size at = weaker (pair_at bytes size at)
     (next (known (finds_word bytes at)) (λ number _. next (known (finds_word bytes (at + 4))) (λ offset _. when _ (done (number, offset)))))
@@ -54,13 +54,13 @@ founds_place : (class place : ℕ) (o : Option ℕ) → Founds (λ k. o ≡ Some
 founds_place class place None = failed _
 founds_place class place (Some k) = weaker (found_at class place (Some k)) (done k) (λ y e. ap (λ (n : ℕ). Some n) (sym e))
 
-record IsNamed (bytes : List ℕ) (listed : List Listed) (at i before : ℕ) (r : ℕ × (ℕ × ℕ)) : Type 0 where
-  number : Is32 bytes (at + 8 * i) r.1.0
-  offset : Is32 bytes (at + 8 * i + 4) r.1.1
-  order : (i ≡ 0) ⊎ (before < r.1.0)
-  found : place_in r.1.0 listed ≡ Some r.0
+pub record IsNamed (bytes : List ℕ) (listed : List Listed) (at i before : ℕ) (r : ℕ × (ℕ × ℕ)) : Type 0 where
+  pub number : Is32 bytes (at + 8 * i) r.1.0
+  pub offset : Is32 bytes (at + 8 * i + 4) r.1.1
+  pub order : (i ≡ 0) ⊎ (before < r.1.0)
+  pub found : place_in r.1.0 listed ≡ Some r.0
 
-founds_named : (bytes : List ℕ) (class size : ℕ) (listed : List Listed) (at i before : ℕ) → Founds (IsNamed bytes listed at i before) (named_at bytes class size listed at i before)
+pub founds_named : (bytes : List ℕ) (class size : ℕ) (listed : List Listed) (at i before : ℕ) → Founds (IsNamed bytes listed at i before) (named_at bytes class size listed at i before)
 unfolding named_at
 founds_named bytes class size listed at i before = weaker (named_at bytes class size listed at i before)
     (next (founds_pair bytes size (at + 8 * i)) (λ pair _. next (founds_order i before pair.0) (λ order _. next (founds_place class i (place_in pair.0 listed)) (λ found _. done (found, pair)))))
@@ -72,7 +72,7 @@ founds_named bytes class size listed at i before = weaker (named_at bytes class 
 abbrev pub FieldStep : List ℕ → Program → List Listed → ℕ → ℕ → List Field × (ℕ × ℕ) → List Field × (ℕ × ℕ) → Type 0
 FieldStep bytes p listed at = IsStep with_marks (AreMarksOf bytes (sizes_in p)) bytes listed at
 
-founds_mark_field : (bytes : List ℕ) (p : Program) (class : ℕ) (listed : List Listed) (at i : ℕ) (s : List Field × (ℕ × ℕ)) → Founds (FieldStep bytes p listed at i s) (mark_field bytes p class listed at i s)
+pub founds_mark_field : (bytes : List ℕ) (p : Program) (class : ℕ) (listed : List Listed) (at i : ℕ) (s : List Field × (ℕ × ℕ)) → Founds (FieldStep bytes p listed at i s) (mark_field bytes p class listed at i s)
 unfolding mark_field
 founds_mark_field bytes p class listed at i s = weaker (mark_field bytes p class listed at i s)
     (next (founds_named bytes class (sizes_in p).fields listed at i s.1.0) (λ named _. next (founds_set bytes p named.1.1 s.1.1) (λ marks _.
@@ -93,7 +93,7 @@ founds_mark_field bytes p class listed at i s = weaker (mark_field bytes p class
 abbrev pub MethodStep : List ℕ → Program → List Listed → ℕ → ℕ → List Method × (ℕ × ℕ) → List Method × (ℕ × ℕ) → Type 0
 MethodStep bytes p listed at = IsStep with_own_marks (AreMarksOf bytes (sizes_in p)) bytes listed at
 
-founds_mark_method : (bytes : List ℕ) (p : Program) (class : ℕ) (listed : List Listed) (at i : ℕ) (s : List Method × (ℕ × ℕ)) → Founds (MethodStep bytes p listed at i s) (mark_method bytes p class listed at i s)
+pub founds_mark_method : (bytes : List ℕ) (p : Program) (class : ℕ) (listed : List Listed) (at i : ℕ) (s : List Method × (ℕ × ℕ)) → Founds (MethodStep bytes p listed at i s) (mark_method bytes p class listed at i s)
 unfolding mark_method
 founds_mark_method bytes p class listed at i s = weaker (mark_method bytes p class listed at i s)
     (next (founds_named bytes class (sizes_in p).methods listed at i s.1.0) (λ named _. next (founds_set bytes p named.1.1 s.1.1) (λ marks _.
@@ -114,7 +114,7 @@ founds_mark_method bytes p class listed at i s = weaker (mark_method bytes p cla
 abbrev pub SetsStep : List ℕ → Program → List Listed → ℕ → ℕ → List Method × (ℕ × ℕ) → List Method × (ℕ × ℕ) → Type 0
 SetsStep bytes p listed at = IsStep with_parameter_marks (AreParameterMarksOf bytes (sizes_in p)) bytes listed at
 
-founds_mark_parameters : (bytes : List ℕ) (p : Program) (class : ℕ) (listed : List Listed) (at i : ℕ) (s : List Method × (ℕ × ℕ)) → Founds (SetsStep bytes p listed at i s) (mark_parameters bytes p class listed at i s)
+pub founds_mark_parameters : (bytes : List ℕ) (p : Program) (class : ℕ) (listed : List Listed) (at i : ℕ) (s : List Method × (ℕ × ℕ)) → Founds (SetsStep bytes p listed at i s) (mark_parameters bytes p class listed at i s)
 unfolding mark_parameters
 founds_mark_parameters bytes p class listed at i s = weaker (mark_parameters bytes p class listed at i s)
     (next (founds_named bytes class (sizes_in p).methods listed at i s.1.0) (λ named _. next (founds_sets bytes p named.1.1 s.1.1) (λ marks _.

@@ -92,7 +92,7 @@ abbrev def_made : ℕ → ℕ → ℕ → ℕ → ℕ → ℕ → ℕ → ℕ �
 def_made name flags superclass interfaces source annotations data_at values =
     record { name = name; flags = flags; superclass = superclass; interfaces = interfaces; source = source; annotations = annotations; data_at = data_at; values = values }
 
-def_once : (bytes : List ℕ) (at : ℕ) (x y : Def) → IsDef bytes at x → IsDef bytes at y → x ≡ y
+pub def_once : (bytes : List ℕ) (at : ℕ) (x y : Def) → IsDef bytes at x → IsDef bytes at y → x ≡ y
 def_once bytes at x y a b =
     four (λ (name flags superclass interfaces : ℕ). def_made name flags superclass interfaces x.source x.annotations x.data_at x.values)
     (once_32 bytes at x.name y.name a.name b.name) (once_32 bytes (at + 4) x.flags y.flags a.flags b.flags)

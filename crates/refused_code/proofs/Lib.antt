@@ -1,0 +1,5 @@
+pub mod Sweeping
+pub mod Reading
+pub mod Bodies
+pub mod Items
+pub mod Joined

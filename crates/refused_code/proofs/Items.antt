@@ -21,7 +21,6 @@ use Rattle.dex_defs.specs.Placed as placed
 use Rattle.dex_read.specs.declared.class_data.Listed.{Listed}
 use Rattle.dex_read.specs.declared.code.CodeItem.{CodeItem}
 use Rattle.dex_read.specs.declared.fault.DexFault.{DexFault}
-use Rattle.dex_read.specs.declared.fault.DexFault.TheVariants as dex
 use Rattle.dex_read.specs.declared.members.Budget.{Budget}
 use Rattle.dex_read.specs.Code.{gap, item_at, frame_at, units_at, body_at, sizes_for, of_code, counted_lines, kept_lines, lined_at, cells_with, method_with, coded_at, method_at}
 use Rattle.dex_read.specs.Header.{need_at, past}
@@ -49,6 +48,10 @@ IsJustBut bytes e = is_open e ≡ false → IsJust bytes e
 pub closed : {Y : Type 0} {bytes : List ℕ} {read : Result Y DexFault} → Fails (IsJust bytes) read → Fails (IsJustBut bytes) read
 closed d = fails_more (λ e h _. h) d
 
+-- a frame that isn't that of its method stands so
+abbrev pub Frames : List ℕ → Program → ℕ → Listed → Type 0
+Frames bytes p class e = (item : CodeItem) (f : Frame) → HasFrame bytes class (entry_of e) e.code f → item.registers ≡ f.registers → item.ins ≡ f.ins → Fails (IsJust bytes) (frame_at p e item)
+
 positive : (n : ℕ) → eqb n 0 ≡ false → 0 < n
 positive zero e = absurd cc
 positive (suc n) e = omega arith
@@ -73,7 +76,7 @@ founds_room bytes at = weaker (item_at bytes at)
     inside : (at size gap tries all : ℕ) → at + (16 + 2 * size + gap + 8 * tries) ≤ all → at + 16 + 2 * size ≤ all
     inside at size gap tries all h = omega (arith, h)
 
-module _ (bytes : List ℕ) (p : Program) (are : values.AreSizes bytes (sizes_in p)) (class which place : ℕ) (method : 2 ≤ which) (e : Listed) (has : HasEntry bytes class which place (entry_of e)) (some : 0 < e.code) where
+module _ (bytes : List ℕ) (p : Program) (are : values.AreSizes bytes (sizes_in p)) (class which place : ℕ) (method : 2 ≤ which) (e : Listed) (has : HasEntry bytes class which place (entry_of e)) (some : 0 < e.code) (frames : Frames bytes p class e) where
   leads : Leads (entry_of e).code e.code
   leads = (some, refl)
 
@@ -174,18 +177,17 @@ module _ (bytes : List ℕ) (p : Program) (are : values.AreSizes bytes (sizes_in
   unfolding cells_with
   fails_cells body cells = unless (past Cells) (λ _ _. tt) (λ _. sound (cells + body_cells body))
 
-  fails_frame : (item : CodeItem) → Fails (IsJustBut bytes) (frame_at p e item)
-  unfolding frame_at
-  fails_frame item = unless (dex.FrameSize e.number) (λ _ opened. absurd cc) (λ _. sound tt)
+  fails_frame : (item : CodeItem) → IsReadItem bytes e.code item → Fails (IsJustBut bytes) (frame_at p e item)
+  fails_frame item is = closed (frames item is.frame (has_frame is.frame is.is) is.registers is.ins)
 
   fails_coded : (left : Budget) → Fails (IsJustBut bytes) (coded_at bytes p e left)
   unfolding coded_at
   fails_coded left =
       fails_next (closed fails_item) (λ item h. let is = (founds_frame bytes e.code).found item h in
-      fails_next (fails_frame item) (λ frame _.
+      fails_next (fails_frame item is) (λ frame _.
       fails_next (fails_body item is left.items (room item h)) (λ body _.
       fails_next (fails_lined item.debug body.1 (left.items - body_items (Some body.0))) (λ lines _.
       fails_next (fails_cells body.0 left.cells) (λ cells _. sound (method_with e (Some body.0) lines.0, record { items = lines.1; cells = cells }))))))
 
-pub fails_method : (bytes : List ℕ) (p : Program) (are : values.AreSizes bytes (sizes_in p)) (class which place : ℕ) (method : 2 ≤ which) (e : Listed) (has : HasEntry bytes class which place (entry_of e)) (left : Budget) → Fails (IsJustBut bytes) (method_at bytes p e left)
-fails_method bytes p are class which place method e has left = fails_either (λ _. sound (method_with e None [], left)) (λ some. fails_coded bytes p are class which place method e has (positive e.code some) left)
+pub fails_method : (bytes : List ℕ) (p : Program) (are : values.AreSizes bytes (sizes_in p)) (class which place : ℕ) (method : 2 ≤ which) (e : Listed) (has : HasEntry bytes class which place (entry_of e)) (frames : Frames bytes p class e) (left : Budget) → Fails (IsJustBut bytes) (method_at bytes p e left)
+fails_method bytes p are class which place method e has frames left = fails_either (λ _. sound (method_with e None [], left)) (λ some. fails_coded bytes p are class which place method e has (positive e.code some) frames left)

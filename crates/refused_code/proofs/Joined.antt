@@ -1,6 +1,9 @@
 -- A fault for which a file is refused stands in the file.
-use Rattle.std.proofs.Common.{◌≡◌, ◌≤◌, ◌<◌, ◌^◌, ℕ, zero, suc, ◌+◌, ◌*◌, false, eqb, List, [], ◌∷◌, ◌++◌, map, length, Result, Some, Ok, refl, ap, ◌∙◌, arith}
+use Rattle.std.proofs.Common.{◌≡◌, ◌≤◌, ◌<◌, ◌^◌, ℕ, zero, suc, ◌+◌, ◌*◌, false, eqb, Bool, true, subst, sym, List, [], ◌∷◌, ◌++◌, map, length, Result, Some, Ok, refl, ap, ◌∙◌, arith}
 use Rattle.std.specs.Prelude.{slice_get}
+use Rattle.std.specs.List.{AllByRecursion}
+use Rattle.std.proofs.Math.Nat.{min-le_left}
+use Rattle.lemmas.proofs.Options.{some_same}
 use Rattle.lemmas.proofs.Lists.{map_long, got_map}
 use Rattle.dex_base.specs.Word.{Is32}
 use Rattle.dex_pools.specs.declared.header.Extent.{Extent}
@@ -18,13 +21,13 @@ use Rattle.dex_read.specs.declared.members.Budget.{Budget}
 use Rattle.dex_read.specs.declared.members.Owner.{Owner}
 use Rattle.dex_read.specs.Classes.{def_at, interfaces_at, root_at, field_with, no_members, methods_of, marked_at, begun_at, class_with, class_at}
 use Rattle.dex_read.specs.Classes as classes
-use Rattle.dex_read.specs.Code.{method_at}
+use Rattle.dex_read.specs.Code.{frame_at, method_at}
 use Rattle.dex_read.specs.Directory.{Marked, with_marks}
 use Rattle.dex_read.specs.File.{head_at, class_in, table_at, classes_at, program_at}
 use Rattle.dex_read.specs.Steps.{for_each}
 use Rattle.dex_read.specs.Tables.{sizes_in}
 use Rattle.file_laws.specs.Class.{def_of, IsReadDef}
-use Rattle.file_laws.specs.ClassData.{entry_of, lists_of}
+use Rattle.file_laws.specs.ClassData.{entry_of, lists_of, MethodSuits}
 use Rattle.file_laws.proofs.Classes.{founds_def}
 use Rattle.file_laws.proofs.Tables.{finds_head}
 use Rattle.file_laws.proofs.Words.{finds_word, finds_need}
@@ -43,13 +46,21 @@ use Rattle.refused_law.proofs.Read.{has_tables, sizes_are, ids_are, class_there,
 use Rattle.refused_law.proofs.ReadDirectories.{fails_its_directory}
 use Rattle.refused_law.proofs.ReadFirsts.{fails_its_firsts}
 use Rattle.refused_law.proofs.Whole.{fails_head}
-use Rattle.refused_code.proofs.Items.{IsJustBut, closed, fails_method}
+use Rattle.refused_law.specs.Just.{IsJust}
+use Rattle.refused_code.proofs.Frames.{fails_frame_at}
+use Rattle.refused_code.proofs.Items.{IsJustBut, Frames, closed, fails_method}
 
 positive : (n : ℕ) → eqb n 0 ≡ false → 0 < n
 positive zero e = absurd cc
 positive (suc n) e = omega arith
 
 -- ---- what is read for each entry
+
+-- the entry at a place of a list of which something is known
+one_suits : (P : Listed → Type 0) (es : List Listed) (i : ℕ) (e : Listed) → AllByRecursion P es → slice_get es i ≡ Some e → P e
+one_suits P [] i e h there = absurd cc
+one_suits P (x ∷ xs) zero e h there = subst P (some_same x e there) h.0
+one_suits P (x ∷ xs) (suc i) e h there = one_suits P xs i e h.1 there
 
 -- an entry at this place of one of two lists
 got_append : {X : Type 0} (P : X → Type 0) (xs ys : List X) → ((k : ℕ) (x : X) → slice_get xs k ≡ Some x → P x) → ((k : ℕ) (y : X) → slice_get ys k ≡ Some y → P y) → (k : ℕ) (z : X) → slice_get (xs ++ ys) k ≡ Some z → P z
@@ -97,7 +108,10 @@ module _ (bytes : List ℕ) (are : AreBytes bytes) (p : Program) (left : ℕ) (h
 
       -- a method of the class
       abbrev IsMethod : Listed → Type 0
-      IsMethod e = (which k : ℕ) × (2 ≤ which) × HasEntry bytes place which k (entry_of e)
+      IsMethod e = (which k : ℕ) × (2 ≤ which) × (e.number < length p.methods) × HasEntry bytes place which k (entry_of e)
+
+      below : (direct : Bool) (earlier es : List Listed) → AllByRecursion (MethodSuits p owner direct earlier) es → (k : ℕ) (e : Listed) → slice_get es k ≡ Some e → e.number < length p.methods
+      below direct earlier es all k e there = let suits = one_suits (MethodSuits p owner direct earlier) es k e all there in let low = min-le_left (length p.methods) 4294967295 in omega (arith, suits.0, low)
 
       by_data : (offset : ℕ) → offset ≡ d.data_at → IsClassDataOf bytes offset (lists_of m) → (k : ℕ) (e : Listed) → slice_get (m.directs ++ m.virtuals) k ≡ Some e → IsMethod e
       by_data zero same is k e there = got_append IsMethod m.directs m.virtuals (λ j x got. none_there m.directs j x (ap (λ l. l.directs) is) got) (λ j x got. none_there m.virtuals j x (ap (λ l. l.virtuals) is) got) k e there
@@ -137,14 +151,21 @@ module _ (bytes : List ℕ) (are : AreBytes bytes) (p : Program) (left : ℕ) (h
             is_count = refl;
           } in
           got_append IsMethod m.directs m.virtuals
-          (λ j x got. (2, j, omega arith, read_entry bytes p ids owner (def_of d) def_there refl (suc n) leads 2 n2 data_is.directs_at l2 m.directs data_is.virtuals_at j (entry_of x) refl data_is.directs (got_map entry_of m.directs j x got)))
-          (λ j x got. (3, j, omega arith, read_entry bytes p ids owner (def_of d) def_there refl (suc n) leads 3 n3 data_is.virtuals_at l3 m.virtuals is.0 j (entry_of x) refl data_is.virtuals (got_map entry_of m.virtuals j x got)))
+          (λ j x got. (2, j, omega arith, below true [] m.directs listed.directs j x got, read_entry bytes p ids owner (def_of d) def_there refl (suc n) leads 2 n2 data_is.directs_at l2 m.directs data_is.virtuals_at j (entry_of x) refl data_is.directs (got_map entry_of m.directs j x got)))
+          (λ j x got. (3, j, omega arith, below false m.directs m.virtuals listed.virtuals j x got, read_entry bytes p ids owner (def_of d) def_there refl (suc n) leads 3 n3 data_is.virtuals_at l3 m.virtuals is.0 j (entry_of x) refl data_is.virtuals (got_map entry_of m.virtuals j x got)))
           k e there
+
+      frames : (e : Listed) → e.number < length p.methods → Frames bytes p place e
+      frames e less item f is registers ins =
+          let t = ((finds_head bytes).found (p, left) head).tables in
+          let version = ((finds_head bytes).found (p, left) head).version in
+          let own : e.number < length t.pools.methods = subst (λ (x : Program). e.number < length x.methods) t.is less in
+          subst (λ (x : Program). Fails (IsJust bytes) (frame_at x e item)) (sym t.is) (fails_frame_at bytes version t.pools t.spelled place e item f is registers ins own)
 
       fails_methods : (budget : Budget) → Fails (IsJustBut bytes) (methods_of bytes p m budget)
       unfolding methods_of
       fails_methods budget = fails_for_each (method_at bytes p) (m.directs ++ m.virtuals) budget (λ k e b there. let x = by_data d.data_at refl listed.data_is k e there in
-          fails_method bytes p (sizes_are bytes are p left head) place x.0 x.1 x.2 e x.3 b)
+          fails_method bytes p (sizes_are bytes are p left head) place x.0 x.1 x.2 e x.4 (frames e x.3) b)
 
       fails_marked : (fields : List Field) (methods : List Method) (behind : ℕ) → Fails (IsJustBut bytes) (marked_at bytes p place m d.annotations fields methods behind)
       unfolding marked_at

@@ -1,12 +1,11 @@
 -- A fault of the sweep that is answered stands in the units.
-use Rattle.std.proofs.Common.{◌≡◌, ◌≤◌, ◌<◌, ℕ, zero, suc, ◌+◌, ◌-◌, ◌*◌, Bool, true, false, cond, leb, ltb, eqb, List, [], ◌∷◌, ◌++◌, length, take, drop, Option, Some, None, Ok, Err, refl, sym, ap, subst, ◌∙◌, arith}
-use Rattle.std.specs.Prelude.{◌&&◌, ◌/◌, ◌%◌, slice_index}
+use Rattle.std.proofs.Common.{◌≡◌, ◌≤◌, ◌<◌, ℕ, zero, suc, ◌+◌, ◌-◌, Bool, true, false, cond, leb, ltb, eqb, List, [], ◌∷◌, ◌++◌, length, take, drop, Option, Some, None, Ok, Err, refl, sym, ap, subst, ◌∙◌, arith}
+use Rattle.std.specs.Prelude.{◌&&◌, ◌%◌, slice_index}
 use Rattle.std.specs.Option.{option_map}
 use Rattle.std.proofs.lemmas.Bool.{leb-true, leb-false, ltb-true, lt-ltb, eqb-true}
 use Rattle.std.proofs.lemmas.List.{length-take-le, length-drop, drop-drop, get_or-drop}
 use Rattle.dex_base.proofs.Decides.{ok_is, not_both}
 use Rattle.insn_set.specs.declared.format.Format.{Format}
-use Rattle.insn_set.specs.declared.format.Format.TheVariants.{F10x, F12x, F11n, F11x, F10t, F20t, F22x, F21t, F21s, F21h, F21c, F23x, F22b, F22t, F22s, F22c, F30t, F32x, F31i, F31t, F31c, F35c, F3rc, F51l}
 use Rattle.insn_set.specs.Formats.{format_units}
 use Rattle.code_read.specs.declared.fault.CodeFault.TheVariants as code
 use Rattle.code_read.specs.Opcodes.{format_at}
@@ -15,73 +14,12 @@ use Rattle.code_read.specs.Sweep.{Piece, piece_size, no_size, whole, size_in, pi
 use Rattle.dex_defs.specs.Sweep.{IsPiece, PiecesTo}
 use Rattle.dex_defs.specs.CodeFaults.{Comes, BadSweep}
 use Rattle.dex_defs.specs.CodeFaults as bad
+use Rattle.spelled_law.proofs.Starts.{some_piece}
 use Rattle.refused_law.proofs.Failing.{Fails, sound, fails_with, unless, fails_next}
-
--- ---- sizes
-
-some_units : (f : Format) → 0 < format_units f
-some_units F10x = omega arith
-some_units F12x = omega arith
-some_units F11n = omega arith
-some_units F11x = omega arith
-some_units F10t = omega arith
-some_units F20t = omega arith
-some_units F22x = omega arith
-some_units F21t = omega arith
-some_units F21s = omega arith
-some_units F21h = omega arith
-some_units F21c = omega arith
-some_units F23x = omega arith
-some_units F22b = omega arith
-some_units F22t = omega arith
-some_units F22s = omega arith
-some_units F22c = omega arith
-some_units F30t = omega arith
-some_units F32x = omega arith
-some_units F31i = omega arith
-some_units F31t = omega arith
-some_units F31c = omega arith
-some_units F35c = omega arith
-some_units F3rc = omega arith
-some_units F51l = omega arith
-
-none_some : {n : ℕ} → None ≡ Some n → ⊥
-none_some e = absurd cc
-
-some_is : (m n : ℕ) → Some m ≡ Some n → m ≡ n
-some_is m n e = cc
-
-by_format : (o : Option Format) (n : ℕ) → option_map format_units o ≡ Some n → 0 < n
-by_format None n e = absurd (none_some e)
-by_format (Some f) n e = subst (λ k. 0 < k) (some_is (format_units f) n e) (some_units f)
 
 no_format : (o : Option Format) → option_map format_units o ≡ None → o ≡ None
 no_format None e = refl
 no_format (Some f) e = absurd cc
-
-by_two : (a b : Bool) (x y n : ℕ) → 0 < x → 0 < y → cond a (Some x) (cond b (Some y) None) ≡ Some n → 0 < n
-by_two true b x y n p q e = subst (λ k. 0 < k) (some_is x n e) p
-by_two false true x y n p q e = subst (λ k. 0 < k) (some_is y n e) q
-by_two false false x y n p q e = absurd (none_some e)
-
-by_three : (a b c : Bool) (x y z n : ℕ) → 0 < x → 0 < y → 0 < z → cond a (Some x) (cond b (Some y) (cond c (Some z) None)) ≡ Some n → 0 < n
-by_three true b c x y z n p q r e = subst (λ k. 0 < k) (some_is x n e) p
-by_three false b c x y z n p q r e = by_two b c y z n q r e
-
-some_payload : (kind : ℕ) (us : List ℕ) (n : ℕ) → payload_size kind us ≡ Some n → 0 < n
-some_payload kind [] n e = absurd (none_some e)
-some_payload kind (u ∷ []) n e = absurd (none_some e)
-some_payload kind (u ∷ size ∷ []) n e = by_two (eqb kind 1) (eqb kind 2) (4 + 2 * size) (2 + 4 * size) n (omega arith) (omega arith) e
-some_payload kind (u ∷ size ∷ low ∷ []) n e = by_two (eqb kind 1) (eqb kind 2) (4 + 2 * size) (2 + 4 * size) n (omega arith) (omega arith) e
-some_payload kind (u ∷ size ∷ low ∷ high ∷ rest) n e = by_three (eqb kind 1) (eqb kind 2) (eqb kind 3) (4 + 2 * size) (2 + 4 * size) (4 + (size * (low + 65536 * high) + 1) / 2) n (omega arith) (omega arith) (omega arith) e
-
-by_kind : (b : Bool) (x y : Option ℕ) (n : ℕ) → (x ≡ Some n → 0 < n) → (y ≡ Some n → 0 < n) → cond b x y ≡ Some n → 0 < n
-by_kind true x y n f g e = f e
-by_kind false x y n f g e = g e
-
-some_size : (us : List ℕ) (n : ℕ) → piece_size us ≡ Some n → 0 < n
-some_size [] n e = absurd (none_some e)
-some_size (u ∷ us) n e = by_kind (eqb (payload_kind u) 0) (option_map format_units (format_at (u % 256))) (payload_size (payload_kind u) (u ∷ us)) n (by_format (format_at (u % 256)) n) (some_payload (payload_kind u) (u ∷ us) n) e
 
 -- ---- one piece
 
@@ -126,7 +64,7 @@ module _ (units : List ℕ) where
 
     cut : (n : ℕ) → piece_size (u ∷ us) ≡ Some n → (ltb 0 n && leb n (length (u ∷ us))) ≡ false → BadSweep units (code.Cut at)
     cut n h untrue =
-        let some : ltb 0 n ≡ true = lt-ltb 0 n (some_size (u ∷ us) n h) in
+        let some : ltb 0 n ≡ true = lt-ltb 0 n (some_piece (u ∷ us) n h) in
         let few : leb n (length (u ∷ us)) ≡ false = sym (ap (λ b. b && leb n (length (u ∷ us))) some) ∙ untrue in
         bad.Cut at n comes (size_there (Some n) h) (omega (arith, leb-false n (length (u ∷ us)) few, room at (u ∷ us) e, comes.inside)) refl
 

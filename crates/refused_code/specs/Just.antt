@@ -14,8 +14,7 @@ is_open_code (code.Region place) = true
 is_open_code (code.Handler place) = true
 is_open_code fault = false
 
--- those, and the frame of a method whose arguments are others than its own
+-- those alone
 abbrev pub is_open : DexFault → Bool
-is_open (dex.FrameSize method) = true
 is_open (dex.Code method fault) = is_open_code fault
 is_open fault = false

@@ -1,5 +1,5 @@
 -- A fault of code that is answered stands in the code item.
-use Rattle.std.proofs.Common.{◌≡◌, ℕ, zero, suc, ◌+◌, ◌-◌, ◌*◌, true, false, cond, ltb, List, [], ◌∷◌, length, drop, Option, Some, None, Result, Ok, Err, refl, sym, subst}
+use Rattle.std.proofs.Common.{◌≡◌, ◌<◌, ℕ, zero, suc, ◌+◌, ◌-◌, ◌*◌, true, false, cond, ltb, List, [], ◌∷◌, length, drop, Option, Some, None, Result, Ok, Err, refl, sym, ap, subst, ◌∙◌, arith, true≢false}
 use Rattle.std.specs.Prelude.{slice_get, slice_index}
 use Rattle.std.specs.Result.{result_ok}
 use Rattle.dex_base.specs.Word.{u16_at, u32_at}
@@ -16,7 +16,15 @@ use Rattle.code_read.specs.Handlers.{◌>?=◌, caught_at, has_list}
 use Rattle.code_read.specs.Regions.{with_handlers, region, region_of, region_at, try_at, try_item, first_of, end_of, lies_right, keep, regions_from, regions_of}
 use Rattle.code_read.specs.Sweep.{sweep_of}
 use Rattle.code_read.specs.Decoded.{entries_at, checked_at, fields_at}
-use Rattle.dex_defs.specs.Sweep.{Piece, Places, instructions, places_of}
+use Rattle.code_read.specs.Code.{size_at}
+use Rattle.code_read.specs.Order.{ends}
+use Rattle.insn_set.specs.Flow.{goes_on}
+use Rattle.lemmas.proofs.Bools.{not_false, not_true, and_parts}
+use Rattle.lemmas.proofs.Lists.{got_short, get_there, got_map}
+use Rattle.std.proofs.lemmas.Option.{get_or_from_slice_get}
+use Rattle.std.proofs.lemmas.Bool.{eq-eqb}
+use Rattle.dex_defs.specs.Instructions.{opcode}
+use Rattle.dex_defs.specs.Sweep.{starts_of, Piece, Places, instructions, places_of}
 use Rattle.dex_defs.specs.CodeItems.{Frame}
 use Rattle.dex_defs.specs.CodeFaults.{HasUnits, BadSweep, BadInsn, BadCode}
 use Rattle.dex_defs.specs.CodeFaults as bad
@@ -25,7 +33,8 @@ use Rattle.code_laws.proofs.Founding.{weaker, done, next}
 use Rattle.code_laws.proofs.Sweeping.{Swept, Instructed, founds_swept, are_instructed}
 use Rattle.refused_law.proofs.Failing.{Fails, sound, fails_with, unless, fails_either, fails_next, fails_more}
 use Rattle.refused_code.proofs.Sweeping.{fails_pieces}
-use Rattle.refused_code.proofs.Reading.{fails_entries_at, fails_checked, fails_payloads, fails_insns, one_of}
+use Rattle.refused_code.proofs.Flowing.{none_begins, are_apart, Sized, are_sized, continuing, gap_there}
+use Rattle.refused_code.proofs.Reading.{AreRead, founds_insns, read_kind, fails_entries_at, fails_checked, fails_payloads, fails_insns, one_of}
 
 -- The fault stands in the code item, unless it is that of a limit or one that is open.
 abbrev pub IsJustCode : List ℕ → Sizes → ℕ → CodeFault → Type 0
@@ -37,9 +46,12 @@ IsJustCode bytes sizes at (code.Payload unit) = BadCode bytes sizes at (code.Pay
 IsJustCode bytes sizes at (code.Operand unit) = BadCode bytes sizes at (code.Operand unit)
 IsJustCode bytes sizes at (code.Region place) = Unit {0}
 IsJustCode bytes sizes at (code.Handler place) = Unit {0}
-IsJustCode bytes sizes at (code.FallsOff unit) = Unit {0}
+IsJustCode bytes sizes at (code.FallsOff unit) = BadCode bytes sizes at (code.FallsOff unit)
 IsJustCode bytes sizes at (code.Misplaced unit) = Unit {0}
 IsJustCode bytes sizes at (code.Limit limit) = Unit {0}
+
+none_some : {X : Type 0} {x : X} → None ≡ Some x → ⊥
+none_some e = absurd cc
 
 fails_refuse : {Has : CodeFault → Type 0} (up : ℕ → CodeFault) (o : Option ℕ) → ((k : ℕ) → o ≡ Some k → Has (up k)) → Fails Has (refuse up o)
 fails_refuse up None h = sound tt
@@ -113,9 +125,6 @@ module _ (bytes : List ℕ) (at : ℕ) (f : Frame) (units : List ℕ) (has : Has
   fails_placed starts insns (Ok regions) h = fails_next (fails_refuse (λ k. code.Misplaced (slice_index starts k)) (first_astray insns regions true) (λ k _. tt)) (λ _ _. sound regions)
   fails_placed starts insns (Err e) h = fails_next (fails_refuse (λ k. code.Misplaced (slice_index starts k)) (first_astray insns [] false) (λ k _. tt)) (λ _ _. fails_with e (h.fault e refl))
 
-  fails_last : (starts : List ℕ) (insns : List Insn) → Fails Just (check_last starts insns)
-  fails_last starts insns = unless (code.FallsOff (slice_index starts (length insns - 1))) (λ _. tt) (λ _. sound tt)
-
   module _ (ps : List Piece) (swept : Swept units 0 ps (length units)) where
     abbrev places : Places
     places = places_of units ps
@@ -134,13 +143,63 @@ module _ (bytes : List ℕ) (at : ℕ) (f : Frame) (units : List ℕ) (has : Has
     fails_operand k p there = let i = instructed_at k p there in fails_more (λ e h. subst Just (sym h.1)
         (of_insn (code.Operand p.start) (bad.Operand k p (fields_at units p.start) (record { is = there; fields = i.fields_are }) h.0 refl))) (fails_checked places p i sizes)
 
+    -- ---- what continues into none
+
+    abbrev insns_are : List Piece
+    insns_are = instructions ps
+
+    start_at : (k : ℕ) (p : Piece) → slice_get insns_are k ≡ Some p → slice_index places.starts k ≡ p.start
+    start_at k p there = get_or_from_slice_get places.starts k p.start 0 (got_map (λ (q : Piece). q.start) insns_are k p there)
+
+    module _ (insns : List Insn) (read : AreRead places sizes insns_are insns) where
+      falls : (k : ℕ) (insn : Insn) → slice_get insns k ≡ Some insn → goes_on insn ≡ true → ((p t : Piece) → slice_get insns_are k ≡ Some p → slice_get insns_are (suc k) ≡ Some t → t.start ≡ p.start + length p.text → ⊥)
+          → Just (code.FallsOff (slice_index places.starts k))
+      falls k insn there on next =
+          let x = read.each k insn there in
+          let p : Piece = x.0 in
+          let i = instructed_at k p x.1 in
+          let more = continuing places p.start (fields_at units p.start) insn (opcode p) (read_kind places sizes p i insn x.2) on in
+          let none = none_begins insns_are 0 k p (are_apart units 0 ps (length units) swept.to) x.1 (λ t got. next p t x.1 got) in
+          subst (λ (n : ℕ). BadCode bytes sizes at (code.FallsOff n)) (sym (start_at k p x.1)) (of_insn (code.FallsOff p.start) (bad.FallsOff k p (fields_at units p.start) (record { is = x.1; fields = i.fields_are }) more none refl))
+
+      gap : (k : ℕ) → first_gap units places.starts insns ≡ Some k → Just (code.FallsOff (slice_index places.starts k))
+      gap k h =
+          let g = gap_there units places.starts insns k h in
+          let both = and_parts _ _ (and_parts _ _ g.2).1 in
+          falls k g.0 g.1 both.0 (λ p t here behind same. true≢false (sym (eq-eqb (slice_index places.starts k + size_at units (slice_index places.starts k)) (slice_index places.starts (k + 1))
+          (let start = start_at k p here in
+          let next : slice_index places.starts (k + 1) ≡ t.start = start_at (k + 1) t (let one : suc k ≡ k + 1 = omega arith in subst (λ (n : ℕ). slice_get insns_are n ≡ Some t) one behind) in
+          let size : size_at units (slice_index places.starts k) ≡ length p.text = ap (size_at units) start ∙ one_of (Sized units) insns_are k p (are_sized units ps swept.lie) here in
+          omega (arith, start, next, size, same))) ∙ not_true _ both.1))
+
+      no_pieces : (qs : List Piece) → length insns ≡ length qs → length insns ≡ 0 → qs ≡ []
+      no_pieces [] h e = refl
+      no_pieces (q ∷ qs) h e = absurd (let some : length (q ∷ qs) ≡ suc (length qs) = refl in omega (arith, h, e, some))
+
+      none_read : length insns ≡ 0 → Just (code.FallsOff (slice_index places.starts (length insns - 1)))
+      none_read e =
+          let empty : insns_are ≡ [] = no_pieces insns_are read.many e in
+          subst (λ (n : ℕ). BadCode bytes sizes at (code.FallsOff n)) (sym (ap (λ (qs : List Piece). slice_index (starts_of qs) (length insns - 1)) empty)) (of_insn (code.FallsOff 0) (bad.Empty empty refl))
+
+      last : (o : Option Insn) → slice_get insns (length insns - 1) ≡ o → ends o ≡ false → Just (code.FallsOff (slice_index places.starts (length insns - 1)))
+      last (Some insn) there ends_not = falls (length insns - 1) insn there (not_false (goes_on insn) ends_not) (λ p t here behind same. (let short = got_short insns_are (suc (length insns - 1)) t behind in
+          let inside = got_short insns (length insns - 1) insn there in omega (arith, short, inside, read.many)))
+      last None there ends_not = none_read (by_long (length insns) refl)
+        where
+          by_long : (n : ℕ) → length insns ≡ n → length insns ≡ 0
+          by_long zero e = e
+          by_long (suc n) e = absurd (let inside : length insns - 1 < length insns = omega (arith, e) in let got = get_there insns (length insns - 1) inside in let bad_one : None ≡ Some got.0 = sym there ∙ got.1 in none_some bad_one)
+
+      fails_last : Fails Just (check_last places.starts insns)
+      fails_last = unless {b = ends (slice_get insns (length insns - 1))} (code.FallsOff (slice_index places.starts (length insns - 1))) (last (slice_get insns (length insns - 1)) refl) (λ _. sound tt)
+
     fails_body : (tries : List ℕ) → Fails Just (body_at tries sizes places)
     unfolding body_at
     fails_body tries =
         fails_next (fails_payloads places tt 67108864 (instructions ps) fails_entry) (λ checked _.
-        fails_next (fails_insns places sizes (instructions ps) fails_operand) (λ insns _.
+        fails_next (fails_insns places sizes (instructions ps) fails_operand) (λ insns h. let read = (founds_insns places sizes (instructions ps)).found insns h in
         fails_next (fails_refuse (λ k. code.Target (slice_index places.starts k)) (first_outside insns) (λ k _. tt)) (λ inside _.
-        fails_next (fails_next (fails_refuse (λ k. code.FallsOff (slice_index places.starts k)) (first_gap units places.starts insns) (λ k _. tt)) (λ _ _. fails_last places.starts insns)) (λ flows _.
+        fails_next (fails_next (fails_refuse (λ k. code.FallsOff (slice_index places.starts k)) (first_gap units places.starts insns) (gap insns read)) (λ _ _. fails_last insns read)) (λ flows _.
         fails_next (fails_placed places.starts insns (regions_of tries sizes places) (fails_regions tries places)) (λ regions _. sound (body sizes insns regions))))))
 
   fails_body_at : (tries : List ℕ) (q : Places) → IsSweep units q → Fails Just (body_at tries sizes q)

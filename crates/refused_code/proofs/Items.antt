@@ -152,7 +152,7 @@ module _ (bytes : List ℕ) (p : Program) (are : values.AreSizes bytes (sizes_in
     of_code_just (code.Operand unit) h = λ _. stands_so (code.Operand unit) h
     of_code_just (code.Region unit) h = λ opened. absurd cc
     of_code_just (code.Handler unit) h = λ opened. absurd cc
-    of_code_just (code.FallsOff unit) h = λ opened. absurd cc
+    of_code_just (code.FallsOff unit) h = λ _. stands_so (code.FallsOff unit) h
     of_code_just (code.Misplaced unit) h = λ opened. absurd cc
     of_code_just (code.Limit limit) h = λ _. tt
 

@@ -1,5 +1,6 @@
 pub mod Sweeping
 pub mod Reading
+pub mod Flowing
 pub mod Bodies
 pub mod Frames
 pub mod Items

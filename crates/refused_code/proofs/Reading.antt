@@ -1,5 +1,5 @@
 -- A fault of a payload or of an operand that is answered stands in the units.
-use Rattle.std.proofs.Common.{◌≡◌, ◌≤◌, ◌<◌, ◌⊎◌, inl, inr, ℕ, zero, suc, ◌+◌, ◌-◌, ◌*◌, Bool, true, false, cond, ltb, eqb, List, [], ◌∷◌, drop, Some, None, Ok, refl, sym, ap, subst, ◌∙◌, arith, true≢false}
+use Rattle.std.proofs.Common.{◌≡◌, ◌≤◌, ◌<◌, ◌⊎◌, inl, inr, ℕ, zero, suc, ◌+◌, ◌-◌, ◌*◌, Bool, true, false, cond, ltb, eqb, List, [], ◌∷◌, length, drop, Some, None, Result, Ok, refl, sym, ap, subst, ◌∙◌, arith, true≢false}
 use Rattle.std.specs.Prelude.{◌&&◌, ◌||◌, ◌%◌, ℤ, slice_get, slice_index}
 use Rattle.std.specs.List.{AllByRecursion, list_any}
 use Rattle.std.specs.Int.Signed.{lt_z}
@@ -27,6 +27,8 @@ use Rattle.dex_defs.specs.Sweep.{Piece, Places, starts_of}
 use Rattle.dex_defs.specs.Instructions as d
 use Rattle.dex_defs.specs.CodeFaults.{BadPayload, BadOperand, kind_for}
 use Rattle.dex_defs.specs.CodeFaults as bad
+use Rattle.code_laws.specs.Founds.{Founds}
+use Rattle.code_laws.proofs.Founding.{weaker, done, when, next}
 use Rattle.code_laws.proofs.Sweeping.{Instructed}
 use Rattle.code_laws.proofs.Insns.{IsKind, ACall, ABranch, ATable, APlain, founds_kind}
 use Rattle.code_laws.proofs.Payloads.{Found, found_payload, at_drop, is_payload, signed_there}
@@ -210,3 +212,33 @@ pub one_of : (P : Piece → Type 0) (ps : List Piece) (k : ℕ) (p : Piece) → 
 one_of P [] k p h there = absurd cc
 one_of P (x ∷ xs) zero p h there = subst P (some_same x p there) h.0
 one_of P (x ∷ xs) (suc k) p h there = one_of P xs k p h.1 there
+
+-- ---- what was read
+
+exact : {Y : Type 0} (read : Result Y CodeFault) → Founds (λ y. read ≡ Ok y) read
+exact read = record { found = λ y h. h }
+
+pub record AreRead (places : Places) (sizes : Sizes) (ps : List Piece) (insns : List Insn) : Type 0 where
+  pub many : length insns ≡ length ps
+  pub each : (k : ℕ) (insn : Insn) → slice_get insns k ≡ Some insn → (p : Piece) × (slice_get ps k ≡ Some p) × (checked_at places sizes p.start ≡ Ok insn)
+
+more_read : (places : Places) (sizes : Sizes) (p : Piece) (ps : List Piece) (insn : Insn) (insns : List Insn) → checked_at places sizes p.start ≡ Ok insn → AreRead places sizes ps insns → AreRead places sizes (p ∷ ps) (insn ∷ insns)
+more_read places sizes p ps insn insns is rest = record { many = ap suc rest.many; each = by_place }
+  where
+    by_place : (k : ℕ) (x : Insn) → slice_get (insn ∷ insns) k ≡ Some x → (q : Piece) × (slice_get (p ∷ ps) k ≡ Some q) × (checked_at places sizes q.start ≡ Ok x)
+    by_place zero x there = (p, refl, subst (λ (i : Insn). checked_at places sizes p.start ≡ Ok i) (some_same insn x there) is)
+    by_place (suc k) x there = rest.each k x there
+
+pub founds_insns : (places : Places) (sizes : Sizes) (ps : List Piece) → Founds (AreRead places sizes ps) (insns_from places sizes (starts_of ps))
+founds_insns places sizes [] = weaker (Ok []) (done []) (λ y q. subst (AreRead places sizes []) (sym q) (record { many = refl; each = λ k insn there. absurd cc }))
+founds_insns places sizes (p ∷ ps) = weaker (insns_from places sizes (starts_of (p ∷ ps)))
+    (next (exact (checked_at places sizes p.start)) (λ insn _. next (founds_insns places sizes ps) (λ insns _. done (insn ∷ insns))))
+    (λ y q. subst (AreRead places sizes (p ∷ ps)) (sym q.2.2) (more_read places sizes p ps q.0 q.2.0 q.1 q.2.1))
+
+founds_checked : (places : Places) (sizes : Sizes) (p : Piece) → Founds (λ insn. insn_at places p.start ≡ Ok insn) (checked_at places sizes p.start)
+unfolding checked_at
+founds_checked places sizes p = weaker (checked_at places sizes p.start) (next (exact (insn_at places p.start)) (λ insn _. when (code.Operand p.start) (done insn)))
+    (λ y q. subst (λ (i : Insn). insn_at places p.start ≡ Ok i) (sym q.2.1) q.1)
+
+pub read_kind : (places : Places) (sizes : Sizes) (p : Piece) (is : Instructed places.units p) (insn : Insn) → checked_at places sizes p.start ≡ Ok insn → IsKind places p.start (d.opcode p) (fields_at places.units p.start) insn
+read_kind places sizes p is insn h = insn_kind places p is insn ((founds_checked places sizes p).found insn h)

@@ -1,6 +1,6 @@
 -- A fault of code that is answered stands in the code item.
 use Rattle.std.proofs.Common.{◌≡◌, ◌<◌, ℕ, zero, suc, ◌+◌, ◌-◌, ◌*◌, true, false, cond, ltb, List, [], ◌∷◌, length, drop, Option, Some, None, Result, Ok, Err, refl, sym, ap, subst, ◌∙◌, arith, true≢false}
-use Rattle.std.specs.Prelude.{slice_get, slice_index}
+use Rattle.std.specs.Prelude.{slice_get, slice_index, not}
 use Rattle.std.specs.Result.{result_ok}
 use Rattle.dex_base.specs.Word.{u16_at, u32_at}
 use Rattle.insn_set.specs.declared.form.Insn.{Insn}
@@ -15,13 +15,13 @@ use Rattle.code_read.specs.Fault.{passed, refuse}
 use Rattle.code_read.specs.Handlers.{◌>?=◌, caught_at, has_list}
 use Rattle.code_read.specs.Regions.{with_handlers, region, region_of, region_at, try_at, try_item, first_of, end_of, lies_right, keep, regions_from, regions_of}
 use Rattle.code_read.specs.Sweep.{sweep_of}
-use Rattle.code_read.specs.Decoded.{entries_at, checked_at, fields_at}
+use Rattle.code_read.specs.Decoded.{opcode_at, payload_of, entries_at, checked_at, fields_at}
 use Rattle.code_read.specs.Code.{size_at}
 use Rattle.code_read.specs.Order.{ends}
 use Rattle.insn_set.specs.Flow.{goes_on}
 use Rattle.lemmas.proofs.Bools.{not_false, not_true, and_parts}
-use Rattle.lemmas.proofs.Lists.{got_short, get_there, got_map}
-use Rattle.std.proofs.lemmas.Option.{get_or_from_slice_get}
+use Rattle.lemmas.proofs.Lists.{got_short, get_there, got_map, map_long}
+use Rattle.std.proofs.lemmas.Option.{get_or_from_slice_get, slice_get-get_or}
 use Rattle.std.proofs.lemmas.Bool.{eq-eqb}
 use Rattle.dex_defs.specs.Instructions.{opcode}
 use Rattle.dex_defs.specs.Sweep.{starts_of, Piece, Places, instructions, places_of}
@@ -34,6 +34,13 @@ use Rattle.code_laws.proofs.Sweeping.{Swept, Instructed, founds_swept, are_instr
 use Rattle.refused_law.proofs.Failing.{Fails, sound, fails_with, unless, fails_either, fails_next, fails_more}
 use Rattle.refused_code.proofs.Sweeping.{fails_pieces}
 use Rattle.refused_code.proofs.Flowing.{none_begins, are_apart, Sized, are_sized, continuing, gap_there}
+use Rattle.refused_code.proofs.Targeting.{bad_target}
+use Rattle.code_laws.proofs.Decoding.{founds_right}
+use Rattle.code_read.specs.Checks.{targets_inside}
+use Rattle.code_read.specs.Payloads.{has_payload, is_right}
+use Rattle.std.proofs.lemmas.List.Quantifiers.{position-Some}
+use Rattle.insn_set.specs.declared.form.Insn.TheVariants.{Nop}
+use Rattle.std.specs.List.{AllByRecursion}
 use Rattle.refused_code.proofs.Reading.{AreRead, founds_insns, read_kind, fails_entries_at, fails_checked, fails_payloads, fails_insns, one_of}
 
 -- The fault stands in the code item, unless it is that of a limit or one that is open.
@@ -41,7 +48,7 @@ abbrev pub IsJustCode : List ℕ → Sizes → ℕ → CodeFault → Type 0
 IsJustCode bytes sizes at code.NoMemory = ⊥
 IsJustCode bytes sizes at (code.Opcode unit) = BadCode bytes sizes at (code.Opcode unit)
 IsJustCode bytes sizes at (code.Cut unit) = BadCode bytes sizes at (code.Cut unit)
-IsJustCode bytes sizes at (code.Target unit) = Unit {0}
+IsJustCode bytes sizes at (code.Target unit) = BadCode bytes sizes at (code.Target unit)
 IsJustCode bytes sizes at (code.Payload unit) = BadCode bytes sizes at (code.Payload unit)
 IsJustCode bytes sizes at (code.Operand unit) = BadCode bytes sizes at (code.Operand unit)
 IsJustCode bytes sizes at (code.Region place) = Unit {0}
@@ -162,6 +169,27 @@ module _ (bytes : List ℕ) (at : ℕ) (f : Frame) (units : List ℕ) (has : Has
           let none = none_begins insns_are 0 k p (are_apart units 0 ps (length units) swept.to) x.1 (λ t got. next p t x.1 got) in
           subst (λ (n : ℕ). BadCode bytes sizes at (code.FallsOff n)) (sym (start_at k p x.1)) (of_insn (code.FallsOff p.start) (bad.FallsOff k p (fields_at units p.start) (record { is = x.1; fields = i.fields_are }) more none refl))
 
+      -- each instruction that needs a payload has a right one
+      abbrev Right : Piece → Type 0
+      Right p = has_payload (opcode_at units p.start) ≡ true → is_right (opcode_at units p.start) (payload_of places p.start (fields_at units p.start)) ≡ true
+
+      outside_at : AllByRecursion Right insns_are → (k : ℕ) (insn : Insn) → slice_get insns k ≡ Some insn → targets_inside (length insns) insn ≡ false → Just (code.Target (slice_index places.starts k))
+      outside_at right k insn there untrue =
+          let x = read.each k insn there in
+          let p : Piece = x.0 in
+          let i = instructed_at k p x.1 in
+          let kind = read_kind places sizes p i insn x.2 in
+          let own : has_payload (opcode p) ≡ true → is_right (opcode p) (payload_of places p.start (fields_at units p.start)) ≡ true
+          = subst (λ (op : ℕ). has_payload op ≡ true → is_right op (payload_of places p.start (fields_at units p.start)) ≡ true) i.opcode_is (one_of Right insns_are k p right x.1) in
+          let many : length insns ≡ length places.starts = read.many ∙ sym (map_long (λ (q : Piece). q.start) insns_are) in
+          let wrong = bad_target places p (fields_at units p.start) insn kind own (subst (λ (n : ℕ). targets_inside n insn ≡ false) many untrue) in
+          subst (λ (n : ℕ). BadCode bytes sizes at (code.Target n)) (sym (start_at k p x.1)) (of_insn (code.Target p.start) (bad.Target k p (fields_at units p.start) (record { is = x.1; fields = i.fields_are }) wrong refl))
+
+      outside : AllByRecursion Right insns_are → (k : ℕ) → first_outside insns ≡ Some k → Just (code.Target (slice_index places.starts k))
+      outside right k h =
+          let got = position-Some (λ (i : Insn). not (targets_inside (length insns) i)) insns k Nop h in
+          outside_at right k _ (slice_get-get_or insns k Nop got.0) (not_true _ got.1)
+
       gap : (k : ℕ) → first_gap units places.starts insns ≡ Some k → Just (code.FallsOff (slice_index places.starts k))
       gap k h =
           let g = gap_there units places.starts insns k h in
@@ -196,9 +224,9 @@ module _ (bytes : List ℕ) (at : ℕ) (f : Frame) (units : List ℕ) (has : Has
     fails_body : (tries : List ℕ) → Fails Just (body_at tries sizes places)
     unfolding body_at
     fails_body tries =
-        fails_next (fails_payloads places tt 67108864 (instructions ps) fails_entry) (λ checked _.
+        fails_next (fails_payloads places tt 67108864 (instructions ps) fails_entry) (λ checked g. let right = (founds_right places 67108864 (instructions ps)).found checked g in
         fails_next (fails_insns places sizes (instructions ps) fails_operand) (λ insns h. let read = (founds_insns places sizes (instructions ps)).found insns h in
-        fails_next (fails_refuse (λ k. code.Target (slice_index places.starts k)) (first_outside insns) (λ k _. tt)) (λ inside _.
+        fails_next (fails_refuse (λ k. code.Target (slice_index places.starts k)) (first_outside insns) (outside insns read right)) (λ inside _.
         fails_next (fails_next (fails_refuse (λ k. code.FallsOff (slice_index places.starts k)) (first_gap units places.starts insns) (gap insns read)) (λ _ _. fails_last insns read)) (λ flows _.
         fails_next (fails_placed places.starts insns (regions_of tries sizes places) (fails_regions tries places)) (λ regions _. sound (body sizes insns regions))))))
 

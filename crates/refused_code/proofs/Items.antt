@@ -147,7 +147,7 @@ module _ (bytes : List ℕ) (p : Program) (are : values.AreSizes bytes (sizes_in
     of_code_just code.NoMemory h = absurd h
     of_code_just (code.Opcode unit) h = λ _. stands_so (code.Opcode unit) h
     of_code_just (code.Cut unit) h = λ _. stands_so (code.Cut unit) h
-    of_code_just (code.Target unit) h = λ opened. absurd cc
+    of_code_just (code.Target unit) h = λ _. stands_so (code.Target unit) h
     of_code_just (code.Payload unit) h = λ _. stands_so (code.Payload unit) h
     of_code_just (code.Operand unit) h = λ _. stands_so (code.Operand unit) h
     of_code_just (code.Region unit) h = λ opened. absurd cc

@@ -1,6 +1,7 @@
 pub mod Sweeping
 pub mod Reading
 pub mod Flowing
+pub mod Targeting
 pub mod Bodies
 pub mod Frames
 pub mod Items

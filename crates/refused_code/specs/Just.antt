@@ -5,9 +5,8 @@ use Rattle.code_read.specs.declared.fault.CodeFault.TheVariants as code
 use Rattle.dex_read.specs.declared.fault.DexFault.{DexFault}
 use Rattle.dex_read.specs.declared.fault.DexFault.TheVariants as dex
 
--- of code: branches, moves of results and exceptions, regions and their handlers
+-- of code: moves of results and exceptions, regions and their handlers
 abbrev pub is_open_code : CodeFault → Bool
-is_open_code (code.Target unit) = true
 is_open_code (code.Misplaced unit) = true
 is_open_code (code.Region place) = true
 is_open_code (code.Handler place) = true

@@ -1,6 +1,6 @@
 -- A fault of code that is answered stands in the code item.
-use Rattle.std.proofs.Common.{◌≡◌, ◌<◌, ℕ, zero, suc, ◌+◌, ◌-◌, ◌*◌, true, false, cond, ltb, List, [], ◌∷◌, length, drop, Option, Some, None, Result, Ok, Err, refl, sym, ap, subst, ◌∙◌, arith, true≢false}
-use Rattle.std.specs.Prelude.{slice_get, slice_index, not}
+use Rattle.std.proofs.Common.{◌≡◌, ◌<◌, ℕ, zero, suc, ◌+◌, ◌-◌, ◌*◌, true, false, cond, ltb, eqb, Bool, List, [], ◌∷◌, length, drop, Option, Some, None, Result, Ok, Err, refl, sym, ap, subst, ◌∙◌, arith, true≢false}
+use Rattle.std.specs.Prelude.{◌&&◌, slice_get, slice_index, not}
 use Rattle.std.specs.Result.{result_ok}
 use Rattle.dex_base.specs.Word.{u16_at, u32_at}
 use Rattle.insn_set.specs.declared.form.Insn.{Insn}
@@ -193,12 +193,14 @@ module _ (bytes : List ℕ) (at : ℕ) (f : Frame) (units : List ℕ) (has : Has
       gap : (k : ℕ) → first_gap units places.starts insns ≡ Some k → Just (code.FallsOff (slice_index places.starts k))
       gap k h =
           let g = gap_there units places.starts insns k h in
-          let both = and_parts _ _ (and_parts _ _ g.2).1 in
+          let meets : Bool = eqb (slice_index places.starts k + size_at units (slice_index places.starts k)) (slice_index places.starts (k + 1)) in
+          let behind_it = and_parts (ltb k (length places.starts - 1)) (goes_on g.0 && not meets) g.2 in
+          let both = and_parts (goes_on g.0) (not meets) behind_it.1 in
           falls k g.0 g.1 both.0 (λ p t here behind same. true≢false (sym (eq-eqb (slice_index places.starts k + size_at units (slice_index places.starts k)) (slice_index places.starts (k + 1))
           (let start = start_at k p here in
           let next : slice_index places.starts (k + 1) ≡ t.start = start_at (k + 1) t (let one : suc k ≡ k + 1 = omega arith in subst (λ (n : ℕ). slice_get insns_are n ≡ Some t) one behind) in
           let size : size_at units (slice_index places.starts k) ≡ length p.text = ap (size_at units) start ∙ one_of (Sized units) insns_are k p (are_sized units ps swept.lie) here in
-          omega (arith, start, next, size, same))) ∙ not_true _ both.1))
+          omega (arith, start, next, size, same))) ∙ not_true meets both.1))
 
       no_pieces : (qs : List Piece) → length insns ≡ length qs → length insns ≡ 0 → qs ≡ []
       no_pieces [] h e = refl

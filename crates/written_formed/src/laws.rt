@@ -1,0 +1,24 @@
+//! The laws.
+
+ghost use Rattle.std.specs.Prelude.{◌≡◌, ◌≤◌, length, true};
+ghost use Rattle.std.specs.List.{AllByRecursion};
+ghost use Rattle.dex_pools.specs.declared.interner.Interner.{Interner};
+ghost use Rattle.dex_pools.specs.Interned.{IsInterned};
+ghost use Rattle.program_model.specs.declared.program.Program.{Program};
+ghost use Rattle.program_model.specs.TableRules.{tables_fit};
+ghost use Rattle.program_model.specs.BodyRules.{body_fits};
+ghost use Rattle.program_model.specs.declared.body.Body.{Body};
+ghost use Rattle.dex_pools.specs.Numbering.{used_in};
+ghost use Rattle.dex_pools.specs.Used.{body_names};
+ghost use Rattle.names_law.specs.Used.{IsShort, IsUsed};
+ghost use Rattle.dex_defs.specs.Written.{new_body, written_by};
+
+/// The tables of the written program of a program whose tables fit do so, where it has no more classes.
+pub fn tables_fit_law()
+    ensures { (p : Program) (i : Interner) → IsShort p → IsInterned p i → length (written_by i p).classes ≤ length p.classes → tables_fit p ≡ true → tables_fit (written_by i p) ≡ true }
+{}
+
+/// A body that keeps the rules of bodies does so with new numbers, where the program uses what it names.
+pub fn body_fits_law()
+    ensures { (p : Program) (i : Interner) → IsShort p → IsInterned p i → (b : Body) → AllByRecursion (IsUsed (used_in p)) (body_names b) → body_fits p b ≡ true → body_fits (written_by i p) (new_body i.numbers b) ≡ true }
+{}

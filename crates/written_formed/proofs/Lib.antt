@@ -2,3 +2,4 @@ pub mod Lists
 pub mod Kept
 pub mod Tables
 pub mod Bodies
+pub mod Values

@@ -1,6 +1,6 @@
 //! The laws.
 
-ghost use Rattle.std.specs.Prelude.{◌≡◌, ◌≤◌, length, true};
+ghost use Rattle.std.specs.Prelude.{◌≡◌, ◌≤◌, List, length, true};
 ghost use Rattle.std.specs.List.{AllByRecursion};
 ghost use Rattle.dex_pools.specs.declared.interner.Interner.{Interner};
 ghost use Rattle.dex_pools.specs.Interned.{IsInterned};
@@ -9,9 +9,11 @@ ghost use Rattle.program_model.specs.TableRules.{tables_fit};
 ghost use Rattle.program_model.specs.BodyRules.{body_fits};
 ghost use Rattle.program_model.specs.declared.body.Body.{Body};
 ghost use Rattle.dex_pools.specs.Numbering.{used_in};
-ghost use Rattle.dex_pools.specs.Used.{body_names};
+ghost use Rattle.dex_pools.specs.Used.{body_names, marks_names};
+ghost use Rattle.program_model.specs.ValueRules.{marks_fit};
+ghost use Rattle.program_model.specs.declared.value.Mark.{Mark};
 ghost use Rattle.names_law.specs.Used.{IsShort, IsUsed};
-ghost use Rattle.dex_defs.specs.Written.{new_body, written_by};
+ghost use Rattle.dex_defs.specs.Written.{new_body, new_marks, written_by};
 
 /// The tables of the written program of a program whose tables fit do so, where it has no more classes.
 pub fn tables_fit_law()
@@ -21,4 +23,9 @@ pub fn tables_fit_law()
 /// A body that keeps the rules of bodies does so with new numbers, where the program uses what it names.
 pub fn body_fits_law()
     ensures { (p : Program) (i : Interner) → IsShort p → IsInterned p i → (b : Body) → AllByRecursion (IsUsed (used_in p)) (body_names b) → body_fits p b ≡ true → body_fits (written_by i p) (new_body i.numbers b) ≡ true }
+{}
+
+/// So do annotations of one set.
+pub fn marks_fit_law()
+    ensures { (p : Program) (i : Interner) → IsShort p → IsInterned p i → (marks : List Mark) → AllByRecursion (IsUsed (used_in p)) (marks_names marks) → marks_fit p marks ≡ true → marks_fit (written_by i p) (new_marks i.numbers marks) ≡ true }
 {}

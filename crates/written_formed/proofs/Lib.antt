@@ -3,3 +3,4 @@ pub mod Kept
 pub mod Tables
 pub mod Bodies
 pub mod Values
+pub mod Members

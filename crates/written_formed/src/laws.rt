@@ -9,11 +9,13 @@ ghost use Rattle.program_model.specs.TableRules.{tables_fit};
 ghost use Rattle.program_model.specs.BodyRules.{body_fits};
 ghost use Rattle.program_model.specs.declared.body.Body.{Body};
 ghost use Rattle.dex_pools.specs.Numbering.{used_in};
-ghost use Rattle.dex_pools.specs.Used.{body_names, marks_names};
+ghost use Rattle.dex_pools.specs.Used.{body_names, class_names, marks_names};
+ghost use Rattle.program_model.specs.MemberRules.{class_fits};
+ghost use Rattle.program_model.specs.declared.program.Class.{Class};
 ghost use Rattle.program_model.specs.ValueRules.{marks_fit};
 ghost use Rattle.program_model.specs.declared.value.Mark.{Mark};
 ghost use Rattle.names_law.specs.Used.{IsShort, IsUsed};
-ghost use Rattle.dex_defs.specs.Written.{new_body, new_marks, written_by};
+ghost use Rattle.dex_defs.specs.Written.{new_body, new_marks, written_by, written_class};
 
 /// The tables of the written program of a program whose tables fit do so, where it has no more classes.
 pub fn tables_fit_law()
@@ -28,4 +30,9 @@ pub fn body_fits_law()
 /// So do annotations of one set.
 pub fn marks_fit_law()
     ensures { (p : Program) (i : Interner) → IsShort p → IsInterned p i → (marks : List Mark) → AllByRecursion (IsUsed (used_in p)) (marks_names marks) → marks_fit p marks ≡ true → marks_fit (written_by i p) (new_marks i.numbers marks) ≡ true }
+{}
+
+/// And so does a class.
+pub fn class_fits_law()
+    ensures { (p : Program) (i : Interner) → IsShort p → IsInterned p i → (c : Class) → AllByRecursion (IsUsed (used_in p)) (class_names c) → class_fits p c ≡ true → class_fits (written_by i p) (written_class i.numbers p c) ≡ true }
 {}

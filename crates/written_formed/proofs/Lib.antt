@@ -4,3 +4,4 @@ pub mod Tables
 pub mod Bodies
 pub mod Values
 pub mod Members
+pub mod Whole

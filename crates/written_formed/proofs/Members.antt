@@ -54,12 +54,12 @@ map_twice : {X Y Z : Type 0} (g : Y → Z) (f : X → Y) (xs : List X) → map g
 map_twice g f [] = refl
 map_twice g f (x ∷ xs) = ap (λ zs. g (f x) ∷ zs) (map_twice g f xs)
 
-ascends_map : {X Y : Type 0} (f : X → Y) (s : X → X → Bool) (t : Y → Y → Bool) (P : X → Type 0) → ((x y : X) → P x → P y → s x y ≡ true → t (f x) (f y) ≡ true) → (xs : List X) → AllByRecursion P xs → Ascends s xs → Ascends t (map f xs)
+pub ascends_map : {X Y : Type 0} (f : X → Y) (s : X → X → Bool) (t : Y → Y → Bool) (P : X → Type 0) → ((x y : X) → P x → P y → s x y ≡ true → t (f x) (f y) ≡ true) → (xs : List X) → AllByRecursion P xs → Ascends s xs → Ascends t (map f xs)
 ascends_map f s t P to [] all a = tt
 ascends_map f s t P to (x ∷ []) all a = tt
 ascends_map f s t P to (x ∷ (y ∷ ys)) all a = (to x y all.0 all.1.0 a.0, ascends_map f s t P to (y ∷ ys) all.1 a.1)
 
-field_named : (f : Field) → In (named.Field f.name) (field_names f)
+pub field_named : (f : Field) → In (named.Field f.name) (field_names f)
 unfolding field_names
 field_named f = inl refl
 
@@ -156,7 +156,7 @@ module _ (p : Program) (i : Interner) (few : IsShort p) (h : IsInterned p i) whe
       (first_now f.flags f.name f.first u.0 (all_left (IsUsed (used_in p)) (first_names f.first) (marks_names f.marks) u.1) (and_left b c rest))
       (marks_now p i few h f.marks (all_right (IsUsed (used_in p)) (first_names f.first) (marks_names f.marks) u.1) (and_right b c rest)))
 
-  field_own : (class : ℕ) (f : Field) → field_fits p class f ≡ true → has_field p f.name ≡ true
+  pub field_own : (class : ℕ) (f : Field) → field_fits p class f ≡ true → has_field p f.name ≡ true
   unfolding field_fits
   field_own class f t = field_there f.name class (and_left (is_class_number (class_of_field (slice_get p.fields f.name)) class) (first_value_fits p f.flags f.name f.first && marks_fit p f.marks) t)
 

@@ -1,6 +1,11 @@
 //! The laws.
 
-ghost use Rattle.std.specs.Prelude.{◌≡◌, ◌≤◌, List, length, true};
+ghost use Rattle.std.specs.Prelude.{◌≡◌, ◌≤◌, ℕ, List, length, true};
+ghost use Rattle.class_defs.specs.ClassGraph.{IsAncestor, IsTwice};
+ghost use Rattle.dex_write.specs.Order.{IsOrder};
+ghost use Rattle.program_model.specs.Items.{items_of};
+ghost use Rattle.program_model.specs.ProgramRules.{is_well_formed};
+ghost use Rattle.written_formed.specs.Rising.{FieldsRise};
 ghost use Rattle.std.specs.List.{AllByRecursion};
 ghost use Rattle.dex_pools.specs.declared.interner.Interner.{Interner};
 ghost use Rattle.dex_pools.specs.Interned.{IsInterned};
@@ -35,4 +40,17 @@ pub fn marks_fit_law()
 /// And so does a class.
 pub fn class_fits_law()
     ensures { (p : Program) (i : Interner) → IsShort p → IsInterned p i → (c : Class) → AllByRecursion (IsUsed (used_in p)) (class_names c) → class_fits p c ≡ true → class_fits (written_by i p) (written_class i.numbers p c) ≡ true }
+{}
+
+/// The written program of a well-formed one, of which no class is defined twice or is its own ancestor, is well-formed where it keeps the limit
+/// of items.
+pub fn written_formed_within_law()
+    ensures { (p : Program) (i : Interner) (order : List ℕ) → is_well_formed p ≡ true → ((class : ℕ) → IsTwice p class → ⊥) → ((class : ℕ) → IsAncestor p class class → ⊥) → IsInterned p i → IsOrder p order
+        → items_of (written_by i p) ≤ 16777216 → is_well_formed (written_by i p) ≡ true }
+{}
+
+/// It is where the fields keep their order, as those of a file do.
+pub fn written_formed_law()
+    ensures { (p : Program) (i : Interner) (order : List ℕ) → is_well_formed p ≡ true → ((class : ℕ) → IsTwice p class → ⊥) → ((class : ℕ) → IsAncestor p class class → ⊥) → IsInterned p i → IsOrder p order
+        → FieldsRise p i → is_well_formed (written_by i p) ≡ true }
 {}

@@ -1,9 +1,8 @@
 -- A body with new numbers keeps the rules of bodies.
-use Rattle.std.proofs.Common.{◌≡◌, ℕ, ◌+◌, ◌*◌, ◌-◌, suc, Bool, true, not, List, [], ◌∷◌, length, map, refl, sym, ap, ap₂, subst, ◌∙◌, Option, Some, None}
-use Rattle.std.specs.Prelude.{◌&&◌, ◌||◌, is_some, nat_eq, nat_le, nat_lt, slice_get, flat_map, sum_by}
+use Rattle.std.proofs.Common.{◌≡◌, ℕ, ◌+◌, ◌*◌, ◌-◌, true, not, List, [], ◌∷◌, length, map, refl, ap, ap₂, ◌∙◌, Option, Some, None}
+use Rattle.std.specs.Prelude.{◌&&◌, ◌||◌, is_some, nat_eq, nat_le, nat_lt, slice_get, flat_map}
 use Rattle.std.specs.Option.{option_map}
-use Rattle.std.specs.List.{AllByRecursion, list_all, list_any, enumerate_from}
-use Rattle.std.proofs.lemmas.List.Sums.{sum_by-cons}
+use Rattle.std.specs.List.{AllByRecursion, list_all, enumerate_from}
 use Rattle.lemmas.proofs.Bools.{and_both, and_left, and_right}
 use Rattle.lemmas.proofs.Lists.{get_map, map_long}
 use Rattle.insn_set.specs.Flow.{goes_on, targets_of}
@@ -12,7 +11,6 @@ use Rattle.insn_set.specs.declared.form.Insn.{Insn}
 use Rattle.insn_set.specs.declared.form.Insn.TheVariants as insn
 use Rattle.dex_pools.specs.declared.interner.Interner.{Interner}
 use Rattle.dex_pools.specs.declared.used.Named.{Named}
-use Rattle.dex_pools.specs.declared.used.Named.TheVariants as named
 use Rattle.dex_pools.specs.Interned.{IsInterned}
 use Rattle.dex_pools.specs.Numbering.{used_in}
 use Rattle.dex_pools.specs.Used.{insn_names, handler_names, region_names, body_names}
@@ -32,7 +30,7 @@ use Rattle.dex_defs.specs.Written.{new_insn, new_handler, new_region, new_body, 
 use Rattle.names_law.specs.Used.{IsUsed, IsShort}
 use Rattle.names_law.proofs.Marking.{all_left, all_right}
 use Rattle.written_formed.proofs.Kept.{string_kept, type_kept, field_kept, method_kept}
-use Rattle.written_formed.proofs.Lists.{all_named, all_map, any_map, side_map, sum_map, sum_same}
+use Rattle.written_formed.proofs.Lists.{all_named, any_map, side_map, sum_map, sum_same}
 
 -- ---- what of an instruction is no number of a table
 

@@ -1,5 +1,5 @@
 -- What a program names by its numbers, the written program names by the new ones.
-use Rattle.std.proofs.Common.{◌≡◌, ◌<◌, ℕ, true, List, [], length, refl, sym, ap, ◌∙◌, Option, Some, None, ltb-true, lt-ltb, unwrap_or}
+use Rattle.std.proofs.Common.{◌≡◌, ℕ, true, List, [], length, refl, sym, ap, ◌∙◌, Option, Some, None, ltb-true, lt-ltb, unwrap_or}
 use Rattle.std.specs.Prelude.{slice_get}
 use Rattle.std.specs.Option.{option_map}
 use Rattle.std.proofs.lemmas.Option.{unwrap_or-slice_get}

@@ -5,3 +5,4 @@ pub mod Bodies
 pub mod Values
 pub mod Members
 pub mod Whole
+pub mod Rising

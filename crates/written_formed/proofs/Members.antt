@@ -1,5 +1,5 @@
 -- Fields, methods and classes with new numbers keep their rules.
-use Rattle.std.proofs.Common.{◌≡◌, ◌+◌, inl, inr, ℕ, Bool, true, false, not, List, [], ◌∷◌, ◌++◌, length, map, refl, sym, ap, ap₂, subst, ◌∙◌, Option, Some, None, lt-ltb}
+use Rattle.std.proofs.Common.{◌≡◌, ◌+◌, inl, ℕ, Bool, true, false, not, List, [], ◌∷◌, ◌++◌, length, map, refl, sym, ap, ap₂, subst, ◌∙◌, Option, Some, None, lt-ltb}
 use Rattle.std.specs.Prelude.{◌&&◌, ◌||◌, ◌==◌, nat_eq, nat_le, nat_lt, slice_get, sum_by, if◌then◌else◌, option_and_then}
 use Rattle.std.specs.Option.{option_map}
 use Rattle.std.specs.List.{AllByRecursion, list_all, flat_map}
@@ -38,14 +38,14 @@ use Rattle.program_model.specs.declared.value.EncValue.TheFolds.{ind-EncValue}
 use Rattle.program_model.specs.declared.value.Element.{Element}
 use Rattle.program_model.specs.declared.value.Note.{Note}
 use Rattle.dex_defs.specs.Written.{in_order, new_string, new_type, new_proto, new_field, new_method, new_value, new_marks, new_body, written_proto, written_field_name, written_method_name, written_field, written_method, written_class, field_below, method_below, written_by}
-use Rattle.names_law.specs.Used.{IsUsed, IsShort, IsClosed, UsesProto}
+use Rattle.names_law.specs.Used.{IsUsed, IsShort, IsClosed}
 use Rattle.names_law.proofs.Closed.{used_closed}
 use Rattle.names_law.proofs.Marking.{all_left, all_right}
 use Rattle.written_tables.proofs.In.{In, in_flat, all_in, all_of}
 use Rattle.written_tables.proofs.Naming.{value_named}
 use Rattle.written_order.proofs.Sorting.{Differ, news_differ}
 use Rattle.written_sets.proofs.News.{new_open, newly}
-use Rattle.written_formed.proofs.Kept.{Has, string_kept, type_kept, field_got, method_got, proto_got, string_same, type_same, letter_same, one_field, one_method}
+use Rattle.written_formed.proofs.Kept.{string_kept, type_kept, field_got, method_got, proto_got, string_same, type_same, letter_same, one_field, one_method}
 use Rattle.written_formed.proofs.Lists.{order_all, order_tests, order_ascends, ascends_side, groups_total, differ_ordered, differ_all, all_named, all_map}
 use Rattle.written_formed.proofs.Values.{tests_in, marks_now}
 use Rattle.written_formed.proofs.Bodies.{body_now}

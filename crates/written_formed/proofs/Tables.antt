@@ -1,6 +1,6 @@
 -- The tables of the written program are such as a file can spell.
-use Rattle.std.proofs.Common.{◌≡◌, ◌<◌, ◌≤◌, ◌^◌, inl, inr, ℕ, Bool, true, not, List, [], ◌∷◌, length, map, refl, sym, ap, ap₂, subst, ◌∙◌, arith, Some, lt-ltb, ltb-true}
-use Rattle.std.specs.Prelude.{◌&&◌, is_ok, nat_eq, nat_lt, nat_le, slice_get, sum_by}
+use Rattle.std.proofs.Common.{◌≡◌, ◌<◌, ◌≤◌, ◌^◌, ℕ, true, not, List, [], ◌∷◌, length, map, refl, ap, ap₂, ◌∙◌, arith, lt-ltb, ltb-true}
+use Rattle.std.specs.Prelude.{◌&&◌, is_ok, nat_eq, nat_lt, nat_le, sum_by}
 use Rattle.std.specs.List.{AllByRecursion, list_all, zip}
 use Rattle.std.proofs.lemmas.Bool.{le-leb, leb-true}
 use Rattle.lemmas.proofs.Bools.{and_left, and_right, and_both}
@@ -18,7 +18,6 @@ use Rattle.program_model.specs.declared.pools.FieldName.{FieldName}
 use Rattle.program_model.specs.declared.pools.MethodName.{MethodName}
 use Rattle.program_model.specs.declared.pools.Proto.{Proto}
 use Rattle.program_model.specs.declared.program.Program.{Program}
-use Rattle.class_defs.proofs.WellFormed.{Sound}
 use Rattle.dex_defs.specs.Written.{new_string, new_type, new_proto, written_proto, written_field_name, written_method_name, written_by}
 use Rattle.names_law.specs.Used.{IsSet, IsUsed, UsesProto, UsesField, UsesMethod, IsShort, IsClosed}
 use Rattle.names_law.specs.Owning.{IsNoLonger}
@@ -28,7 +27,7 @@ use Rattle.names_law.proofs.Owning.{order_set, no_longer}
 use Rattle.names_law.proofs.Ascending.{once}
 use Rattle.names_law.proofs.Rising.{all_ascend}
 use Rattle.read_laws.proofs.Differing.{texts_differ, types_differ, protos_differ, fields_differ, methods_differ}
-use Rattle.written_tables.proofs.In.{In, all_in}
+use Rattle.written_tables.proofs.In.{all_in}
 use Rattle.written_formed.proofs.Kept.{Has, string_kept, type_kept, proto_kept, string_same, letter_same}
 use Rattle.written_formed.proofs.Lists.{entries_all, entries_most}
 

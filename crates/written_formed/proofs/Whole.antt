@@ -1,11 +1,11 @@
 -- The whole written program: its interfaces, what room it takes, and that it is well-formed.
 use Rattle.std.proofs.Common.{◌≡◌, ◌<◌, ◌≤◌, ◌+◌, inl, inr, ℕ, Bool, true, false, not, List, [], ◌∷◌, ◌++◌, length, map, refl, sym, ap, ap₂, subst, ◌∙◌, arith, Option, Some, None, ltb-true, lt-ltb}
-use Rattle.std.specs.Prelude.{◌&&◌, ◌||◌, is_some, nat_eq, nat_le, nat_lt, slice_get, sum_by, if◌then◌else◌}
+use Rattle.std.specs.Prelude.{◌&&◌, ◌||◌, is_some, nat_eq, nat_lt, slice_get, sum_by, if◌then◌else◌}
 use Rattle.std.specs.Option.{option_map}
 use Rattle.std.specs.List.{AllByRecursion, list_all, list_any, flat_map}
 use Rattle.std.proofs.lemmas.Bool.{eq-eqb, eqb-true, ne_eqb, le-leb, leb-true}
 use Rattle.std.proofs.lemmas.List.Sums.{sum_by-cons}
-use Rattle.lemmas.proofs.Bools.{and_both, and_left, and_right, clash, neither_of, none_or, not_true, not_of_false, untrue}
+use Rattle.lemmas.proofs.Bools.{and_both, and_left, and_right, clash, none_or, not_true, not_of_false, untrue}
 use Rattle.lemmas.proofs.Lists.{all_at, any_at, map_long}
 use Rattle.lemmas.proofs.Options.{mapped_some}
 use Rattle.dex_pools.specs.declared.interner.Interner.{Interner}
@@ -19,12 +19,10 @@ use Rattle.program_model.specs.Cells.{cells_of, class_cells, method_cells, body_
 use Rattle.program_model.specs.InterfaceRules.{is_plain_class, defines_so, defines_plain, stands_free, interfaces_stand_free}
 use Rattle.program_model.specs.Items.{marks_items, first_items_from, field_items, fields_items, body_items, method_items, class_items, proto_items, items_of}
 use Rattle.program_model.specs.MemberRules.{is_static, in_groups, field_fits, fields_in_order, class_fits}
-use Rattle.program_model.specs.Neighbours.{neighbours}
 use Rattle.program_model.specs.ProgramRules.{is_well_formed}
 use Rattle.program_model.specs.Texts.{has_type, has_field}
 use Rattle.program_model.specs.declared.body.Body.{Body}
 use Rattle.program_model.specs.declared.pass.Renumber.{Renumber}
-use Rattle.program_model.specs.declared.pools.Proto.{Proto}
 use Rattle.program_model.specs.declared.program.Field.{Field}
 use Rattle.program_model.specs.declared.program.Method.{Method}
 use Rattle.program_model.specs.declared.program.Class.{Class}
@@ -36,16 +34,16 @@ use Rattle.dex_write.specs.Order.{IsOrder}
 use Rattle.names_law.specs.Used.{IsUsed, IsShort}
 use Rattle.names_law.proofs.Ascending.{once}
 use Rattle.names_law.proofs.Carried.{entries_long}
-use Rattle.names_law.proofs.Marking.{all_left, all_right}
+use Rattle.names_law.proofs.Marking.{all_left}
 use Rattle.write_laws.proofs.Tabled.{short_of, is_short}
 use Rattle.written_tables.proofs.Fit.{Parts, parts_of, FitsClass, class_at_fits}
-use Rattle.written_tables.proofs.In.{In, Place, place_in, in_left, in_right, in_flat, all_in, all_of}
-use Rattle.written_order.specs.Behind.{Behind, AllBehind}
+use Rattle.written_tables.proofs.In.{In, Place, place_in, in_left, in_right, in_flat, all_of}
+use Rattle.written_order.specs.Behind.{AllBehind}
 use Rattle.written_order.proofs.Few.{differ_few}
 use Rattle.written_order.proofs.Order.{has_append, order_is, order_behind}
 use Rattle.written_order.proofs.Places.{has}
 use Rattle.written_order.proofs.Plans.{behind_inside, class_used, named_name}
-use Rattle.written_order.proofs.Sorting.{Differ, Once, once_of}
+use Rattle.written_order.proofs.Sorting.{Differ, once_of}
 use Rattle.written_formed.specs.Rising.{FieldsRise}
 use Rattle.written_formed.proofs.Kept.{one_kind}
 use Rattle.written_formed.proofs.Lists.{entries_all, entries_most, ordered_stays, side_ascends, sum_map, sum_same, sum_ordered}
@@ -285,5 +283,5 @@ module _ (p : Program) (i : Interner) (order : List ℕ) (formed_p : is_well_for
 pub written_but_items : (p : Program) (i : Interner) (order : List ℕ) → is_well_formed p ≡ true → ((class : ℕ) → IsTwice p class → ⊥) → ((class : ℕ) → IsAncestor p class class → ⊥) → IsInterned p i → IsOrder p order → items_of (written_by i p) ≤ 16777216 → is_well_formed (written_by i p) ≡ true
 written_but_items p i order formed_p single grounded h ordering le = but_items p i order formed_p single grounded h ordering le
 
-pub written_formed : (p : Program) (i : Interner) (order : List ℕ) → is_well_formed p ≡ true → ((class : ℕ) → IsTwice p class → ⊥) → ((class : ℕ) → IsAncestor p class class → ⊥) → IsInterned p i → IsOrder p order → FieldsRise p i → is_well_formed (written_by i p) ≡ true
-written_formed p i order formed_p single grounded h ordering rises = all_formed p i order formed_p single grounded h ordering rises
+pub formed_where_rising : (p : Program) (i : Interner) (order : List ℕ) → is_well_formed p ≡ true → ((class : ℕ) → IsTwice p class → ⊥) → ((class : ℕ) → IsAncestor p class class → ⊥) → IsInterned p i → IsOrder p order → FieldsRise p i → is_well_formed (written_by i p) ≡ true
+formed_where_rising p i order formed_p single grounded h ordering rises = all_formed p i order formed_p single grounded h ordering rises

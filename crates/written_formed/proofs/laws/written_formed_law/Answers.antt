@@ -1,4 +1,4 @@
-use Rattle.written_formed.proofs.Whole.{written_formed}
+use Rattle.written_formed.proofs.Rising.{written_formed}
 use Rattle.written_formed.proofs.laws.written_formed_law.Goals as goal
 
 pub returns : goal.returns

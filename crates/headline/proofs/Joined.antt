@@ -37,7 +37,7 @@ use Rattle.redex_cli.specs.declared.fetching.Inputs.{Inputs}
 use Rattle.headline.proofs.LaidOut.{left_lies, written_left_lies}
 use Rattle.headline.specs.Headline.{Headline, KeepsMeaning, IsSpelled, Shrinks}
 use Rattle.headline.specs.Admitted.{admitted_in}
-use Rattle.headline.proofs.Rising.{names_rise_for, is_spelled}
+use Rattle.headline.proofs.Rising.{names_rise_for, fields_ascend_for, is_spelled}
 use Rattle.written_shown.proofs.Looks.{shown_on}
 
 -- the table of rules, with conditions or without, shuts no method
@@ -141,7 +141,7 @@ shrinks inline voices tells inputs output summary f =
     let means : dex.Spells inputs.file f.program = read_is_spelled inputs.file f.program f.small f.reads in
     let kept : KeepsMeaning inline f.told [] f.program f.outside f.shrunk.left =
     keeps inline f.told [] f.program f.shrunk.left f.outside f.shrunk.rounds f.shrunk.spared accepted (table_holds inputs.rules inputs.library f.program f.outside accepted.formed accepted.graph.once f.table) f.shrunk.leaves in
-    let spells : IsSpelled f.shrunk.left output = is_spelled f.shrunk.left output f.shrunk.written kept.formed kept.once kept.grounded kept.typed (names_rise_for inline inputs.file f.program f.shrunk.left kept.admitted f.reads accepted.formed kept.stays)
+    let spells : IsSpelled f.shrunk.left output = is_spelled f.shrunk.left output f.shrunk.written kept.formed kept.once kept.grounded kept.typed (names_rise_for inline inputs.file f.program f.shrunk.left kept.admitted f.reads accepted.formed kept.stays) (fields_ascend_for inline inputs.file f.program f.shrunk.left kept.admitted f.reads accepted.formed kept.stays)
     (written_left_lies f.program f.shrunk.left f.outside f.shrunk.rounds f.shrunk.spared f.told [] accepted inline inputs.file output f.reads f.shrunk.leaves kept.formed f.shrunk.written) f.shrunk.are_bytes in record {
       program = f.program;
       reads = f.reads;

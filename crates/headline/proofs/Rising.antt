@@ -1,10 +1,14 @@
 -- What is left of a program that was read names, in its annotations, strings of the part of its table that was read.
-use Rattle.std.proofs.Common.{◌≡◌, ℕ, zero, suc, Bool, true, false, List, [], ◌∷◌, length, refl, sym, ap, subst, ◌∙◌, Option, Some, Ok}
-use Rattle.std.specs.Prelude.{◌<◌, slice_get, slice_index, take}
-use Rattle.std.specs.List.{AllByRecursion}
+use Rattle.std.proofs.Common.{◌≡◌, ◌<◌, ltb-true, ℕ, zero, suc, Bool, true, false, List, [], ◌∷◌, length, refl, sym, ap, subst, ◌∙◌, Option, Some, Ok}
+use Rattle.std.specs.Prelude.{◌&&◌, not, is_ok, nat_lt, slice_get, slice_index, take}
+use Rattle.std.specs.List.{AllByRecursion, list_all}
+use Rattle.lemmas.proofs.Bools.{and_left, and_right}
 use Rattle.lemmas.proofs.Options.{some_same}
 use Rattle.program_model.specs.ProgramRules.{is_well_formed}
+use Rattle.program_model.specs.TableRules.{type_fits, field_id_fits}
+use Rattle.program_model.specs.Texts.{has_string, has_type, is_void, letter_of, string_text}
 use Rattle.program_model.specs.declared.body.Body.{Body}
+use Rattle.program_model.specs.declared.pools.FieldName.{FieldName}
 use Rattle.program_model.specs.declared.value.Mark.{Mark}
 use Rattle.program_model.specs.declared.program.Class.{Class}
 use Rattle.program_model.specs.declared.program.Field.{Field}
@@ -13,9 +17,14 @@ use Rattle.program_model.specs.declared.program.Program.{Program}
 use Rattle.pass_defs.specs.Typed.{IsTyped}
 use Rattle.dalvik_defs.specs.Naming.{named}
 use Rattle.dex_pools.specs.Finds.{Ascends}
-use Rattle.dex_pools.specs.Order.{list_below}
+use Rattle.dex_pools.specs.Order.{list_below, field_below}
+use Rattle.dex_base.specs.Descriptor.{descriptor_of}
 use Rattle.dex_read.specs.File.{program_at}
 use Rattle.read_laws.proofs.Rising.{strings_rise}
+use Rattle.read_laws.proofs.Told.{IsRead, is_read}
+use Rattle.class_defs.proofs.WellFormed.{sound}
+use Rattle.written_formed.specs.Rising.{FieldsAscend}
+use Rattle.written_formed.proofs.Rising.{written_formed}
 use Rattle.staticise.specs.Loosened.{marks_loosened}
 use Rattle.static_kept.specs.Staying.{MethodStaysAlongBy, ClassStaysAlongBy, StaysAlongBy}
 use Rattle.written_tables.proofs.Fit.{Parts, parts_of, class_at_fits}
@@ -83,16 +92,56 @@ pub names_rise_for : (inline : Bool) (bytes : List ℕ) (p q : Program) (admitte
 names_rise_for false bytes p q admitted reads formed s = names_rise bytes p q NoMoreRegisters admitted reads formed s
 names_rise_for true bytes p q admitted reads formed s = names_rise bytes p q FewRegisters admitted reads formed s
 
--- what is written for a program in whose annotations names rise
-pub is_spelled : (p : Program) (bytes : List ℕ) (w : writer.IsWritten p bytes) → is_well_formed p ≡ true → ((class : ℕ) → IsTwice p class → ⊥) → ((class : ℕ) → IsAncestor p class class → ⊥) → IsTyped (named p) → NamesRise p → LaysOut (written_by w.interner p)
+-- ---- fields in their order
+
+each : {X : Type 0} (t : X → Bool) (P : X → Type 0) → ((x : X) → t x ≡ true → P x) → (xs : List X) → list_all t xs ≡ true → AllByRecursion P xs
+each t P to [] h = tt
+each t P to (x ∷ xs) h = (to x (and_left (t x) (list_all t xs) h), each t P to xs (and_right (t x) (list_all t xs) h))
+
+type_low : (p : Program) (s : ℕ) → type_fits p s ≡ true → s < length p.strings
+type_low p s h = ltb-true s (length p.strings) (and_left (has_string p s) (is_ok (descriptor_of (string_text p s))) h)
+
+field_low : (p : Program) (f : FieldName) → field_id_fits p f ≡ true → f.name < length p.strings
+field_low p f h =
+    let b = has_string p f.name in
+    let c = not (is_void (letter_of p f.kind)) in
+    ltb-true f.name (length p.strings) (and_left b c (and_right (has_type p f.class && has_type p f.kind) (b && c) h))
+
+types_ascend : (bytes : List ℕ) (p : Program) → program_at bytes ≡ Ok p → Ascends nat_lt p.types
+types_ascend bytes p h =
+    let r : IsRead bytes p = is_read bytes p h in
+    subst (λ (q : Program). Ascends nat_lt q.types) (sym r.is) (subst (λ (t : Program). Ascends nat_lt t.types) (sym r.made) r.spells.types_ascend)
+
+fields_in_order : (bytes : List ℕ) (p : Program) → program_at bytes ≡ Ok p → Ascends field_below p.fields
+fields_in_order bytes p h =
+    let r : IsRead bytes p = is_read bytes p h in
+    subst (λ (q : Program). Ascends field_below q.fields) (sym r.is) (subst (λ (t : Program). Ascends field_below t.fields) (sym r.made) r.spells.fields_ascend)
+
+fields_ascend : (bytes : List ℕ) (p q : Program) (registers_are : Option Body → Option Body → Type 0) (admitted : List Bool) → program_at bytes ≡ Ok p → is_well_formed p ≡ true → StaysAlongBy registers_are admitted p q → FieldsAscend q
+fields_ascend bytes p q registers_are admitted reads formed s = record {
+  strings = length p.strings;
+  ascend = subst (λ (l : List (List ℕ)). Ascends list_below l) (sym (front p.strings q.strings s.strings)) (strings_rise bytes p reads);
+  types = subst (λ (x : Program). Ascends nat_lt x.types) (sym s.rest) (types_ascend bytes p reads);
+  fields = subst (λ (x : Program). Ascends field_below x.fields) (sym s.rest) (fields_in_order bytes p reads);
+  of_types = subst (λ (x : Program). AllByRecursion (λ n. n < length p.strings) x.types) (sym s.rest) (each (type_fits p) (λ n. n < length p.strings) (type_low p) p.types (sound p formed).types_fit);
+  of_fields = subst (λ (x : Program). AllByRecursion (λ (f : FieldName). f.name < length p.strings) x.fields) (sym s.rest) (each (field_id_fits p) (λ f. f.name < length p.strings) (field_low p) p.fields (sound p formed).fields_fit);
+}
+
+pub fields_ascend_for : (inline : Bool) (bytes : List ℕ) (p q : Program) (admitted : List Bool) → program_at bytes ≡ Ok p → is_well_formed p ≡ true → StaysFor inline admitted p q → FieldsAscend q
+fields_ascend_for false bytes p q admitted reads formed s = fields_ascend bytes p q NoMoreRegisters admitted reads formed s
+fields_ascend_for true bytes p q admitted reads formed s = fields_ascend bytes p q FewRegisters admitted reads formed s
+
+-- what is written for a program in whose annotations names rise, and whose fields stand in order
+pub is_spelled : (p : Program) (bytes : List ℕ) (w : writer.IsWritten p bytes) → is_well_formed p ≡ true → ((class : ℕ) → IsTwice p class → ⊥) → ((class : ℕ) → IsAncestor p class class → ⊥) → IsTyped (named p) → NamesRise p → FieldsAscend p → LaysOut (written_by w.interner p)
     → ((i : ℕ) → slice_index bytes i < 256) → IsSpelled p bytes
-is_spelled p bytes w formed once grounded typed rise lays small = record {
+is_spelled p bytes w formed once grounded typed rise fields lays small = record {
   spelled = written_by w.interner p;
   is = record { interner = w.interner; used = w.interned; is = refl };
   valid = (written_is_valid p bytes w formed once grounded rise lays).valid;
   only = λ other spells. spells_once bytes other (written_by w.interner p) small spells (written_is_valid p bytes w formed once grounded rise lays).valid.spelled;
   again = λ other reads. spells_once bytes other (written_by w.interner p) small (read_is_spelled bytes other small reads) (written_is_valid p bytes w formed once grounded rise lays).valid.spelled;
   signed = w.sealed.signature;
+  formed = written_formed p w.interner w.places formed once grounded w.interned w.ordered fields;
   typed = written_typed p w.interner w.places formed once grounded w.interned w.ordered typed;
   shows = written_shows p w.interner w.places formed once grounded w.interned w.ordered;
 }

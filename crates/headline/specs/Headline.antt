@@ -93,7 +93,7 @@ pub record KeepsMeaning (inline : Bool) (voices : List Voice) (given : List Bool
   pub stays : StaysFor inline admitted program left
 
 -- The written program of what is left has the entries that are used, in order, and the classes, each behind those above it. The output is
--- a valid file that spells it and no other program, and signed; what is read of the output is this program again. It is typed, and within
+-- a valid file that spells it and no other program, and signed; what is read of the output is this program again. It is well-formed and typed, and within
 -- each number of steps it shows what is left shows, whatever may be reached from outside.
 pub record IsSpelled (left : Program) (output : List ℕ) : Type 0 where
   pub spelled : Program
@@ -102,6 +102,7 @@ pub record IsSpelled (left : Program) (output : List ℕ) : Type 0 where
   pub only : (other : Program) → dex.Spells output other → other ≡ spelled
   pub again : (other : Program) → program_at output ≡ Ok other → other ≡ spelled
   pub signed : IsSigned output
+  pub formed : is_well_formed spelled ≡ true
   pub typed : IsTyped (named spelled)
   pub shows : (o : Outer) (f : Framework) (a : Floats) (script : List Move) (n : ℕ) → shows (named spelled) o f a script n ≡ shows (named left) o f a script n
 

@@ -93,8 +93,8 @@ pub record KeepsMeaning (inline : Bool) (voices : List Voice) (given : List Bool
   pub stays : StaysFor inline admitted program left
 
 -- The written program of what is left has the entries that are used, in order, and the classes, each behind those above it. The output is
--- a valid file that spells it and no other program, and signed; what is read of the output is this program again. It is well-formed and typed, and within
--- each number of steps it shows what is left shows, whatever may be reached from outside.
+-- a valid file that spells it and no other program, and signed; what is read of the output is this program again. It is well-formed and
+-- typed, and within each number of steps it shows what is left shows, whatever may be reached from outside.
 pub record IsSpelled (left : Program) (output : List ℕ) : Type 0 where
   pub spelled : Program
   pub is : meant.IsWritten left spelled

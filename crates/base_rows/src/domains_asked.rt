@@ -28,18 +28,24 @@ fn say_above<D: Domain>(answer: &mut Answer, a: &D, b: &D) {
     answer.say_whether(is_above && is_low);
 }
 
-/// A list of so many known values.
-fn list(alloc: Global, count: u32) -> Result<Env<Flat<u32>>, AllocError> {
-    Env::filled(alloc, count, Flat::Known(7u32))
+/// A list of a known value.
+fn short_list(alloc: Global) -> Result<Env<Flat<u32>>, AllocError> {
+    Env::filled(alloc, 1, Flat::Known(7u32))
 }
 
-/// Whether it is so of a known value in a short list and two others in a longer one.
+/// A list of two values, the first of which is another one.
+fn long_list(alloc: Global) -> Result<Env<Flat<u32>>, AllocError> {
+    let mut long = Env::filled(alloc, 2, Flat::Known(7u32))?;
+    long.set(0, Flat::Known(8));
+    Ok(long)
+}
+
+/// Whether it is so of a short list and a longer one.
 fn say_list_above(answer: &mut Answer) {
     let alloc = answer.alloc();
-    let short = answer.taken(list(alloc, 1));
-    let long = answer.taken(list(alloc, 2));
-    if let (Some(short), Some(mut long)) = (short, long) {
-        long.set(0, Flat::Known(8));
+    let short = answer.taken(short_list(alloc));
+    let long = answer.taken(long_list(alloc));
+    if let (Some(short), Some(long)) = (short, long) {
         say_above(answer, &short, &long);
     }
 }

@@ -4,25 +4,31 @@ use crate::desk::{Desk, copied};
 use crate::files::{changed, summed};
 use program_text::Answer;
 
+/// Adds what a run answers on a beginning of so many bytes, in a line of its own.
+fn say_cut(answer: &mut Answer, length: usize, cut: &str) {
+    if !answer.text().is_empty() {
+        answer.say("\n");
+    }
+    answer.say("from ");
+    answer.say_value(&length);
+    answer.say(" on it ");
+    answer.say(cut);
+}
+
 /// What a run answers on each shorter beginning of the file, said once for all lengths, one behind the other, for which it is
 /// the same.
 pub fn each_cut(answer: &mut Answer, desk: &mut Desk, words: &str) {
     let file = copied(answer, desk.held("in"));
     let mut one = Answer::new(answer.alloc());
     let mut last = Answer::new(answer.alloc());
-    let mut before = "from ";
     for length in 0..file.len() {
         desk.put(answer, "in", file.as_slice().get(..length).unwrap_or(&[]));
         one.clear();
         desk.run(&mut one, words);
         if one.text() != last.text() {
-            answer.say(before);
-            answer.say_value(&length);
-            answer.say(" on it ");
-            answer.say(one.text());
+            say_cut(answer, length, one.text());
             last.clear();
             last.say(one.text());
-            before = "\nfrom ";
         }
     }
     answer.note(one.lacks_memory() || last.lacks_memory());

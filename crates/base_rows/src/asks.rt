@@ -1,69 +1,106 @@
 //! The words that begin a line which asks.
 
-use crate::{code, domains_asked, flows, lines, maps_asked, texts};
+use crate::{advisers, code, domains_asked, edges, flows, lines, maps_asked, shelves, texts};
 use command_line::{USAGE, read_words};
-use row_text::{Page, Trouble};
-use std::alloc::Global;
+use program_text::Answer;
+use std::rt::{Env, Files};
+
+/// Adds what words spell.
+fn say_command(answer: &mut Answer, words: &[String]) {
+    match read_words(answer.alloc(), words) {
+        Ok(Some(command)) => answer.say_value(&command),
+        Ok(None) => answer.say("none"),
+        Err(_) => answer.note(true),
+    }
+}
 
 /// What the words between brackets spell, of which two blanks have an empty one between them.
-fn words(alloc: Global, line: &str) -> Result<String, Trouble> {
-    let mut words = Vec::new(alloc);
-    let (_, rest) = line.split_once('[').ok_or(Trouble::Words)?;
-    let (said, _) = rest.rsplit_once(']').ok_or(Trouble::Words)?;
+fn words(answer: &mut Answer, line: &str) {
+    let (_, rest) = answer.split(line, "[");
+    let said = rest.strip_suffix(']').unwrap_or("");
+    let mut words = Vec::new(answer.alloc());
     for word in said.split(' ') {
-        words.push(String::from_str(alloc, word)?)?;
+        let made = String::from_str(answer.alloc(), word);
+        if let Some(word) = answer.taken(made) {
+            answer.note(words.push(word).is_err());
+        }
     }
-    Ok(match read_words(alloc, words.as_slice())? {
-        None => String::from_str(alloc, "none")?,
-        Some(command) => format!(in alloc; "{command:?}")?,
-    })
+    say_command(answer, words.as_slice());
 }
 
 /// What no words at all spell.
-fn no_words(alloc: Global) -> Result<String, Trouble> {
-    let words = Vec::new(alloc);
-    let command = read_words(alloc, words.as_slice())?;
-    Ok(format!(in alloc; "{command:?}")?)
+fn no_words(answer: &mut Answer) {
+    answer.say("Some(");
+    say_command(answer, &[]);
+    answer.say(")");
 }
 
 /// The answer to a line about a program.
-fn of_program(
-    alloc: Global,
-    page: &Page,
-    first: &str,
-    second: &str,
-    third: &str,
-) -> Result<String, Trouble> {
+fn of_program(answer: &mut Answer, text: &str, first: &str, second: &str, third: &str) {
     match first {
-        "layout" => code::layout(alloc, page.text()),
-        "goto-over" => code::goto_over(alloc, second),
-        "if-over" => code::if_over(alloc, second),
-        "order" => flows::order(alloc, second, third),
-        "successors" => flows::successors_at(alloc, page.text(), second),
-        "blocks" => flows::firsts(alloc, page.text()),
-        _ => Err(Trouble::Words),
+        "layout" => code::layout(answer, text, second),
+        "goto-over" => code::goto_over(answer, second),
+        "if-over" => code::if_over(answer, second),
+        "order" => flows::order(answer, second, third),
+        "successors" => flows::successors_at(answer, text, second),
+        "blocks" => flows::firsts(answer, text),
+        _ => answer.refuse(),
     }
 }
 
-/// The answer to a line.
-pub fn answer(alloc: Global, page: &Page, line: &str) -> Result<String, Trouble> {
+/// The answer to a line on domains, maps, lines or a program.
+fn of_lists(answer: &mut Answer, text: &str, line: &str) {
     let mut pieces = line.split(' ');
     let first = pieces.next().unwrap_or("");
     let second = pieces.next().unwrap_or("");
     let third = pieces.next().unwrap_or("");
     let fourth = pieces.next().unwrap_or("");
     match first {
-        "words" => words(alloc, line),
-        "no-words" => no_words(alloc),
-        "usage" => Ok(format!(in alloc; "{USAGE:?}")?),
-        "insn" => code::insn(alloc, line),
-        "domain" => domains_asked::answer(alloc, second, third, fourth),
-        "map" => maps_asked::answer(alloc, second, third, fourth),
-        "lines" => lines::read(alloc, second, third, fourth),
-        "write-lines" => lines::write(alloc, second, third, fourth),
-        _ => match texts::answer(alloc, first, second, third, fourth)? {
-            Some(answer) => Ok(answer),
-            None => of_program(alloc, page, first, second, third),
-        },
+        "domain" => domains_asked::answer(answer, second, third, fourth),
+        "map" => maps_asked::answer(answer, second, third, fourth),
+        "lines" => lines::read(answer, second, third, fourth),
+        "write-lines" => lines::write(answer, second, third, fourth),
+        _ => {
+            if !texts::answer(answer, first, second, third, fourth) {
+                of_program(answer, text, first, second, third);
+            }
+        }
+    }
+}
+
+/// The answer to a line on words, advisers and reads, or else on lists.
+fn of_words(answer: &mut Answer, text: &str, line: &str) {
+    let (first, rest) = line.split_once(' ').unwrap_or((line, ""));
+    match first {
+        "words" => words(answer, line),
+        "no-words" => no_words(answer),
+        "usage" => answer.say_value(&USAGE),
+        "insn" => code::insn(answer, rest),
+        "budget" => advisers::budget(answer, rest),
+        "panel" => advisers::panel(answer, rest),
+        "prefixes" => advisers::prefixes(answer, rest),
+        "read-all" => edges::read(answer, rest),
+        "read-broken" => edges::broken(answer, rest),
+        "read-long" => edges::long(answer, rest),
+        "write-all" => edges::write(answer, rest),
+        _ => of_lists(answer, text, line),
+    }
+}
+
+/// The answer to a line.
+pub fn answer(
+    rt: &(impl Files + Env + Print + AllocGlobal),
+    answer: &mut Answer,
+    text: &str,
+    line: &str,
+) {
+    let (first, rest) = line.split_once(' ').unwrap_or((line, ""));
+    match first {
+        "memory" => shelves::memory(answer, rest),
+        "sure" => shelves::sure(answer, rest),
+        "files" => shelves::files(rt, answer, rest),
+        "notes" => shelves::notes(answer, rest),
+        "standard" => shelves::standard(rt, answer, rest),
+        _ => of_words(answer, text, line),
     }
 }

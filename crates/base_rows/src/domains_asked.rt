@@ -2,79 +2,102 @@
 
 use domains::{ClassSet, Interval, Nullness, Value, Word};
 use lattice_core::{Domain, Env, Flat, Lattice, Lifted, Pair};
-use row_text::{Trouble, numbers};
+use program_text::Answer;
 use std::alloc::{AllocError, Global};
 
-/// Whether a join and a widening are above both values, and a copy and the least value at or below the first.
-fn is_above<D: Domain>(alloc: Global, a: &D, b: &D) -> Result<bool, AllocError> {
-    let joined = a.join(alloc, b)?;
-    let widened = a.widen(alloc, b)?;
-    let above = a.leq(&joined) && b.leq(&joined) && a.leq(&widened) && b.leq(&widened);
-    Ok(above && a.copy(alloc)?.leq(a) && D::bottom(alloc).leq(a))
+/// Whether there is a value, and it is above both others.
+fn is_upper<D: Domain>(a: &D, b: &D, upper: &Option<D>) -> bool {
+    match upper {
+        Some(upper) => a.leq(upper) && b.leq(upper),
+        None => false,
+    }
 }
 
-/// Whether it is so of a known value in a short list and two others in a longer one.
-fn is_list_above(alloc: Global) -> Result<bool, AllocError> {
-    let short = Env::filled(alloc, 1, Flat::Known(7u32))?;
+/// Whether a join and a widening are above both values, and a copy and the least value at or below the first.
+fn say_above<D: Domain>(answer: &mut Answer, a: &D, b: &D) {
+    let alloc = answer.alloc();
+    let joined = answer.taken(a.join(alloc, b));
+    let widened = answer.taken(a.widen(alloc, b));
+    let copied = answer.taken(a.copy(alloc));
+    let least = D::bottom(alloc);
+    let is_above = is_upper(a, b, &joined) && is_upper(a, b, &widened);
+    let is_low = match &copied {
+        Some(copied) => copied.leq(a) && least.leq(a),
+        None => false,
+    };
+    answer.say_whether(is_above && is_low);
+}
+
+/// A list of a known value.
+fn short_list(alloc: Global) -> Result<Env<Flat<u32>>, AllocError> {
+    Env::filled(alloc, 1, Flat::Known(7u32))
+}
+
+/// A list of two values, the first of which is another one.
+fn long_list(alloc: Global) -> Result<Env<Flat<u32>>, AllocError> {
     let mut long = Env::filled(alloc, 2, Flat::Known(7u32))?;
     long.set(0, Flat::Known(8));
-    is_above(alloc, &short, &long)
+    Ok(long)
 }
 
-/// Whether it is so of two pairs that share their first part.
-fn is_pair_above(alloc: Global) -> Result<bool, AllocError> {
-    let low = Pair {
+/// Whether it is so of a short list and a longer one.
+fn say_list_above(answer: &mut Answer) {
+    let alloc = answer.alloc();
+    let short = answer.taken(short_list(alloc));
+    let long = answer.taken(long_list(alloc));
+    if let (Some(short), Some(long)) = (short, long) {
+        say_above(answer, &short, &long);
+    }
+}
+
+/// Two pairs that share their first part.
+fn pair(second: u8) -> Pair<Flat<u32>, Flat<u8>> {
+    Pair {
         first: Flat::Known(1u32),
-        second: Flat::Known(2u8),
-    };
-    let high = Pair {
-        first: Flat::Known(1u32),
-        second: Flat::Known(3u8),
-    };
-    is_above(alloc, &low, &high)
+        second: Flat::Known(second),
+    }
 }
 
 /// Whether it is so of two values of each domain.
-fn are_above(alloc: Global, name: &str) -> Result<bool, Trouble> {
-    Ok(match name {
-        "word" => is_above(alloc, &Word::Known(1), &Word::KnownWide(1))?,
-        "interval" => is_above(alloc, &Interval::between(0, 1), &Interval::between(-4, 9))?,
-        "nullness" => is_above(alloc, &Nullness::Null, &Nullness::NotNull)?,
-        "classes" => is_above(alloc, &ClassSet::exactly(3), &ClassSet::exactly(2))?,
-        "value" => is_above(alloc, &Value::constant(0), &Value::any())?,
-        "flat" => is_above(alloc, &Flat::Known(3u32), &Flat::Known(4))?,
-        "lifted" => is_above(
-            alloc,
+fn above(answer: &mut Answer, name: &str) {
+    match name {
+        "word" => say_above(answer, &Word::Known(1), &Word::KnownWide(1)),
+        "interval" => say_above(answer, &Interval::between(0, 1), &Interval::between(-4, 9)),
+        "nullness" => say_above(answer, &Nullness::Null, &Nullness::NotNull),
+        "classes" => say_above(answer, &ClassSet::exactly(3), &ClassSet::exactly(2)),
+        "value" => say_above(answer, &Value::constant(0), &Value::any()),
+        "flat" => say_above(answer, &Flat::Known(3u32), &Flat::Known(4)),
+        "lifted" => say_above(
+            answer,
             &Lifted::Unreached,
             &Lifted::Reached(Flat::Known(3u32)),
-        )?,
-        "list" => is_list_above(alloc)?,
-        "pair" => is_pair_above(alloc)?,
-        _ => return Err(Trouble::Words),
-    })
+        ),
+        "list" => say_list_above(answer),
+        "pair" => say_above(answer, &pair(2), &pair(3)),
+        _ => answer.refuse(),
+    }
 }
 
 /// How many classes a join of sets of one class has.
-fn classes(alloc: Global, list: &str) -> Result<String, Trouble> {
+fn classes(answer: &mut Answer, list: &str) {
+    let alloc = answer.alloc();
+    let numbers = answer.numbers(list);
     let mut joined = ClassSet::none();
-    for class in &numbers(alloc, list)? {
-        joined = joined.join(alloc, &ClassSet::exactly(*class))?;
-    }
-    Ok(match joined.classes() {
-        Some(classes) => {
-            let count = classes.len();
-            format!(in alloc; "{count} classes")?
+    for class in numbers.as_slice() {
+        if let Some(next) = answer.taken(joined.join(alloc, &ClassSet::exactly(*class))) {
+            joined = next;
         }
-        None => String::from_str(alloc, "any class")?,
-    })
+    }
+    match joined.classes() {
+        Some(classes) => say_count(answer, classes.len()),
+        None => answer.say("any class"),
+    }
 }
 
-/// What is known of a value.
-fn known(alloc: Global, value: &Value) -> Result<String, AllocError> {
-    let interval = value.interval();
-    let (low, high) = (interval.low, interval.high);
-    let (word, not_null) = (value.known(), value.not_null());
-    format!(in alloc; "{word:?}, from {low} to {high}, not null {not_null}")
+/// Adds a number of classes.
+fn say_count(answer: &mut Answer, count: usize) {
+    answer.say_value(&count);
+    answer.say(" classes");
 }
 
 /// A number that is not null, between two others, of one class.
@@ -87,37 +110,59 @@ fn bound(low: i32, high: i32) -> Value {
     )
 }
 
-/// The answer to a line on domains.
-pub fn answer(alloc: Global, name: &str, a: &str, b: &str) -> Result<String, Trouble> {
-    let number = a.parse::<u16>().unwrap_or(0);
-    let other = b.parse::<u16>().unwrap_or(0);
-    let (low, high) = (i32::from(number), i32::from(other));
-    let value = match name {
-        "above" => {
-            let is_above = are_above(alloc, a)?;
-            return Ok(format!(in alloc; "{is_above}")?);
-        }
-        "classes" => return classes(alloc, a),
-        "bound-classes" => {
-            let count = bound(low, high).classes().map_or(0, |list| list.len());
-            return Ok(format!(in alloc; "{count} classes")?);
-        }
-        "wide" => {
-            let known = Value::wide(u64::from(number)).known_wide();
-            return Ok(format!(in alloc; "{known:?}")?);
-        }
-        "widened" => {
-            let widened = Interval::between(0, low).widen(alloc, &Interval::between(0, high))?;
-            Value::of(Word::Any, widened, Nullness::Any, ClassSet::any())
-        }
-        "constant" => Value::constant(u32::from(number)),
-        "joined" => {
-            let other = Value::constant(u32::from(other));
-            Value::constant(u32::from(number)).join(alloc, &other)?
-        }
-        "bound" => bound(low, high),
+/// The widening of two intervals.
+fn widened(answer: &mut Answer, low: i32, high: i32) -> Value {
+    let widened = Interval::between(0, low).widen(answer.alloc(), &Interval::between(0, high));
+    let interval = answer.taken(widened).unwrap_or(Interval::full());
+    Value::of(Word::Any, interval, Nullness::Any, ClassSet::any())
+}
+
+/// The join of two constants.
+fn joined(answer: &mut Answer, low: u32, high: u32) -> Value {
+    let joined = Value::constant(low).join(answer.alloc(), &Value::constant(high));
+    answer.taken(joined).unwrap_or(Value::any())
+}
+
+/// The value of a line.
+fn value(answer: &mut Answer, name: &str, low: u16, high: u16) -> Value {
+    match name {
+        "widened" => widened(answer, i32::from(low), i32::from(high)),
+        "constant" => Value::constant(u32::from(low)),
+        "joined" => joined(answer, u32::from(low), u32::from(high)),
+        "bound" => bound(i32::from(low), i32::from(high)),
         "null" => Value::of(Word::Any, Interval::full(), Nullness::Null, ClassSet::any()),
-        _ => return Err(Trouble::Words),
-    };
-    Ok(known(alloc, &value)?)
+        _ => {
+            answer.refuse();
+            Value::any()
+        }
+    }
+}
+
+/// What is known of a value.
+fn say_known(answer: &mut Answer, value: &Value) {
+    let interval = value.interval();
+    answer.say_value(&value.known());
+    answer.say_number(", from ", i128::from(interval.low));
+    answer.say_number(" to ", i128::from(interval.high));
+    answer.say(", not null ");
+    answer.say_whether(value.not_null());
+}
+
+/// The answer to a line on domains.
+pub fn answer(answer: &mut Answer, name: &str, a: &str, b: &str) {
+    let low = a.parse::<u16>().unwrap_or(0);
+    let high = b.parse::<u16>().unwrap_or(0);
+    match name {
+        "above" => above(answer, a),
+        "classes" => classes(answer, a),
+        "bound-classes" => {
+            let bound = bound(i32::from(low), i32::from(high));
+            say_count(answer, bound.classes().map_or(0, |list| list.len()));
+        }
+        "wide" => answer.say_value(&Value::wide(u64::from(low)).known_wide()),
+        _ => {
+            let value = value(answer, name, low, high);
+            say_known(answer, &value);
+        }
+    }
 }

@@ -5,8 +5,7 @@ ghost use Rattle.std.specs.List.{AllByRecursion};
 ghost use Rattle.line_tables.specs.Text.{AscendsFrom};
 
 use line_tables::{read_lines, write_lines};
-use row_text::{Trouble, bytes, digits_of, list_of, number, numbers};
-use std::alloc::Global;
+use program_text::Answer;
 
 /// Whether the starts ascend strictly from one on.
 fn ascend(low: u32, starts: &[u32]) -> bool
@@ -28,37 +27,47 @@ fn are_low(lines: &[u32]) -> bool
     }
 }
 
-/// The bytes of a table behind `ff`: lines, starts and how many parameters there are.
-pub fn write(
-    alloc: Global,
-    lines: &str,
-    starts: &str,
-    parameters: &str,
-) -> Result<String, Trouble> {
-    let lines = numbers(alloc, lines)?;
-    let starts = numbers(alloc, starts)?;
-    let parameters = number(parameters)?;
-    let mut out = vec![in alloc; 0xff]?;
-    let are_fine = ascend(0, starts.as_slice()) && are_low(lines.as_slice());
+/// Adds the bytes of a table behind `ff`.
+fn say_written(answer: &mut Answer, lines: &[u32], starts: &[u32], parameters: u32) {
+    let are_fine = ascend(0, starts) && are_low(lines);
     if !are_fine || lines.len() != starts.len() {
-        return Err(Trouble::Words);
+        answer.refuse();
+        return;
     }
-    write_lines(&mut out, lines.as_slice(), starts.as_slice(), parameters)?;
-    Ok(digits_of(alloc, out.as_slice())?)
+    let mut out = Vec::new(answer.alloc());
+    let is_lost = out.push(0xff).is_err()
+        || write_lines(&mut out, lines, starts, parameters).is_err();
+    answer.note(is_lost);
+    answer.say_bytes(out.as_slice());
+}
+
+/// The bytes of a table behind `ff`: lines, starts and how many parameters there are.
+pub fn write(answer: &mut Answer, lines: &str, starts: &str, parameters: &str) {
+    let lines = answer.numbers(lines);
+    let starts = answer.numbers(starts);
+    let parameters = answer.number(parameters);
+    say_written(answer, lines.as_slice(), starts.as_slice(), parameters);
+}
+
+/// Adds the lines that bytes from the second one on give to starts, and how many opcodes are read, of at most so many.
+fn say_read(answer: &mut Answer, bytes: &[u8], starts: &[u32], most: u32) {
+    let read = read_lines(answer.alloc(), bytes, 1, starts, most);
+    if let Some(read) = answer.taken(read) {
+        answer.say_number("", i128::from(read.opcodes));
+        match &read.lines {
+            Some(lines) => {
+                answer.say(" opcodes, lines ");
+                answer.say_numbers(lines.as_slice());
+            }
+            None => answer.say(" opcodes, no lines"),
+        }
+    }
 }
 
 /// The lines that bytes from the second one on give to starts, and how many opcodes are read, of at most so many.
-pub fn read(alloc: Global, digits: &str, starts: &str, most: &str) -> Result<String, Trouble> {
-    let bytes = bytes(alloc, digits)?;
-    let starts = numbers(alloc, starts)?;
-    let most = number(most)?;
-    let read = read_lines(alloc, bytes.as_slice(), 1, starts.as_slice(), most)?;
-    let opcodes = read.opcodes;
-    Ok(match read.lines {
-        Some(lines) => {
-            let lines = list_of(alloc, lines.as_slice())?;
-            format!(in alloc; "{opcodes} opcodes, lines {lines}")?
-        }
-        None => format!(in alloc; "{opcodes} opcodes, no lines")?,
-    })
+pub fn read(answer: &mut Answer, digits: &str, starts: &str, most: &str) {
+    let bytes = answer.bytes(digits);
+    let starts = answer.numbers(starts);
+    let most = answer.number(most);
+    say_read(answer, bytes.as_slice(), starts.as_slice(), most);
 }

@@ -2,48 +2,52 @@
 
 use lattice_core::Flat;
 use pat_map::PatMap;
-use row_text::{Trouble, numbers};
-use std::alloc::{AllocError, Global};
+use program_text::Answer;
 
 /// A map of these keys, each with its place among them.
-fn map_of(alloc: Global, keys: &[u32]) -> Result<PatMap<Flat<u32>>, AllocError> {
+fn map_of(answer: &mut Answer, keys: &str) -> PatMap<Flat<u32>> {
+    let alloc = answer.alloc();
+    let keys = answer.numbers(keys);
     let mut map = PatMap::empty();
     let mut place: u32 = 0;
-    for key in keys {
-        map = map.set(alloc, *key, Flat::Known(place))?;
+    for key in keys.as_slice() {
+        if let Some(next) = answer.taken(map.set(alloc, *key, Flat::Known(place))) {
+            map = next;
+        }
         place = place.saturating_add(1);
     }
-    Ok(map)
+    map
 }
 
-/// What a map has at a key.
-fn value_at(alloc: Global, map: &PatMap<Flat<u32>>, key: u32) -> Result<String, AllocError> {
+/// Adds what a map has at a key.
+fn say_value(answer: &mut Answer, map: &PatMap<Flat<u32>>, key: u32) {
     match map.get(key) {
-        Some(Flat::Known(place)) => format!(in alloc; "{place}"),
-        Some(Flat::Any) => String::from_str(alloc, "any"),
-        _ => String::from_str(alloc, "none"),
+        Some(Flat::Known(place)) => answer.say_number("", i128::from(*place)),
+        Some(Flat::Any) => answer.say("any"),
+        _ => answer.say("none"),
     }
 }
 
-/// What the join of two maps has at some keys.
-fn values_at(
-    alloc: Global,
-    map: &PatMap<Flat<u32>>,
-    keys: &[u32],
-) -> Result<Vec<String>, AllocError> {
-    let mut values = Vec::new(alloc);
+/// Adds what a map has at some keys.
+fn say_values(answer: &mut Answer, map: &PatMap<Flat<u32>>, keys: &[u32]) {
+    let mut before = "[\"";
     for key in keys {
-        values.push(value_at(alloc, map, *key)?)?;
+        answer.say(before);
+        say_value(answer, map, *key);
+        before = "\", \"";
     }
-    Ok(values)
+    answer.say("\"]");
 }
 
 /// What the join of two maps has at some keys, and whether both are at or below it.
-pub fn answer(alloc: Global, a: &str, b: &str, keys: &str) -> Result<String, Trouble> {
-    let first = map_of(alloc, numbers(alloc, a)?.as_slice())?;
-    let second = map_of(alloc, numbers(alloc, b)?.as_slice())?;
-    let joined = first.union_with(alloc, &second)?;
-    let is_above = first.leq_with(&joined) && second.leq_with(&joined);
-    let values = values_at(alloc, &joined, numbers(alloc, keys)?.as_slice())?;
-    Ok(format!(in alloc; "{values:?}, above {is_above}")?)
+pub fn answer(answer: &mut Answer, a: &str, b: &str, keys: &str) {
+    let first = map_of(answer, a);
+    let second = map_of(answer, b);
+    let keys = answer.numbers(keys);
+    let joined = first.union_with(answer.alloc(), &second);
+    if let Some(joined) = answer.taken(joined) {
+        say_values(answer, &joined, keys.as_slice());
+        answer.say(", above ");
+        answer.say_whether(first.leq_with(&joined) && second.leq_with(&joined));
+    }
 }

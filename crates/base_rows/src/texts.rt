@@ -1,121 +1,133 @@
 //! Numbers and texts of a file.
 
 use dex_base::{
-    BaseFault, Descriptor, Text, adler, compare_units, read_sleb, read_text, read_u16, read_u32,
+    BaseFault, Descriptor, adler, compare_units, read_sleb, read_text, read_u16, read_u32,
     read_uleb, split_descriptor, write_sleb, write_text, write_u16, write_u32, write_uleb,
 };
-use program_text::units_of;
-use row_text::{Trouble, bytes, digits_of, number, place};
-use std::alloc::{AllocError, Global};
+use program_text::Answer;
 
-/// A fault as it is said.
-fn fault_text(alloc: Global, fault: BaseFault) -> Result<String, AllocError> {
+/// Adds a fault as it is said.
+fn say_fault(answer: &mut Answer, fault: BaseFault) {
     match fault {
-        BaseFault::NoMemory => Err(AllocError),
-        fault => format!(in alloc; "{fault}"),
+        BaseFault::NoMemory => answer.note(true),
+        fault => answer.say_text(&fault),
+    }
+}
+
+/// Adds a number that was read, and where it ends if that is not where it begins, or the fault.
+fn say_read(answer: &mut Answer, read: Result<(i64, usize), BaseFault>, at: usize) {
+    match read {
+        Ok((number, next)) => {
+            answer.say_number("", i128::from(number));
+            if next != at {
+                answer.say(" up to ");
+                answer.say_value(&next);
+            }
+        }
+        Err(fault) => say_fault(answer, fault),
     }
 }
 
 /// A number that is read and where it ends, or the fault.
-fn read_number(alloc: Global, name: &str, bytes: &[u8], at: usize) -> Result<String, AllocError> {
+fn read_number(answer: &mut Answer, name: &str, digits: &str, at: usize) {
+    let bytes = answer.bytes(digits);
+    let bytes = bytes.as_slice();
     let read = match name {
         "uleb" => read_uleb(bytes, at).map(|(number, next)| (i64::from(number), next)),
         "sleb" => read_sleb(bytes, at).map(|(number, next)| (i64::from(number), next)),
         "u16" => read_u16(bytes, at).map(|number| (i64::from(number), at)),
         _ => read_u32(bytes, at).map(|number| (i64::from(number), at)),
     };
-    match read {
-        Ok((number, next)) if next == at => format!(in alloc; "{number}"),
-        Ok((number, next)) => format!(in alloc; "{number} up to {next}"),
-        Err(fault) => fault_text(alloc, fault),
-    }
+    say_read(answer, read, at);
 }
 
 /// The bytes of a number behind `ff`.
-fn written_number(alloc: Global, name: &str, number: i64) -> Result<String, Trouble> {
-    let mut out = vec![in alloc; 0xff]?;
-    let signed = i32::try_from(number);
-    let unsigned = u32::try_from(number);
-    let short = u16::try_from(number);
-    match (name, signed, unsigned, short) {
-        ("write-sleb", Ok(number), _, _) => write_sleb(&mut out, number)?,
-        ("write-uleb", _, Ok(number), _) => write_uleb(&mut out, number)?,
-        ("write-u32", _, Ok(number), _) => write_u32(&mut out, number)?,
-        ("write-u16", _, _, Ok(number)) => write_u16(&mut out, number)?,
-        _ => return Err(Trouble::Words),
-    }
-    Ok(digits_of(alloc, out.as_slice())?)
-}
-
-/// A text of these units.
-fn text(alloc: Global, word: &str) -> Result<Text, AllocError> {
-    Ok(Text::from_vec(units_of(alloc, word)?))
+fn write_number(answer: &mut Answer, name: &str, number: i64) {
+    let mut out = Vec::new(answer.alloc());
+    let begun = out.push(0xff).is_err();
+    let signed = i32::try_from(number).unwrap_or(0);
+    let unsigned = u32::try_from(number).unwrap_or(0);
+    let written = match name {
+        "write-sleb" => write_sleb(&mut out, signed),
+        "write-uleb" => write_uleb(&mut out, unsigned),
+        "write-u32" => write_u32(&mut out, unsigned),
+        _ => write_u16(&mut out, u16::try_from(number).unwrap_or(0)),
+    };
+    answer.note(begun || written.is_err());
+    answer.say_bytes(out.as_slice());
 }
 
 /// The bytes of a text behind `ff`.
-fn written_text(alloc: Global, word: &str) -> Result<String, AllocError> {
-    let mut out = vec![in alloc; 0xff]?;
-    write_text(&mut out, &text(alloc, word)?)?;
-    digits_of(alloc, out.as_slice())
+fn written_text(answer: &mut Answer, word: &str) {
+    let mut out = Vec::new(answer.alloc());
+    let text = answer.text_of(word);
+    let is_lost = out.push(0xff).is_err() || write_text(&mut out, &text).is_err();
+    answer.note(is_lost);
+    answer.say_bytes(out.as_slice());
 }
 
-/// A text of so many units that is read, and where it ends, or the fault.
-fn read_units(alloc: Global, bytes: &[u8], at: usize, count: u32) -> Result<String, Trouble> {
-    Ok(match read_text(alloc, bytes, at, count) {
+/// Adds a text of so many units that is read, and where it ends, or the fault.
+fn read_units(answer: &mut Answer, digits: &str, at: usize, count: u32) {
+    let bytes = answer.bytes(digits);
+    match read_text(answer.alloc(), bytes.as_slice(), at, count) {
         Ok((text, next)) => {
-            let mut out = String::new(alloc);
             for unit in text.units() {
-                write!(out, "{unit:04x} ")?;
+                answer.say_bytes(&unit.to_be_bytes());
+                answer.say(" ");
             }
-            write!(out, "up to {next}")?;
-            out
+            answer.say("up to ");
+            answer.say_value(&next);
         }
-        Err(fault) => fault_text(alloc, fault)?,
-    })
-}
-
-/// What a descriptor says.
-fn descriptor(alloc: Global, word: &str) -> Result<String, AllocError> {
-    match split_descriptor(&text(alloc, word)?) {
-        Ok(Descriptor::Void) => String::from_str(alloc, "void"),
-        Ok(Descriptor::Primitive(letter)) => format!(in alloc; "primitive {letter:02x}"),
-        Ok(Descriptor::Class) => String::from_str(alloc, "class"),
-        Ok(Descriptor::Array { depth }) => format!(in alloc; "array of depth {depth}"),
-        Err(fault) => fault_text(alloc, fault),
+        Err(fault) => say_fault(answer, fault),
     }
 }
 
-/// The answer to a line on numbers or texts, none where it is on something else.
-pub fn answer(
-    alloc: Global,
-    first: &str,
-    second: &str,
-    third: &str,
-    fourth: &str,
-) -> Result<Option<String>, Trouble> {
-    Ok(Some(match first {
+/// What a descriptor says.
+fn descriptor(answer: &mut Answer, word: &str) {
+    let text = answer.text_of(word);
+    match split_descriptor(&text) {
+        Ok(Descriptor::Void) => answer.say("void"),
+        Ok(Descriptor::Primitive(letter)) => {
+            answer.say("primitive ");
+            answer.say_bytes(&[letter]);
+        }
+        Ok(Descriptor::Class) => answer.say("class"),
+        Ok(Descriptor::Array { depth }) => {
+            answer.say("array of depth ");
+            answer.say_value(&depth);
+        }
+        Err(fault) => say_fault(answer, fault),
+    }
+}
+
+/// How two texts are ordered.
+fn compare(answer: &mut Answer, a: &str, b: &str) {
+    let a = answer.text_of(a);
+    let b = answer.text_of(b);
+    answer.say_value(&compare_units(&a, &b));
+}
+
+/// The answer to a line on numbers or texts; it answers whether it is such a line.
+pub fn answer(answer: &mut Answer, first: &str, second: &str, third: &str, fourth: &str) -> bool {
+    match first {
         "uleb" | "sleb" | "u16" | "u32" => {
-            let bytes = bytes(alloc, second)?;
-            read_number(alloc, first, bytes.as_slice(), place(third)?)?
+            let at = answer.place(third);
+            read_number(answer, first, second, at);
         }
         "text" => {
-            let bytes = bytes(alloc, second)?;
-            read_units(alloc, bytes.as_slice(), place(third)?, number(fourth)?)?
+            let at = answer.place(third);
+            let count = answer.number(fourth);
+            read_units(answer, second, at, count);
         }
-        "adler" => {
-            let sum = adler(second.as_bytes());
-            format!(in alloc; "{sum:08x}")?
-        }
-        "write-text" => written_text(alloc, second)?,
-        "compare" => {
-            let order = compare_units(&text(alloc, second)?, &text(alloc, third)?);
-            format!(in alloc; "{order:?}")?
-        }
-        "descriptor" => descriptor(alloc, second)?,
+        "adler" => answer.say_bytes(&adler(second.as_bytes()).to_be_bytes()),
+        "write-text" => written_text(answer, second),
+        "compare" => compare(answer, second, third),
+        "descriptor" => descriptor(answer, second),
         "write-uleb" | "write-sleb" | "write-u16" | "write-u32" => {
-            let number = second.parse::<i64>().map_err(|_| Trouble::Words)?;
-            written_number(alloc, first, number)?
+            let number = second.parse::<i64>().unwrap_or(0);
+            write_number(answer, first, number);
         }
-        _ => return Ok(None),
-    }))
+        _ => return false,
+    }
+    true
 }

@@ -1,36 +1,25 @@
 //! Programs that are well-formed and those that are not, and how large they are.
 
-use crate::matching::program_of;
-use dex_base::Text;
 use program_model::{Insn, Program, count_cells, well_formed};
-use program_text::units_of;
-use row_text::{Trouble, number, place};
-use std::alloc::{AllocError, Global};
+use program_text::Answer;
 
 /// A text with a line in place of another one.
-fn changed(alloc: Global, text: &str, old: &str, new: &str) -> Result<String, AllocError> {
-    let mut out = String::new(alloc);
+pub fn changed(answer: &mut Answer, text: &str, old: &str, new: &str) -> String {
+    let mut out = String::new(answer.alloc());
     for line in text.lines() {
-        out.push_str(if line.trim() == old { new } else { line })?;
-        out.push_str("\n")?;
+        let line = if line.trim() == old { new } else { line };
+        answer.note(out.push_str(line).is_err() || out.push_str("\n").is_err());
     }
-    Ok(out)
+    out
 }
 
 /// Whether a program is well-formed.
-fn verdict(alloc: Global, program: &Program) -> Result<String, Trouble> {
-    let verdict = if well_formed(program) {
+pub fn say_formed(answer: &mut Answer, program: &Program) {
+    answer.say(if well_formed(program) {
         "well formed"
     } else {
         "ill formed"
-    };
-    Ok(String::from_str(alloc, verdict)?)
-}
-
-/// Whether the program of a text is well-formed that has a line in place of another one.
-pub fn formed(alloc: Global, text: &str, old: &str, new: &str) -> Result<String, Trouble> {
-    let text = changed(alloc, text, old, new)?;
-    verdict(alloc, &program_of(alloc, text.as_str())?)
+    });
 }
 
 /// Puts a number into an entry of the tables of types and protos.
@@ -88,37 +77,46 @@ fn put_in_class(program: &mut Program, table: &str, place: usize, number: u32) {
     }
 }
 
-/// Whether the program of a text is well-formed in which an entry of a table has another number: the line has the table,
-/// the place and the number, and for a string its text.
-pub fn formed_where(alloc: Global, text: &str, line: &str) -> Result<String, Trouble> {
-    let mut words = line.split_whitespace();
-    let table = words.next().ok_or(Trouble::Words)?;
-    let at = place(words.next().ok_or(Trouble::Words)?)?;
-    let last = words.next().ok_or(Trouble::Words)?;
-    let mut program = program_of(alloc, text)?;
+/// Puts a number into an entry of a table.
+fn put(program: &mut Program, table: &str, place: usize, number: u32) {
     match table {
-        "string" => {
-            let text = Text::from_vec(units_of(alloc, last)?);
-            if let Some(string) = program.strings.items.get_mut(at) {
-                *string = text;
-            }
-        }
-        "type" | "shorty" | "parameter" => put_in_proto(&mut program, table, at, number(last)?),
-        "source" | "call" | "lines" => put_in_class(&mut program, table, at, number(last)?),
-        _ => put_in_member(&mut program, table, at, number(last)?),
+        "type" | "shorty" | "parameter" => put_in_proto(program, table, place, number),
+        "source" | "call" | "lines" => put_in_class(program, table, place, number),
+        _ => put_in_member(program, table, place, number),
     }
-    verdict(alloc, &program)
+}
+
+/// Puts a text in place of a string.
+fn put_string(answer: &mut Answer, program: &mut Program, place: usize, word: &str) {
+    let text = answer.text_of(word);
+    if let Some(string) = program.strings.items.get_mut(place) {
+        *string = text;
+    }
+}
+
+/// Whether a program is well-formed in which an entry of a table has another number: the line has the table, the place and
+/// the number, and for a string its text.
+pub fn formed_where(answer: &mut Answer, program: &mut Program, line: &str) {
+    let mut words = line.split_whitespace();
+    let table = words.next().unwrap_or("");
+    let place = answer.place(words.next().unwrap_or(""));
+    let last = words.next().unwrap_or("");
+    if table == "string" {
+        put_string(answer, program, place, last);
+    } else {
+        put(program, table, place, answer.number(last));
+    }
+    say_formed(answer, program);
 }
 
 /// How many cells a program has.
-pub fn cells(alloc: Global, text: &str) -> Result<String, Trouble> {
-    let cells = count_cells(&program_of(alloc, text)?);
-    Ok(format!(in alloc; "{cells}")?)
+pub fn cells(answer: &mut Answer, program: &Program) {
+    answer.say_number("", i128::from(count_cells(program)));
 }
 
 /// Whether a copy of a program is the same.
-pub fn copy(alloc: Global, text: &str) -> Result<String, Trouble> {
-    let program = program_of(alloc, text)?;
-    let is_same = program.clone()? == program;
-    Ok(format!(in alloc; "{is_same}")?)
+pub fn copy(answer: &mut Answer, program: &Program) {
+    if let Some(copy) = answer.taken(program.clone()) {
+        answer.say_whether(copy == *program);
+    }
 }

@@ -2,13 +2,11 @@
 
 ghost use Rattle.std.specs.Prelude.{◌≡◌, ◌&&◌, nat_lt, length};
 
-use hierarchy::{Hierarchy, HierarchyFault};
-use keep_rules::{RuleFault, outside_of, read_rules};
+use hierarchy::Hierarchy;
+use keep_rules::{outside_of, read_rules};
 use program_model::{Outside, Program};
-use program_text::{TextFault, assemble, field_text, method_text, type_text};
-use row_text::{Texts, Trouble, lines_of};
+use program_text::{Answer, say_field, say_method, say_type};
 use rule_text::Rules;
-use std::alloc::{AllocError, Global};
 
 /// Whether each table of numbers, and the list of classes, has fewer than a hundred entries, as the rows have it.
 fn is_small(program: &Program) -> bool
@@ -20,110 +18,96 @@ fn is_small(program: &Program) -> bool
         && program.classes.len() < 100
 }
 
-/// The program of a text.
-pub fn program_of(alloc: Global, text: &str) -> Result<Program, Trouble> {
-    match assemble(alloc, text) {
-        Ok(program) => Ok(program),
-        Err(TextFault::NoMemory) => Err(Trouble::NoMemory),
-        Err(_) => Err(Trouble::Words),
-    }
-}
-
-/// The classes of a program.
-fn classes_of(alloc: Global, program: &Program) -> Result<Hierarchy, Trouble> {
-    match Hierarchy::build(alloc, program) {
-        Ok(hierarchy) => Ok(hierarchy),
-        Err(HierarchyFault::NoMemory) => Err(Trouble::NoMemory),
-        Err(_) => Err(Trouble::Words),
-    }
-}
-
-/// The rules of a short text.
-fn rules_of(alloc: Global, text: &[u8]) -> Result<Rules, Trouble> {
-    if text.len() > 1000 {
-        return Err(Trouble::Words);
-    }
-    match read_rules(alloc, text) {
-        Ok(rules) => Ok(rules),
-        Err(RuleFault::NoMemory) => Err(Trouble::NoMemory),
-        Err(_) => Err(Trouble::Words),
-    }
-}
-
-/// What rules keep of a program.
-fn outside(alloc: Global, program: &Program, rules: &[u8]) -> Result<Outside, Trouble> {
-    if !is_small(program) {
-        return Err(Trouble::Words);
-    }
-    let hierarchy = classes_of(alloc, program)?;
-    let rules = rules_of(alloc, rules)?;
-    match outside_of(alloc, &rules, program, &hierarchy) {
-        Ok(outside) => Ok(outside),
-        Err(_) => Err(Trouble::NoMemory),
+/// Adds the classes with these numbers.
+fn list_classes(answer: &mut Answer, program: &Program, classes: &[u32]) {
+    for class in classes {
+        answer.next();
+        say_type(answer, program, *class);
     }
 }
 
 /// Adds the members with these numbers behind a word, if there are any.
-fn add_members(
-    alloc: Global,
+fn list_members(
+    answer: &mut Answer,
     program: &Program,
     word: &str,
     fields: &[u32],
     methods: &[u32],
-    texts: &mut Texts,
-) -> Result<(), AllocError> {
+) {
     if !(fields.is_empty() && methods.is_empty()) && !word.is_empty() {
-        texts.add(word)?;
+        answer.list(word);
     }
     for field in fields {
-        texts.add(field_text(alloc, program, *field)?.as_str())?;
+        answer.next();
+        say_field(answer, program, *field);
     }
     for method in methods {
-        texts.add(method_text(alloc, program, *method)?.as_str())?;
+        answer.next();
+        say_method(answer, program, *method);
     }
-    Ok(())
+}
+
+/// Adds what is kept on a condition: classes, fields and methods.
+fn list_conditional(answer: &mut Answer, program: &Program, outside: &Outside) {
+    for one in outside.classes_if.as_slice() {
+        answer.next();
+        say_type(answer, program, one.class);
+        answer.say(" if ");
+        say_type(answer, program, one.owner);
+    }
+    let (fields, methods) = (outside.fields_if.as_slice(), outside.methods_if.as_slice());
+    list_members(answer, program, "if", fields, methods);
+}
+
+/// Adds what an outside has, in words.
+fn say_outside(answer: &mut Answer, program: &Program, outside: &Outside) {
+    answer.begin_list();
+    list_classes(answer, program, outside.classes.as_slice());
+    let (fields, methods) = (outside.fields.as_slice(), outside.methods.as_slice());
+    list_members(answer, program, "", fields, methods);
+    list_conditional(answer, program, outside);
+    list_members(answer, program, "silent", &[], outside.silent.as_slice());
+    list_members(answer, program, "shut", &[], outside.shut.as_slice());
+    if !outside.shrink {
+        answer.list("noshrink");
+    }
+    if !outside.optimise {
+        answer.list("nooptimise");
+    }
+    answer.end_list();
+}
+
+/// Adds what rules keep of a program.
+fn say_kept(answer: &mut Answer, program: &Program, rules: &Rules) {
+    if !is_small(program) {
+        answer.refuse();
+        return;
+    }
+    let Ok(hierarchy) = Hierarchy::build(answer.alloc(), program) else {
+        answer.refuse();
+        return;
+    };
+    match outside_of(answer.alloc(), rules, program, &hierarchy) {
+        Ok(outside) => say_outside(answer, program, &outside),
+        Err(_) => answer.note(true),
+    }
+}
+
+/// Adds what the rules of a short text keep of a program.
+fn say_matched(answer: &mut Answer, program: &Program, text: &[u8]) {
+    if text.len() > 1000 {
+        answer.refuse();
+        return;
+    }
+    match read_rules(answer.alloc(), text) {
+        Ok(rules) => say_kept(answer, program, &rules),
+        Err(_) => answer.refuse(),
+    }
 }
 
 /// What rules keep of a program: classes, fields and methods, the same on a condition behind `if`, silent and shut methods
 /// behind these words, and what is forbidden.
-pub fn kept(alloc: Global, text: &str, rules: &str) -> Result<String, Trouble> {
-    let program = program_of(alloc, text)?;
-    let rules = lines_of(alloc, rules)?;
-    let outside = outside(alloc, &program, rules.as_slice())?;
-    let mut texts = Texts::new(alloc);
-    for class in outside.classes.as_slice() {
-        texts.add(type_text(alloc, &program, *class)?.as_str())?;
-    }
-    let (fields, methods) = (outside.fields.as_slice(), outside.methods.as_slice());
-    add_members(alloc, &program, "", fields, methods, &mut texts)?;
-    for one in outside.classes_if.as_slice() {
-        let class = type_text(alloc, &program, one.class)?;
-        let owner = type_text(alloc, &program, one.owner)?;
-        texts.add(format!(in alloc; "{class} if {owner}")?.as_str())?;
-    }
-    let (fields, methods) = (outside.fields_if.as_slice(), outside.methods_if.as_slice());
-    add_members(alloc, &program, "if", fields, methods, &mut texts)?;
-    add_members(
-        alloc,
-        &program,
-        "silent",
-        &[],
-        outside.silent.as_slice(),
-        &mut texts,
-    )?;
-    add_members(
-        alloc,
-        &program,
-        "shut",
-        &[],
-        outside.shut.as_slice(),
-        &mut texts,
-    )?;
-    if !outside.shrink {
-        texts.add("noshrink")?;
-    }
-    if !outside.optimise {
-        texts.add("nooptimise")?;
-    }
-    Ok(texts.said(alloc)?)
+pub fn kept(answer: &mut Answer, program: &Program, rules: &str) {
+    let text = answer.lines(rules);
+    say_matched(answer, program, text.as_slice());
 }

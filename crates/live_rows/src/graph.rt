@@ -1,107 +1,102 @@
 //! What the classes of a program are to each other.
 
-use crate::names::{class_text, defined_text, method, place, tables_of};
 use hierarchy::{Hierarchy, HierarchyFault};
 use program_model::{MethodAt, Program};
-use program_text::method_text;
-use row_text::{Texts, Trouble};
-use std::alloc::{AllocError, Global};
+use program_text::{Answer, find_class, find_method, say_method, say_type};
 
-/// Why the classes make no hierarchy, or `fine`.
-pub fn fault(alloc: Global, program: &Program) -> Result<String, AllocError> {
-    match Hierarchy::build(alloc, program) {
-        Ok(_) => String::from_str(alloc, "fine"),
-        Err(HierarchyFault::Cycle { class }) => {
-            let text = class_text(alloc, program, class)?;
-            format!(in alloc; "cycle at {class} {text}")
-        }
-        Err(HierarchyFault::Twice { class }) => {
-            let text = class_text(alloc, program, class)?;
-            format!(in alloc; "twice at {class} {text}")
-        }
-        Err(HierarchyFault::SplitOverride { class, method }) => {
-            let text = method_text(alloc, program, method)?;
-            format!(in alloc; "split at {class} {text}")
-        }
-        Err(HierarchyFault::NoMemory) => Err(AllocError),
+/// Adds a class by its place.
+fn say_class(answer: &mut Answer, program: &Program, place: u32) {
+    match program.classes.items.get(place as usize) {
+        Some(class) => say_type(answer, program, class.name),
+        None => answer.say("?"),
     }
 }
 
-/// The places of the other classes under the one at a place.
-fn classes_under(alloc: Global, program: &Program, place: u32) -> Result<Vec<u32>, Trouble> {
-    let tables = tables_of(alloc, program)?;
-    Ok(tables.own_subclasses(alloc, place)?)
+/// Adds a method by its place.
+pub fn say_defined(answer: &mut Answer, program: &Program, at: MethodAt) {
+    let class = program.classes.items.get(at.class as usize);
+    match class.and_then(|class| class.methods.items.get(at.place as usize)) {
+        Some(method) => say_method(answer, program, method.name),
+        None => answer.say("?"),
+    }
 }
 
-/// Adds the classes at these places.
-fn add_classes(
-    alloc: Global,
-    program: &Program,
-    places: &[u32],
-    texts: &mut Texts,
-) -> Result<(), AllocError> {
-    for place in places {
-        texts.add(class_text(alloc, program, *place)?.as_str())?;
+/// Adds why the classes make no hierarchy.
+pub fn say_fault(answer: &mut Answer, program: &Program, fault: HierarchyFault) {
+    match fault {
+        HierarchyFault::NoMemory => answer.note(true),
+        HierarchyFault::Cycle { class } => {
+            answer.say_number("cycle at ", i128::from(class));
+            answer.say(" ");
+            say_class(answer, program, class);
+        }
+        HierarchyFault::Twice { class } => {
+            answer.say_number("twice at ", i128::from(class));
+            answer.say(" ");
+            say_class(answer, program, class);
+        }
+        HierarchyFault::SplitOverride { class, method } => {
+            answer.say_number("split at ", i128::from(class));
+            answer.say(" ");
+            say_method(answer, program, method);
+        }
     }
-    Ok(())
 }
 
 /// The other classes under a class, in file order.
-pub fn subclasses(alloc: Global, program: &Program, word: &str) -> Result<String, Trouble> {
-    let place = place(alloc, program, word)?;
-    let under = classes_under(alloc, program, place)?;
-    let mut texts = Texts::new(alloc);
-    add_classes(alloc, program, under.as_slice(), &mut texts)?;
-    Ok(texts.said(alloc)?)
+pub fn subclasses(answer: &mut Answer, program: &Program, tables: &Hierarchy, word: &str) {
+    let place = find_class(answer, program, word);
+    let under = tables.own_subclasses(answer.alloc(), place);
+    if let Some(under) = answer.taken(under) {
+        answer.begin_list();
+        for class in under.as_slice() {
+            answer.next();
+            say_class(answer, program, *class);
+        }
+        answer.end_list();
+    }
 }
 
 /// Whether the one class is under the other.
-pub fn under(
-    alloc: Global,
-    program: &Program,
-    lower: &str,
-    upper: &str,
-) -> Result<String, Trouble> {
-    let lower = place(alloc, program, lower)?;
-    let upper = place(alloc, program, upper)?;
-    let is_under = tables_of(alloc, program)?.is_under(lower, upper);
-    Ok(format!(in alloc; "{is_under}")?)
+pub fn under(answer: &mut Answer, program: &Program, tables: &Hierarchy, lower: &str, upper: &str) {
+    let lower = find_class(answer, program, lower);
+    let upper = find_class(answer, program, upper);
+    answer.say_whether(tables.is_under(lower, upper));
 }
 
 /// The method to which a name resolves.
-pub fn resolved(alloc: Global, program: &Program, word: &str) -> Result<String, Trouble> {
-    let number = method(alloc, program, word)?;
-    Ok(
-        match tables_of(alloc, program)?.resolve_method(program, number) {
-            Some(at) => defined_text(alloc, program, at)?,
-            None => String::from_str(alloc, "nothing")?,
-        },
-    )
+pub fn resolved(answer: &mut Answer, program: &Program, tables: &Hierarchy, word: &str) {
+    let number = find_method(answer, program, word);
+    match tables.resolve_method(program, number) {
+        Some(at) => say_defined(answer, program, at),
+        None => answer.say("nothing"),
+    }
 }
 
-/// Where the methods stand that override the one to which a number resolves.
-fn methods_over(alloc: Global, program: &Program, number: u32) -> Result<Vec<MethodAt>, Trouble> {
-    let tables = tables_of(alloc, program)?;
-    match tables.resolve_method(program, number) {
-        Some(at) => Ok(tables.overriders(alloc, program, at)?),
-        None => Err(Trouble::Words),
+/// Adds the methods that override one.
+fn say_overriders(answer: &mut Answer, program: &Program, tables: &Hierarchy, at: MethodAt) {
+    let over = tables.overriders(answer.alloc(), program, at);
+    if let Some(over) = answer.taken(over) {
+        answer.begin_list();
+        for one in over.as_slice() {
+            answer.next();
+            say_defined(answer, program, *one);
+        }
+        answer.end_list();
     }
 }
 
 /// The methods that override the one to which a name resolves.
-pub fn overriders(alloc: Global, program: &Program, word: &str) -> Result<String, Trouble> {
-    let number = method(alloc, program, word)?;
-    let over = methods_over(alloc, program, number)?;
-    let mut texts = Texts::new(alloc);
-    for one in &over {
-        texts.add(defined_text(alloc, program, *one)?.as_str())?;
+pub fn overriders(answer: &mut Answer, program: &Program, tables: &Hierarchy, word: &str) {
+    let number = find_method(answer, program, word);
+    match tables.resolve_method(program, number) {
+        Some(at) => say_overriders(answer, program, tables, at),
+        None => answer.refuse(),
     }
-    Ok(texts.said(alloc)?)
 }
 
 /// Whether nothing runs where a class is initialised.
-pub fn trivial(alloc: Global, program: &Program, word: &str) -> Result<String, Trouble> {
-    let class = place(alloc, program, word)?;
-    let is_trivial = tables_of(alloc, program)?.trivially_initialised(program, class);
-    Ok(format!(in alloc; "{is_trivial}")?)
+pub fn trivial(answer: &mut Answer, program: &Program, tables: &Hierarchy, word: &str) {
+    let class = find_class(answer, program, word);
+    answer.say_whether(tables.trivially_initialised(program, class));
 }

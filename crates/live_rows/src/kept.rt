@@ -1,8 +1,7 @@
 //! What a line keeps.
 
-use crate::names::{field, kind, method};
 use program_model::{ClassIf, Outside, Program};
-use row_text::Trouble;
+use program_text::{Answer, find_field, find_method, find_type};
 use seq::Seq;
 use std::alloc::Global;
 
@@ -23,6 +22,7 @@ fn nothing(alloc: Global) -> Outside {
 }
 
 /// What a word of a line says.
+#[derive(Clone, Copy)]
 enum Said<'a> {
     Class(&'a str),
     ClassIf(&'a str, &'a str),
@@ -65,100 +65,92 @@ fn read(word: &str) -> Said<'_> {
     read_class(word)
 }
 
-/// Adds the number of a method.
-fn add_method(
-    alloc: Global,
-    program: &Program,
-    word: &str,
-    methods: &mut Seq<u32>,
-) -> Result<(), Trouble> {
-    let number = method(alloc, program, word)?;
-    Ok(methods.push(number)?)
+/// Adds a number to a list.
+fn push(answer: &mut Answer, list: &mut Seq<u32>, number: u32) {
+    answer.note(list.push(number).is_err());
 }
 
 /// Adds the number of a member: a method's name has its parameters.
-fn add_member(
-    alloc: Global,
+fn push_member(
+    answer: &mut Answer,
     program: &Program,
     word: &str,
     fields: &mut Seq<u32>,
     methods: &mut Seq<u32>,
-) -> Result<(), Trouble> {
+) {
     if word.contains('(') {
-        return add_method(alloc, program, word, methods);
+        let number = find_method(answer, program, word);
+        push(answer, methods, number);
+    } else {
+        let number = find_field(answer, program, word);
+        push(answer, fields, number);
     }
-    let number = field(alloc, program, word)?;
-    Ok(fields.push(number)?)
 }
 
-/// Adds the number of a class.
-fn add_class(
-    alloc: Global,
-    program: &Program,
-    word: &str,
-    classes: &mut Seq<u32>,
-) -> Result<(), Trouble> {
-    let number = kind(alloc, program, word)?;
-    Ok(classes.push(number)?)
-}
-
-/// Adds a class that is kept where its owner is live.
-fn add_class_if(
-    alloc: Global,
+/// Keeps a class where its owner is live.
+fn push_class_if(
+    answer: &mut Answer,
     program: &Program,
     class: &str,
     owner: &str,
     classes: &mut Seq<ClassIf>,
-) -> Result<(), Trouble> {
-    let class = kind(alloc, program, class)?;
-    let owner = kind(alloc, program, owner)?;
-    Ok(classes.push(ClassIf { class, owner })?)
+) {
+    let one = ClassIf {
+        class: find_type(answer, program, class),
+        owner: find_type(answer, program, owner),
+    };
+    answer.note(classes.push(one).is_err());
+}
+
+/// Keeps a class or forbids something.
+fn keep_class(answer: &mut Answer, program: &Program, outside: &mut Outside, said: &Said<'_>) {
+    match said {
+        Said::Class(class) => {
+            let number = find_type(answer, program, class);
+            push(answer, &mut outside.classes, number);
+        }
+        Said::ClassIf(class, owner) => {
+            push_class_if(answer, program, class, owner, &mut outside.classes_if);
+        }
+        Said::NoShrink => outside.shrink = false,
+        _ => outside.optimise = false,
+    }
 }
 
 /// Keeps what a word says.
-fn keep(
-    alloc: Global,
-    program: &Program,
-    outside: &mut Outside,
-    word: &str,
-) -> Result<(), Trouble> {
+fn keep(answer: &mut Answer, program: &Program, outside: &mut Outside, word: &str) {
     match read(word) {
-        Said::Class(class) => add_class(alloc, program, class, &mut outside.classes),
-        Said::ClassIf(class, owner) => {
-            add_class_if(alloc, program, class, owner, &mut outside.classes_if)
-        }
-        Said::Member(member) => add_member(
-            alloc,
+        Said::Member(member) => push_member(
+            answer,
             program,
             member,
             &mut outside.fields,
             &mut outside.methods,
         ),
-        Said::MemberIf(member) => add_member(
-            alloc,
+        Said::MemberIf(member) => push_member(
+            answer,
             program,
             member,
             &mut outside.fields_if,
             &mut outside.methods_if,
         ),
-        Said::Silent(method) => add_method(alloc, program, method, &mut outside.silent),
-        Said::Shut(method) => add_method(alloc, program, method, &mut outside.shut),
-        Said::NoShrink => {
-            outside.shrink = false;
-            Ok(())
+        Said::Silent(method) => {
+            let number = find_method(answer, program, method);
+            push(answer, &mut outside.silent, number);
         }
-        Said::NoOptimise => {
-            outside.optimise = false;
-            Ok(())
+        Said::Shut(method) => {
+            let number = find_method(answer, program, method);
+            push(answer, &mut outside.shut, number);
         }
+        said => keep_class(answer, program, outside, &said),
     }
 }
 
 /// What the words of a line behind its first keep.
-pub fn kept(alloc: Global, program: &Program, line: &str) -> Result<Outside, Trouble> {
-    let mut outside = nothing(alloc);
+pub fn kept(answer: &mut Answer, program: &Program, line: &str) -> Outside {
+    let mut outside = nothing(answer.alloc());
     for word in line.split_whitespace().skip(1) {
-        keep(alloc, program, &mut outside, word)?;
+        keep(answer, program, &mut outside, word);
     }
-    Ok(outside)
+    outside
 }

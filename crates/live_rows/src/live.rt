@@ -1,226 +1,191 @@
 //! What is reached in a program and what is left of it.
 
-use crate::kept::kept;
-use crate::names::{defined_text, tables_of};
+use crate::graph::say_defined;
 use call_graph::{Edge, LiveSet, callees, live_members};
+use hierarchy::Hierarchy;
 use pipeline::{Outcome, optimise};
 use program_model::{Changed, MethodAt, Outside, Program};
-use program_text::{field_text, method_text, print, type_text};
+use program_text::{Answer, print, say_field, say_method, say_type};
 use reach::{apply, close};
 use redex_outside::Panel;
-use row_text::{Texts, Trouble};
-use std::alloc::{AllocError, Global};
 
-/// The numbers of the entries that are marked.
-fn marked(alloc: Global, marks: &[bool]) -> Result<Vec<u32>, AllocError> {
-    let mut numbers = Vec::new(alloc);
+/// Whether a number is marked.
+fn is_on(marks: &[bool], number: u32) -> bool {
+    marks.get(number as usize).copied().unwrap_or(false)
+}
+
+/// Adds the marked types, with `!` behind those of which objects are made.
+fn list_types(answer: &mut Answer, program: &Program, marks: &[bool], made: &[bool]) {
     let mut number: u32 = 0;
     for mark in marks {
         if *mark {
-            numbers.push(number)?;
+            answer.next();
+            say_type(answer, program, number);
+            answer.say(if is_on(made, number) { "!" } else { "" });
         }
         number = number.saturating_add(1);
     }
-    Ok(numbers)
 }
 
-/// Adds the types with these numbers, with `!` behind those of which objects are made.
-fn add_types(
-    alloc: Global,
-    program: &Program,
-    types: &[u32],
-    made: &[bool],
-    texts: &mut Texts,
-) -> Result<(), AllocError> {
-    for kind in types {
-        let mut text = type_text(alloc, program, *kind)?;
-        if made.get(*kind as usize).copied().unwrap_or(false) {
-            text.push_str("!")?;
+/// Adds the marked fields.
+fn list_fields(answer: &mut Answer, program: &Program, marks: &[bool]) {
+    let mut number: u32 = 0;
+    for mark in marks {
+        if *mark {
+            answer.next();
+            say_field(answer, program, number);
         }
-        texts.add(text.as_str())?;
+        number = number.saturating_add(1);
     }
-    Ok(())
 }
 
-/// Adds the fields with these numbers.
-fn add_fields(
-    alloc: Global,
-    program: &Program,
-    fields: &[u32],
-    texts: &mut Texts,
-) -> Result<(), AllocError> {
-    for field in fields {
-        texts.add(field_text(alloc, program, *field)?.as_str())?;
+/// Adds the marked methods.
+fn list_methods(answer: &mut Answer, program: &Program, marks: &[bool]) {
+    let mut number: u32 = 0;
+    for mark in marks {
+        if *mark {
+            answer.next();
+            say_method(answer, program, number);
+        }
+        number = number.saturating_add(1);
     }
-    Ok(())
 }
 
-/// Adds the methods with these numbers.
-fn add_methods(
-    alloc: Global,
-    program: &Program,
-    methods: &[u32],
-    texts: &mut Texts,
-) -> Result<(), AllocError> {
-    for method in methods {
-        texts.add(method_text(alloc, program, *method)?.as_str())?;
+/// What is live: classes, fields and methods by number, with `!` behind a class of which objects are made. What the live
+/// members are is said where call_graph is; here only their names are printed.
+pub fn members(answer: &mut Answer, program: &Program, tables: &Hierarchy, outside: &Outside) {
+    let live = live_members(answer.alloc(), program, tables, outside);
+    if let Some(live) = answer.taken(live) {
+        answer.begin_list();
+        list_types(
+            answer,
+            program,
+            live.classes.as_slice(),
+            live.made.as_slice(),
+        );
+        list_fields(answer, program, live.fields.as_slice());
+        list_methods(answer, program, live.methods.as_slice());
+        answer.end_list();
     }
-    Ok(())
 }
 
-/// The live members of a program. What they are is said where call_graph is; here only their names are printed.
-fn live_set(alloc: Global, program: &Program, outside: &Outside) -> Result<LiveSet, Trouble> {
-    let tables = tables_of(alloc, program)?;
-    Ok(live_members(alloc, program, &tables, outside)?)
-}
-
-/// Adds what is live: classes, fields and methods by number, with `!` behind a class of which objects are made.
-fn add_live(
-    alloc: Global,
-    program: &Program,
-    live: &LiveSet,
-    texts: &mut Texts,
-) -> Result<(), AllocError> {
-    let types = marked(alloc, live.classes.as_slice())?;
-    add_types(
-        alloc,
-        program,
-        types.as_slice(),
-        live.made.as_slice(),
-        texts,
-    )?;
-    let fields = marked(alloc, live.fields.as_slice())?;
-    add_fields(alloc, program, fields.as_slice(), texts)?;
-    let methods = marked(alloc, live.methods.as_slice())?;
-    add_methods(alloc, program, methods.as_slice(), texts)
-}
-
-/// What is live: classes, fields and methods by number, with `!` behind a class of which objects are made.
-pub fn live(alloc: Global, program: &Program, line: &str) -> Result<String, Trouble> {
-    let outside = kept(alloc, program, line)?;
-    let live = live_set(alloc, program, &outside)?;
-    let mut texts = Texts::new(alloc);
-    add_live(alloc, program, &live, &mut texts)?;
-    Ok(texts.said(alloc)?)
-}
-
-/// The calls of the first method of the first class.
-fn first_calls(alloc: Global, program: &Program, outside: &Outside) -> Result<Vec<Edge>, Trouble> {
-    let live = live_set(alloc, program, outside)?;
-    let tables = tables_of(alloc, program)?;
-    let first = MethodAt { class: 0, place: 0 };
-    Ok(callees(alloc, program, &tables, &live, first)?)
-}
-
-/// Adds calls, each target behind the position of its call.
-fn add_calls(
-    alloc: Global,
-    program: &Program,
-    calls: &[Edge],
-    texts: &mut Texts,
-) -> Result<(), AllocError> {
+/// Adds calls, each target behind its position.
+fn say_calls(answer: &mut Answer, program: &Program, calls: &[Edge]) {
+    answer.begin_list();
     for edge in calls {
-        let position = edge.position;
-        let target = defined_text(alloc, program, edge.target)?;
-        texts.add(format!(in alloc; "{position}:{target}")?.as_str())?;
+        answer.next();
+        answer.say_number("", i128::from(edge.position));
+        answer.say(":");
+        say_defined(answer, program, edge.target);
     }
-    Ok(())
+    answer.end_list();
 }
 
-/// What the first method of the first class may call, each behind the position of the call, where this is live.
-pub fn calls(alloc: Global, program: &Program, line: &str) -> Result<String, Trouble> {
-    let outside = kept(alloc, program, line)?;
-    let calls = first_calls(alloc, program, &outside)?;
-    let mut texts = Texts::new(alloc);
-    add_calls(alloc, program, calls.as_slice(), &mut texts)?;
-    Ok(texts.said(alloc)?)
+/// Adds what the first method of the first class may call where this is live.
+fn say_first(answer: &mut Answer, program: &Program, tables: &Hierarchy, live: &LiveSet) {
+    let first = MethodAt { class: 0, place: 0 };
+    let calls = callees(answer.alloc(), program, tables, live, first);
+    if let Some(calls) = answer.taken(calls) {
+        say_calls(answer, program, calls.as_slice());
+    }
 }
 
-/// An outside with its conditions closed.
-fn closed_by(alloc: Global, program: &Program, outside: &Outside) -> Result<Outside, Trouble> {
-    let tables = tables_of(alloc, program)?;
-    Ok(close(alloc, program, &tables, outside)?)
+/// What the first method of the first class may call, each behind the position of the call.
+pub fn calls(answer: &mut Answer, program: &Program, tables: &Hierarchy, outside: &Outside) {
+    let live = live_members(answer.alloc(), program, tables, outside);
+    if let Some(live) = answer.taken(live) {
+        say_first(answer, program, tables, &live);
+    }
 }
 
-/// Adds what an outside keeps.
-fn add_kept(
-    alloc: Global,
-    program: &Program,
-    kept: &Outside,
-    texts: &mut Texts,
-) -> Result<(), AllocError> {
-    add_types(alloc, program, kept.classes.as_slice(), &[], texts)?;
-    add_fields(alloc, program, kept.fields.as_slice(), texts)?;
-    add_methods(alloc, program, kept.methods.as_slice(), texts)
+/// Adds the types with these numbers.
+fn list_kinds(answer: &mut Answer, program: &Program, kinds: &[u32]) {
+    for kind in kinds {
+        answer.next();
+        say_type(answer, program, *kind);
+    }
 }
 
-/// Adds what an outside forbids, and what it says is silent.
-fn add_forbidden(
-    alloc: Global,
-    program: &Program,
-    outside: &Outside,
-    texts: &mut Texts,
-) -> Result<(), AllocError> {
+/// Adds the fields with these numbers, and then the methods.
+fn list_numbers(answer: &mut Answer, program: &Program, fields: &[u32], methods: &[u32]) {
+    for field in fields {
+        answer.next();
+        say_field(answer, program, *field);
+    }
+    for method in methods {
+        answer.next();
+        say_method(answer, program, *method);
+    }
+}
+
+/// Adds what an outside keeps, what it forbids, and what it says is silent.
+fn say_outside(answer: &mut Answer, program: &Program, outside: &Outside) {
+    answer.begin_list();
+    list_kinds(answer, program, outside.classes.as_slice());
+    let (fields, methods) = (outside.fields.as_slice(), outside.methods.as_slice());
+    list_numbers(answer, program, fields, methods);
     if !outside.shrink {
-        texts.add("noshrink")?;
+        answer.list("noshrink");
     }
     if !outside.optimise {
-        texts.add("nooptimise")?;
+        answer.list("nooptimise");
     }
     if !outside.silent.is_empty() {
-        texts.add("silent")?;
+        answer.list("silent");
     }
-    add_methods(alloc, program, outside.silent.as_slice(), texts)
+    list_numbers(answer, program, &[], outside.silent.as_slice());
+    answer.end_list();
 }
 
 /// What is kept without conditions.
-pub fn closed(alloc: Global, program: &Program, line: &str) -> Result<String, Trouble> {
-    let outside = kept(alloc, program, line)?;
-    let closed = closed_by(alloc, program, &outside)?;
-    let mut texts = Texts::new(alloc);
-    add_kept(alloc, program, &closed, &mut texts)?;
-    add_forbidden(alloc, program, &closed, &mut texts)?;
-    Ok(texts.said(alloc)?)
-}
-
-/// What removal leaves.
-fn removed(alloc: Global, program: Program, outside: &Outside) -> Result<Changed, Trouble> {
-    let tables = tables_of(alloc, &program)?;
-    Ok(apply(alloc, program, &tables, outside)?)
-}
-
-/// How much changed, and the program that is left where it isn't the one before.
-fn change_said(alloc: Global, before: &Program, changed: &Changed) -> Result<String, AllocError> {
-    let count = changed.count;
-    if changed.program == *before {
-        return format!(in alloc; "{count}, and the program is the same");
+pub fn closed(answer: &mut Answer, program: &Program, tables: &Hierarchy, outside: &Outside) {
+    let closed = close(answer.alloc(), program, tables, outside);
+    if let Some(closed) = answer.taken(closed) {
+        say_outside(answer, program, &closed);
     }
-    let printed = print(alloc, &changed.program)?;
-    let text = printed.trim_end();
-    format!(in alloc; "{count}, and what is left is\n{text}")
+}
+
+/// Adds how much changed, and the program that is left where it isn't the one before.
+fn say_changed(answer: &mut Answer, before: &Program, changed: &Changed) {
+    answer.say_number("", i128::from(changed.count));
+    if changed.program == *before {
+        answer.say(", and the program is the same");
+        return;
+    }
+    answer.say(", and what is left is\n");
+    let place = answer.text().len();
+    print(answer, &changed.program);
+    answer.cut_end(place);
 }
 
 /// How many classes and members go, and the program that is left.
-pub fn left(alloc: Global, program: Program, line: &str) -> Result<String, Trouble> {
-    let outside = kept(alloc, &program, line)?;
-    let before = program.clone()?;
-    let changed = removed(alloc, program, &outside)?;
-    Ok(change_said(alloc, &before, &changed)?)
+pub fn left(answer: &mut Answer, program: &Program, tables: &Hierarchy, outside: &Outside) {
+    let copy: Result<_, _> = program.clone();
+    if let Some(copy) = answer.taken(copy) {
+        let changed = apply(answer.alloc(), copy, tables, outside);
+        if let Some(changed) = answer.taken(changed) {
+            say_changed(answer, program, &changed);
+        }
+    }
 }
 
-/// What the optimisation leaves, with no adviser.
-fn optimised(alloc: Global, program: Program, outside: &Outside) -> Result<Outcome, AllocError> {
-    let mut panel = Panel::new(alloc, Vec::new(alloc));
-    optimise(alloc, program, outside, &mut panel)
+/// Adds how many rounds the optimisation took, what it removed, and how many methods are spared.
+fn say_outcome(answer: &mut Answer, outcome: &Outcome) {
+    answer.say_number("rounds ", i128::from(outcome.rounds));
+    answer.say_number(", members ", i128::from(outcome.removed_members));
+    answer.say_number(", instructions ", i128::from(outcome.removed_instructions));
+    answer.say_number(", spared ", i128::from(outcome.spared));
 }
 
-/// How many rounds the optimisation takes, what it removes, and how many methods are spared.
-pub fn rounds(alloc: Global, program: Program, line: &str) -> Result<String, Trouble> {
-    let outside = kept(alloc, &program, line)?;
-    let outcome = optimised(alloc, program, &outside)?;
-    let (rounds, members) = (outcome.rounds, outcome.removed_members);
-    let (insns, spared) = (outcome.removed_instructions, outcome.spared);
-    Ok(format!(in alloc;
-        "rounds {rounds}, members {members}, instructions {insns}, spared {spared}"
-    )?)
+/// How many rounds the optimisation takes with no adviser, what it removes, and how many methods are spared.
+pub fn rounds(answer: &mut Answer, program: &Program, outside: &Outside) {
+    let alloc = answer.alloc();
+    let copy: Result<_, _> = program.clone();
+    if let Some(copy) = answer.taken(copy) {
+        let mut panel = Panel::new(alloc, Vec::new(alloc));
+        let outcome = optimise(alloc, copy, outside, &mut panel);
+        if let Some(outcome) = answer.taken(outcome) {
+            say_outcome(answer, &outcome);
+        }
+    }
 }

@@ -12,34 +12,21 @@ mod asks;
 mod graph;
 mod kept;
 mod live;
-mod names;
 
 use crate::asks::answer;
-use program_text::{TextFault, assemble};
-use row_text::{Page, Trouble, said};
-use std::alloc::Global;
+use program_text::{Answer, Page};
 use std::io;
-
-/// The answer to a line that asks.
-fn answered(alloc: Global, page: &Page, line: &str) -> Result<String, Trouble> {
-    match assemble(alloc, page.text()) {
-        Ok(program) => answer(alloc, program, line),
-        Err(TextFault::NoMemory) => Err(Trouble::NoMemory),
-        Err(fault) => Ok(format!(in alloc; "{fault:?}")?),
-    }
-}
 
 fn main(rt: HostRuntime) -> io::Result<()> {
     let alloc = rt.alloc();
+    let text = io::read_to_string(alloc, rt.stdin())?;
     let mut page = Page::new(alloc);
-    for line in rt.lines(alloc) {
-        let line = line?;
-        if page.takes(line.as_str())? {
-            let answer = answered(alloc, &page, line.as_str());
-            rt.println(said(alloc, line.as_str(), answer)?)?;
-        } else if !page.is_in_program() {
-            rt.println(line)?;
+    for line in text.lines() {
+        if page.takes(line) {
+            let mut said = Answer::new(alloc);
+            answer(&mut said, page.program(), line);
+            page.tell(line, &said);
         }
     }
-    Ok(())
+    rt.print(page.written()?)
 }

@@ -1,9 +1,10 @@
-//! Programs as text: `assemble` reads a text as a program whose tables are numbered in order, and `print` writes the
-//! classes of a program as such a text. It is read by tests and tools alone, so that its contract is no more than that
-//! every text and every program is answered: a text that can't be read is a fault that names its line, and want of memory
-//! is one too.
+//! Programs as text, and rows that ask about them: `program_of` reads a text as a program whose tables are numbered in
+//! order, and `print` writes the classes of a program as such a text. A row is a line that asks something, maybe about a
+//! program that stands above it as text: a `Page` tells which, and writes it again with its `Answer` behind it. All this is
+//! read by tests alone, so that its contract is no more than that every text, every program and every line is answered: what
+//! can't be read refuses the answer, and want of memory is told at the end.
 //!
-//! A text has an item a line, and words between blanks; empty lines and those that begin with `#` are passed over.
+//! A program's text has an item a line, and words between blanks; empty lines and those that begin with `#` are passed over.
 //!
 //! ```text
 //! version 037
@@ -36,18 +37,19 @@
 //! - A unit that is blank or no printed ASCII, and the backslash, is `\` and four hexadecimal digits.
 #![tactic(auto)]
 
-mod fault;
+mod answer;
 mod finds;
 mod forms;
 mod names;
 mod operands;
+mod page;
 mod parts;
 mod printer;
 mod reader;
 mod values;
 
-pub use fault::TextFault;
-pub use finds::{find_field, find_method, find_type};
-pub use names::units_of;
-pub use printer::{body_text, field_text, method_text, print, string_text, type_text};
-pub use reader::assemble;
+pub use answer::Answer;
+pub use finds::{find_class, find_field, find_method, find_type, first_body};
+pub use page::Page;
+pub use printer::{print, say_body, say_field, say_method, say_type};
+pub use reader::program_of;

@@ -9,11 +9,14 @@ use std::collections::BTreeMap;
 /// Numbers by keys whose order is that of the table.
 type Numbers = BTreeMap<Vec<u16>, u32>;
 
-/// The tables. The key of a proto is its result and its parameters, that of a member its class, its name, a zero, and its
-/// type or proto: descriptors begin none of one another, so that keys stand in the order of the file format.
+/// The tables, and whether memory ran out, which is remembered and told at the end alone: so what names something has no
+/// way out of its own. The key of a proto is its result and its parameters, that of a member its class, its name, a
+/// zero, and its type or proto: descriptors begin none of one another, so that keys stand in the order of the file
+/// format.
 #[derive(Drop)]
 pub struct Names {
     alloc: Global,
+    lacks_memory: bool,
     strings: Numbers,
     types: Numbers,
     protos: Numbers,
@@ -26,57 +29,6 @@ pub struct Names {
 pub struct ProtoOf {
     pub number: u32,
     pub words: u16,
-}
-
-/// The units of a word, in which a backslash and four hexadecimal digits are one.
-pub fn units_of(alloc: Global, word: &str) -> Result<Vec<u16>, AllocError> {
-    let mut units = Vec::new(alloc);
-    let mut unit: u16 = 0;
-    let mut digits: u8 = 0;
-    for byte in word.as_bytes() {
-        if digits > 0 {
-            unit = unit.wrapping_mul(16).wrapping_add(digit(*byte));
-            digits -= 1;
-        } else if *byte == b'\\' {
-            unit = 0;
-            digits = 4;
-        } else {
-            unit = u16::from(*byte);
-        }
-        if digits == 0 {
-            units.push(unit)?;
-        }
-    }
-    Ok(units)
-}
-
-/// What a hexadecimal digit stands for, 0 for other bytes.
-fn digit(byte: u8) -> u16 {
-    match byte {
-        b'0'..=b'9' => u16::from(byte - b'0'),
-        b'a'..=b'f' => u16::from(byte - b'a') + 10,
-        _ => 0,
-    }
-}
-
-/// The descriptors that stand side by side, the last of which may be cut.
-fn descriptors(alloc: Global, units: &[u16]) -> Result<Vec<Vec<u16>>, AllocError> {
-    let mut found = Vec::new(alloc);
-    let mut one = Vec::new(alloc);
-    let mut is_class = false;
-    for unit in units {
-        one.push(*unit)?;
-        is_class = is_class || *unit == u16::from(b'L');
-        if *unit == u16::from(b';') || !(is_class || *unit == u16::from(b'[')) {
-            found.push(one)?;
-            one = Vec::new(alloc);
-            is_class = false;
-        }
-    }
-    if !one.is_empty() {
-        found.push(one)?;
-    }
-    Ok(found)
 }
 
 /// How a type stands in a shorty.
@@ -94,11 +46,6 @@ fn words_of(unit: u16) -> u16 {
     } else {
         1
     }
-}
-
-/// The number of a key, 0 for one that is new.
-fn number_of(numbers: &mut Numbers, key: Vec<u16>) -> Result<u32, AllocError> {
-    Ok(*numbers.entry(key)?.or_insert(0))
 }
 
 /// Numbers keys in their order.
@@ -119,16 +66,52 @@ fn key_of(alloc: Global, parts: &[&[u16]]) -> Result<Vec<u16>, AllocError> {
     Ok(key)
 }
 
+/// The number of the key of these parts, 0 for one that is new.
+fn number_of(alloc: Global, numbers: &mut Numbers, parts: &[&[u16]]) -> Result<u32, AllocError> {
+    let key = key_of(alloc, parts)?;
+    Ok(*numbers.entry(key)?.or_insert(0))
+}
+
+/// The parameters of a proto: the numbers of their types, how they stand in the shorty, and how many registers they take.
+#[derive(Drop)]
+struct Parameters {
+    kinds: Seq<u32>,
+    shorty: Vec<u16>,
+    words: u16,
+}
+
 impl Names {
     /// Tables of nothing.
     pub fn new(alloc: Global) -> Names {
         Names {
             alloc,
+            lacks_memory: false,
             strings: BTreeMap::new(alloc),
             types: BTreeMap::new(alloc),
             protos: BTreeMap::new(alloc),
             fields: BTreeMap::new(alloc),
             methods: BTreeMap::new(alloc),
+        }
+    }
+
+    /// Whether memory ran out since the tables were made.
+    pub fn lacks_memory(&self) -> bool {
+        self.lacks_memory
+    }
+
+    /// Remembers whether memory ran out.
+    fn note(&mut self, is_lost: bool) {
+        self.lacks_memory = self.lacks_memory || is_lost;
+    }
+
+    /// The number, 0 where memory ran out, which is remembered.
+    fn noted(&mut self, number: Result<u32, AllocError>) -> u32 {
+        match number {
+            Ok(number) => number,
+            Err(_) => {
+                self.lacks_memory = true;
+                0
+            }
         }
     }
 
@@ -141,16 +124,21 @@ impl Names {
         put_in_order(&mut self.methods);
     }
 
-    /// Puts the strings and types into a program, and room for the entries of the other tables.
-    pub fn begin(&self, program: &mut Program) -> Result<(), AllocError> {
+    /// Puts the strings and types into a program.
+    fn begin_types(&self, program: &mut Program) -> Result<(), AllocError> {
         for key in self.strings.keys() {
             program.strings.push(Text::from_vec(key.clone()?))?;
         }
         for key in self.types.keys() {
-            program
-                .types
-                .push(self.strings.get(key).copied().unwrap_or(0))?;
+            let string = self.strings.get(key).copied().unwrap_or(0);
+            program.types.push(string)?;
         }
+        Ok(())
+    }
+
+    /// Puts the strings and types into a program, and room for the entries of the other tables.
+    pub fn begin(&self, program: &mut Program) -> Result<(), AllocError> {
+        self.begin_types(program)?;
         for _ in 0..self.protos.len() {
             program.protos.push(Proto {
                 shorty: 0,
@@ -176,46 +164,71 @@ impl Names {
     }
 
     /// The number of a string.
-    pub fn string(&mut self, units: &[u16]) -> Result<u32, AllocError> {
-        let key = Vec::from_slice(self.alloc, units)?;
-        number_of(&mut self.strings, key)
+    pub fn string(&mut self, units: &[u16]) -> u32 {
+        let number = number_of(self.alloc, &mut self.strings, &[units]);
+        self.noted(number)
     }
 
     /// The number of a type.
-    pub fn kind(&mut self, units: &[u16]) -> Result<u32, AllocError> {
-        self.string(units)?;
-        let key = Vec::from_slice(self.alloc, units)?;
-        number_of(&mut self.types, key)
+    pub fn kind(&mut self, units: &[u16]) -> u32 {
+        self.string(units);
+        let number = number_of(self.alloc, &mut self.types, &[units]);
+        self.noted(number)
+    }
+
+    /// Adds a parameter by its descriptor.
+    fn add_parameter(&mut self, descriptor: &[u16], found: &mut Parameters) {
+        let unit = short_unit(descriptor);
+        let kind = self.kind(descriptor);
+        let is_lost = found.shorty.push(unit).is_err() || found.kinds.push(kind).is_err();
+        self.note(is_lost);
+        found.words = found.words.saturating_add(words_of(unit));
+    }
+
+    /// Adds the parameters by their descriptors, which stand side by side, and the last of which may be cut.
+    fn add_parameters(&mut self, units: &[u16], found: &mut Parameters) {
+        let mut begin = 0;
+        let mut end: usize = 0;
+        let mut is_class = false;
+        for unit in units {
+            end = end.saturating_add(1);
+            is_class = is_class || *unit == u16::from(b'L');
+            if *unit == u16::from(b';') || !(is_class || *unit == u16::from(b'[')) {
+                self.add_parameter(units.get(begin..end).unwrap_or(&[]), found);
+                begin = end;
+                is_class = false;
+            }
+        }
+        if begin < end {
+            self.add_parameter(units.get(begin..end).unwrap_or(&[]), found);
+        }
     }
 
     /// A proto by its parameters, side by side, and its result.
-    pub fn proto(
-        &mut self,
-        program: &mut Program,
-        parameters: &[u16],
-        answer: &[u16],
-    ) -> Result<ProtoOf, AllocError> {
-        let alloc = self.alloc;
-        let mut shorty = Vec::new(alloc);
-        shorty.push(short_unit(answer))?;
-        let mut numbers = Seq::new(alloc);
-        let mut words: u16 = 0;
-        for one in &descriptors(alloc, parameters)? {
-            let unit = short_unit(one.as_slice());
-            shorty.push(unit)?;
-            words = words.saturating_add(words_of(unit));
-            numbers.push(self.kind(one.as_slice())?)?;
-        }
-        let entry = Proto {
-            shorty: self.string(shorty.as_slice())?,
-            result: self.kind(answer)?,
-            parameters: numbers,
+    fn proto(&mut self, program: &mut Program, parameters: &[u16], answer: &[u16]) -> ProtoOf {
+        let number = number_of(self.alloc, &mut self.protos, &[answer, parameters]);
+        let number = self.noted(number);
+        let mut found = Parameters {
+            kinds: Seq::new(self.alloc),
+            shorty: Vec::new(self.alloc),
+            words: 0,
         };
-        let number = number_of(&mut self.protos, key_of(alloc, &[answer, parameters])?)?;
+        let is_lost = found.shorty.push(short_unit(answer)).is_err();
+        self.note(is_lost);
+        self.add_parameters(parameters, &mut found);
+        let Parameters {
+            kinds,
+            shorty,
+            words,
+        } = found;
+        let shorty = self.string(shorty.as_slice());
+        let result = self.kind(answer);
         if let Some(place) = program.protos.items.get_mut(number as usize) {
-            *place = entry;
+            place.shorty = shorty;
+            place.result = result;
+            place.parameters = kinds;
         }
-        Ok(ProtoOf { number, words })
+        ProtoOf { number, words }
     }
 
     /// The number of a field by its class, its name and its type.
@@ -225,20 +238,18 @@ impl Names {
         class: &[u16],
         name: &[u16],
         kind: &[u16],
-    ) -> Result<u32, AllocError> {
+    ) -> u32 {
         let entry = FieldName {
-            class: self.kind(class)?,
-            kind: self.kind(kind)?,
-            name: self.string(name)?,
+            class: self.kind(class),
+            kind: self.kind(kind),
+            name: self.string(name),
         };
-        let number = number_of(
-            &mut self.fields,
-            key_of(self.alloc, &[class, name, &[0], kind])?,
-        )?;
+        let number = number_of(self.alloc, &mut self.fields, &[class, name, &[0], kind]);
+        let number = self.noted(number);
         if let Some(place) = program.fields.items.get_mut(number as usize) {
             *place = entry;
         }
-        Ok(number)
+        number
     }
 
     /// The number of a method by its class, its name, its parameters and its result, and how many registers its
@@ -249,22 +260,26 @@ impl Names {
         class: &[u16],
         name: &[u16],
         proto: (&[u16], &[u16]),
-    ) -> Result<ProtoOf, AllocError> {
+    ) -> ProtoOf {
         let (parameters, answer) = proto;
-        let of_proto = self.proto(program, parameters, answer)?;
+        let of_proto = self.proto(program, parameters, answer);
         let entry = MethodName {
-            class: self.kind(class)?,
+            class: self.kind(class),
             proto: of_proto.number,
-            name: self.string(name)?,
+            name: self.string(name),
         };
-        let key = key_of(self.alloc, &[class, name, &[0], answer, parameters])?;
-        let number = number_of(&mut self.methods, key)?;
+        let number = number_of(
+            self.alloc,
+            &mut self.methods,
+            &[class, name, &[0], answer, parameters],
+        );
+        let number = self.noted(number);
         if let Some(place) = program.methods.items.get_mut(number as usize) {
             *place = entry;
         }
-        Ok(ProtoOf {
+        ProtoOf {
             number,
             words: of_proto.words,
-        })
+        }
     }
 }

@@ -1,240 +1,232 @@
 //! Writes programs as text.
 
+use crate::answer::Answer;
 use crate::forms::spelled;
 use crate::parts::parts_of;
 use crate::values::push_flags;
-use dex_base::Text;
 use program_model::{
     Body, Class, EncValue, Field, Flags, Insn, Mark, Method, Program, Region, Version,
 };
-use std::alloc::{AllocError, Global};
 
-/// Adds a text, in which a unit that is blank or no printed ASCII, and the backslash, is `\` and four hexadecimal digits.
-fn push_text(out: &mut String, text: Option<&Text>) -> Result<(), AllocError> {
-    let Some(text) = text else {
-        return out.push_str("?");
+fn push_string(out: &mut Answer, program: &Program, string: u32) {
+    let Some(text) = program.strings.items.get(string as usize) else {
+        out.say("?");
+        return;
     };
     for unit in text.units() {
-        match u8::try_from(*unit) {
-            Ok(byte @ (0x21..=0x5b | 0x5d..=0x7e)) => out.push(char::from(byte))?,
-            _ => write!(out, "\\{unit:04x}")?,
-        }
+        out.say_unit(*unit);
     }
-    Ok(())
 }
 
-fn push_string(out: &mut String, program: &Program, string: u32) -> Result<(), AllocError> {
-    push_text(out, program.strings.items.get(string as usize))
-}
-
-fn push_type(out: &mut String, program: &Program, kind: u32) -> Result<(), AllocError> {
+/// Adds the text of a type number, `?` where there is none.
+pub fn say_type(out: &mut Answer, program: &Program, kind: u32) {
     let string = program.types.items.get(kind as usize).copied();
-    push_string(out, program, string.unwrap_or(u32::MAX))
+    push_string(out, program, string.unwrap_or(u32::MAX));
+}
+
+/// Adds the text `CLASS->NAME:TYPE` of a field number, `?` where there is none.
+pub fn say_field(out: &mut Answer, program: &Program, field: u32) {
+    push_field(out, program, field, false);
 }
 
 /// Adds `CLASS->NAME:TYPE`, without the class and with a blank in place of the colon where the class is said already.
-fn push_field(
-    out: &mut String,
-    program: &Program,
-    field: u32,
-    is_own: bool,
-) -> Result<(), AllocError> {
+fn push_field(out: &mut Answer, program: &Program, field: u32, is_own: bool) {
     let Some(name) = program.fields.items.get(field as usize) else {
-        return out.push_str("?");
+        out.say("?");
+        return;
     };
     if !is_own {
-        push_type(out, program, name.class)?;
-        out.push_str("->")?;
+        say_type(out, program, name.class);
+        out.say("->");
     }
-    push_string(out, program, name.name)?;
-    out.push_str(if is_own { " " } else { ":" })?;
-    push_type(out, program, name.kind)
+    push_string(out, program, name.name);
+    out.say(if is_own { " " } else { ":" });
+    say_type(out, program, name.kind);
+}
+
+/// Adds the parameters and the result of a proto.
+fn push_proto(out: &mut Answer, program: &Program, proto: u32) {
+    let Some(proto) = program.protos.items.get(proto as usize) else {
+        out.say("?");
+        return;
+    };
+    out.say("(");
+    for kind in proto.parameters.as_slice() {
+        say_type(out, program, *kind);
+    }
+    out.say(")");
+    say_type(out, program, proto.result);
+}
+
+/// Adds the text `CLASS->NAME(PARAMETERS)RESULT` of a method number, `?` where there is none.
+pub fn say_method(out: &mut Answer, program: &Program, method: u32) {
+    push_method(out, program, method, false);
 }
 
 /// Adds `CLASS->NAME(PARAMETERS)RESULT`, or what is behind the arrow where the class is said already.
-fn push_method(
-    out: &mut String,
-    program: &Program,
-    method: u32,
-    is_own: bool,
-) -> Result<(), AllocError> {
+fn push_method(out: &mut Answer, program: &Program, method: u32, is_own: bool) {
     let Some(name) = program.methods.items.get(method as usize) else {
-        return out.push_str("?");
+        out.say("?");
+        return;
     };
     if !is_own {
-        push_type(out, program, name.class)?;
-        out.push_str("->")?;
+        say_type(out, program, name.class);
+        out.say("->");
     }
-    push_string(out, program, name.name)?;
-    let Some(proto) = program.protos.items.get(name.proto as usize) else {
-        return out.push_str("?");
-    };
-    out.push_str("(")?;
-    for kind in proto.parameters.as_slice() {
-        push_type(out, program, *kind)?;
-    }
-    out.push_str(")")?;
-    push_type(out, program, proto.result)
-}
-
-/// The text of a string number, `?` where there is none.
-pub fn string_text(alloc: Global, program: &Program, string: u32) -> Result<String, AllocError> {
-    let mut out = String::new(alloc);
-    push_string(&mut out, program, string)?;
-    Ok(out)
-}
-
-/// The text of a type number, `?` where there is none.
-pub fn type_text(alloc: Global, program: &Program, kind: u32) -> Result<String, AllocError> {
-    let mut out = String::new(alloc);
-    push_type(&mut out, program, kind)?;
-    Ok(out)
-}
-
-/// The text `CLASS->NAME:TYPE` of a field number, `?` where there is none.
-pub fn field_text(alloc: Global, program: &Program, field: u32) -> Result<String, AllocError> {
-    let mut out = String::new(alloc);
-    push_field(&mut out, program, field, false)?;
-    Ok(out)
-}
-
-/// The text `CLASS->NAME(PARAMETERS)RESULT` of a method number, `?` where there is none.
-pub fn method_text(alloc: Global, program: &Program, method: u32) -> Result<String, AllocError> {
-    let mut out = String::new(alloc);
-    push_method(&mut out, program, method, false)?;
-    Ok(out)
+    push_string(out, program, name.name);
+    push_proto(out, program, name.proto);
 }
 
 /// Adds flags and annotations.
-fn push_access(
-    out: &mut String,
-    program: &Program,
-    flags: Flags,
-    marks: &[Mark],
-) -> Result<(), AllocError> {
-    push_flags(out, flags.0)?;
+fn push_access(out: &mut Answer, program: &Program, flags: Flags, marks: &[Mark]) {
+    push_flags(out, flags.0);
     for mark in marks {
-        out.push_str(" @")?;
-        push_type(out, program, mark.note.class)?;
+        out.say(" @");
+        say_type(out, program, mark.note.class);
     }
-    Ok(())
+}
+
+/// A first value that is a number, with the word before it.
+fn number_of(value: &EncValue) -> Option<(&'static str, i128)> {
+    Some(match value {
+        EncValue::Byte(number) => ("byte:", i128::from(*number)),
+        EncValue::Short(number) => ("short:", i128::from(*number)),
+        EncValue::Char(number) => ("char:", i128::from(*number)),
+        EncValue::Int(number) => ("", i128::from(*number)),
+        EncValue::Long(number) => ("long:", i128::from(*number)),
+        EncValue::Float(bits) => ("float:", i128::from(*bits)),
+        EncValue::Double(bits) => ("double:", i128::from(*bits)),
+        EncValue::Bool(is_true) => ("bool:", if *is_true { 1 } else { 0 }),
+        _ => return None,
+    })
 }
 
 /// Adds a first value.
-fn push_value(out: &mut String, program: &Program, value: &EncValue) -> Result<(), AllocError> {
-    match value {
-        EncValue::Byte(number) => write!(out, "byte:{number}"),
-        EncValue::Short(number) => write!(out, "short:{number}"),
-        EncValue::Char(number) => write!(out, "char:{number}"),
-        EncValue::Int(number) => write!(out, "{number}"),
-        EncValue::Long(number) => write!(out, "long:{number}"),
-        EncValue::Float(bits) => write!(out, "float:{bits}"),
-        EncValue::Double(bits) => write!(out, "double:{bits}"),
-        EncValue::Bool(is_true) => out.push_str(if *is_true { "bool:1" } else { "bool:0" }),
-        EncValue::Null => out.push_str("null"),
-        _ => push_named(out, program, value),
+fn push_value(out: &mut Answer, program: &Program, value: &EncValue) {
+    match number_of(value) {
+        Some((word, number)) => out.say_number(word, number),
+        None => push_named(out, program, value),
     }
 }
 
-/// Adds a first value that names something.
-fn push_named(out: &mut String, program: &Program, value: &EncValue) -> Result<(), AllocError> {
+/// Adds a first value that names something, or `null`.
+fn push_named(out: &mut Answer, program: &Program, value: &EncValue) {
     match value {
         EncValue::Str(string) => {
-            out.push_str("string:")?;
-            push_string(out, program, *string)
+            out.say("string:");
+            push_string(out, program, *string);
         }
         EncValue::Class(kind) => {
-            out.push_str("class:")?;
-            push_type(out, program, *kind)
+            out.say("class:");
+            say_type(out, program, *kind);
         }
         EncValue::Field(field) => {
-            out.push_str("field:")?;
-            push_field(out, program, *field, false)
+            out.say("field:");
+            push_field(out, program, *field, false);
         }
         EncValue::Enum(field) => {
-            out.push_str("enum:")?;
-            push_field(out, program, *field, false)
+            out.say("enum:");
+            push_field(out, program, *field, false);
         }
         EncValue::Method(method) => {
-            out.push_str("method:")?;
-            push_method(out, program, *method, false)
+            out.say("method:");
+            push_method(out, program, *method, false);
         }
-        _ => out.push_str("?"),
+        EncValue::Null => out.say("null"),
+        _ => out.say("?"),
     }
 }
 
 /// Adds the line of a field.
-fn push_field_line(out: &mut String, program: &Program, field: &Field) -> Result<(), AllocError> {
-    out.push_str("  field ")?;
-    push_field(out, program, field.name, true)?;
-    push_access(out, program, field.flags, field.marks.as_slice())?;
+fn push_field_line(out: &mut Answer, program: &Program, field: &Field) {
+    out.say("  field ");
+    push_field(out, program, field.name, true);
+    push_access(out, program, field.flags, field.marks.as_slice());
     if let Some(value) = &field.first {
-        out.push_str(" = ")?;
-        push_value(out, program, value)?;
+        out.say(" = ");
+        push_value(out, program, value);
     }
-    out.push_str("\n")
+    out.say("\n");
 }
 
 /// Adds registers.
-fn push_registers(out: &mut String, registers: &[u16]) -> Result<(), AllocError> {
+fn push_registers(out: &mut Answer, registers: &[u16]) {
     for register in registers {
-        write!(out, " v{register}")?;
+        out.say_number(" v", i128::from(*register));
     }
-    Ok(())
 }
 
-/// Adds the lists of an array or a switch.
-fn push_lists(out: &mut String, insn: &Insn) -> Result<(), AllocError> {
-    if let Insn::FillArray { items, .. } = insn {
-        for item in items.as_slice() {
-            write!(out, " {item}")?;
-        }
+/// Adds the targets of a switch.
+fn push_targets(out: &mut Answer, targets: &[u32]) {
+    for target in targets {
+        out.say_number(" :", i128::from(*target));
     }
-    if let Insn::SparseSwitch { keys, .. } = insn {
-        for key in keys.as_slice() {
-            write!(out, " {key}")?;
-        }
+}
+
+/// Adds the items of an array.
+fn push_items(out: &mut Answer, items: &[u64]) {
+    for item in items {
+        out.say_number(" ", i128::from(*item));
     }
-    if let Insn::SparseSwitch { targets, .. } | Insn::PackedSwitch { targets, .. } = insn {
-        for target in targets.as_slice() {
-            write!(out, " :{target}")?;
-        }
+}
+
+/// Adds the keys of a switch.
+fn push_keys(out: &mut Answer, keys: &[i32]) {
+    for key in keys {
+        out.say_number(" ", i128::from(*key));
     }
-    Ok(())
+}
+
+/// Adds the registers of a call, and the lists of an array or a switch.
+fn push_lists(out: &mut Answer, insn: &Insn) {
+    match insn {
+        Insn::Invoke { args, .. } | Insn::FilledNewArray { args, .. } => {
+            push_registers(out, args.as_slice());
+        }
+        Insn::FillArray { items, .. } => push_items(out, items.as_slice()),
+        Insn::PackedSwitch { targets, .. } => push_targets(out, targets.as_slice()),
+        Insn::SparseSwitch { keys, targets, .. } => {
+            push_keys(out, keys.as_slice());
+            push_targets(out, targets.as_slice());
+        }
+        _ => {}
+    }
+}
+
+/// Adds what an instruction names, by the last letter of what its operands are.
+fn push_name(out: &mut Answer, program: &Program, kind: u8, name: u32) {
+    match kind {
+        b's' => push_string(out, program, name),
+        b't' => say_type(out, program, name),
+        b'f' => push_field(out, program, name, false),
+        _ => push_method(out, program, name, false),
+    }
 }
 
 /// Adds the line of an instruction.
-fn push_insn(out: &mut String, program: &Program, insn: &Insn) -> Result<(), AllocError> {
+fn push_insn(out: &mut Answer, program: &Program, insn: &Insn) {
     let parts = parts_of(insn);
     let Some((operands, mnemonic)) = spelled(parts.form, parts.operation) else {
-        return Ok(());
+        return;
     };
-    out.push_str("    ")?;
-    out.push_str(mnemonic)?;
+    out.say("    ");
+    out.say(mnemonic);
     if let Some(registers) = parts.registers.get(..parts.count) {
-        push_registers(out, registers)?;
-    }
-    if let Insn::Invoke { args, .. } | Insn::FilledNewArray { args, .. } = insn {
-        push_registers(out, args.as_slice())?;
+        push_registers(out, registers);
     }
     if let Some(number) = parts.number {
-        write!(out, " {number}")?;
+        out.say_number(" ", i128::from(number));
     }
-    push_lists(out, insn)?;
+    push_lists(out, insn);
     if let Some(label) = parts.label {
-        write!(out, " :{label}")?;
+        out.say_number(" :", i128::from(label));
     }
-    if !operands.ends_with('-') {
-        out.push_str(" ")?;
+    let kind = operands.bytes().last().unwrap_or(b'-');
+    if kind != b'-' {
+        out.say(" ");
+        push_name(out, program, kind, parts.name);
     }
-    match operands.bytes().last() {
-        Some(b's') => push_string(out, program, parts.name)?,
-        Some(b't') => push_type(out, program, parts.name)?,
-        Some(b'f') => push_field(out, program, parts.name, false)?,
-        Some(b'm') => push_method(out, program, parts.name, false)?,
-        _ => {}
-    }
-    out.push_str("\n")
+    out.say("\n");
 }
 
 /// Whether the instruction goes on to this position by its label or one of its targets.
@@ -263,7 +255,7 @@ fn is_named(region: &Region, position: u32) -> bool {
 }
 
 /// Adds the label of a position that something names.
-fn push_label(out: &mut String, body: &Body, position: u32) -> Result<(), AllocError> {
+fn push_label(out: &mut Answer, body: &Body, position: u32) {
     if body
         .insns
         .as_slice()
@@ -275,115 +267,105 @@ fn push_label(out: &mut String, body: &Body, position: u32) -> Result<(), AllocE
             .iter()
             .any(|region| is_named(region, position))
     {
-        write!(out, "    :{position}\n")?;
+        out.say_number("    :", i128::from(position));
+        out.say("\n");
     }
-    Ok(())
 }
 
 /// Adds the line of a region.
-fn push_region(out: &mut String, program: &Program, region: &Region) -> Result<(), AllocError> {
-    write!(out, "    try :{} :{}", region.first, region.end)?;
+fn push_region(out: &mut Answer, program: &Program, region: &Region) {
+    out.say_number("    try :", i128::from(region.first));
+    out.say_number(" :", i128::from(region.end));
     for handler in region.handlers.as_slice() {
-        out.push_str(" ")?;
-        push_type(out, program, handler.kind)?;
-        write!(out, " :{}", handler.position)?;
+        out.say(" ");
+        say_type(out, program, handler.kind);
+        out.say_number(" :", i128::from(handler.position));
     }
     if let Some(rest) = region.rest {
-        write!(out, " :{rest}")?;
+        out.say_number(" :", i128::from(rest));
     }
-    out.push_str("\n")
+    out.say("\n");
 }
 
 /// Adds the lines of code.
-fn push_code(
-    out: &mut String,
-    program: &Program,
-    body: &Body,
-    lines: &[u32],
-) -> Result<(), AllocError> {
-    write!(
-        out,
-        "    registers {}\n    ins {}\n",
-        body.registers, body.ins
-    )?;
+fn push_code(out: &mut Answer, program: &Program, body: &Body, lines: &[u32]) {
+    out.say_number("    registers ", i128::from(body.registers));
+    out.say_number("\n    ins ", i128::from(body.ins));
+    out.say("\n");
     let mut position: u32 = 0;
     let mut before = 0;
     for insn in body.insns.as_slice() {
-        push_label(out, body, position)?;
+        push_label(out, body, position);
         let line = lines.get(position as usize).copied().unwrap_or(before);
         if line != before {
-            write!(out, "    line {line}\n")?;
+            out.say_number("    line ", i128::from(line));
+            out.say("\n");
             before = line;
         }
-        push_insn(out, program, insn)?;
+        push_insn(out, program, insn);
         position = position.saturating_add(1);
     }
-    push_label(out, body, position)?;
+    push_label(out, body, position);
     for region in body.regions.as_slice() {
-        push_region(out, program, region)?;
+        push_region(out, program, region);
     }
-    Ok(())
 }
 
-/// The text of a body, whose lines begin with blanks.
-pub fn body_text(alloc: Global, program: &Program, body: &Body) -> Result<String, AllocError> {
-    let mut out = String::new(alloc);
-    push_code(&mut out, program, body, &[])?;
-    Ok(out)
+/// Adds the text of a body, whose lines begin with blanks.
+pub fn say_body(out: &mut Answer, program: &Program, body: &Body) {
+    push_code(out, program, body, &[]);
 }
 
 /// Adds the lines of a method.
-fn push_method_lines(
-    out: &mut String,
-    program: &Program,
-    method: &Method,
-) -> Result<(), AllocError> {
-    out.push_str("  method ")?;
-    push_method(out, program, method.name, true)?;
-    push_access(out, program, method.flags, method.marks.as_slice())?;
-    out.push_str("\n")?;
-    match &method.body {
-        Some(body) => push_code(out, program, body, method.lines.as_slice()),
-        None => Ok(()),
+fn push_method_lines(out: &mut Answer, program: &Program, method: &Method) {
+    out.say("  method ");
+    push_method(out, program, method.name, true);
+    push_access(out, program, method.flags, method.marks.as_slice());
+    out.say("\n");
+    if let Some(body) = &method.body {
+        push_code(out, program, body, method.lines.as_slice());
     }
 }
 
 /// Adds the line of a class.
-fn push_class_line(out: &mut String, program: &Program, class: &Class) -> Result<(), AllocError> {
-    out.push_str("class ")?;
-    push_type(out, program, class.name)?;
-    push_access(out, program, class.flags, class.marks.as_slice())?;
-    out.push_str(" extends ")?;
-    push_type(out, program, class.superclass)?;
+fn push_class_line(out: &mut Answer, program: &Program, class: &Class) {
+    out.say("class ");
+    say_type(out, program, class.name);
+    push_access(out, program, class.flags, class.marks.as_slice());
+    out.say(" extends ");
+    say_type(out, program, class.superclass);
     if let Some(source) = class.source {
-        out.push_str(" source ")?;
-        push_string(out, program, source)?;
+        out.say(" source ");
+        push_string(out, program, source);
     }
     if !class.interfaces.is_empty() {
-        out.push_str(" implements")?;
+        out.say(" implements");
     }
     for kind in class.interfaces.as_slice() {
-        out.push_str(" ")?;
-        push_type(out, program, *kind)?;
+        out.say(" ");
+        say_type(out, program, *kind);
     }
-    out.push_str("\n")
+    out.say("\n");
 }
 
-/// The text of a program's classes, which spells the program again where its tables are in order and have what the classes
-/// name, and no annotation has elements. What has no entry of its table is `?`.
-pub fn print(alloc: Global, program: &Program) -> Result<String, AllocError> {
-    let mut out = String::new(alloc);
+/// Adds the lines of a class.
+fn push_class(out: &mut Answer, program: &Program, class: &Class) {
+    push_class_line(out, program, class);
+    for field in class.fields.as_slice() {
+        push_field_line(out, program, field);
+    }
+    for method in class.methods.as_slice() {
+        push_method_lines(out, program, method);
+    }
+}
+
+/// Adds the text of a program's classes, which spells the program again where its tables are in order and have what the
+/// classes name, and no annotation has elements. What has no entry of its table is `?`.
+pub fn print(out: &mut Answer, program: &Program) {
     if program.version == Version::V037 {
-        out.push_str("version 037\n")?;
+        out.say("version 037\n");
     }
     for class in program.classes.as_slice() {
-        push_class_line(&mut out, program, class)?;
-        for field in class.fields.as_slice() {
-            push_field_line(&mut out, program, field)?;
-        }
-        for method in class.methods.as_slice() {
-            push_method_lines(&mut out, program, method)?;
-        }
+        push_class(out, program, class);
     }
-    Ok(out)
 }

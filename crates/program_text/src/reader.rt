@@ -1,9 +1,9 @@
 //! Reads a text as a program, twice: the first time gathers what is named and where labels stand, and the second time
 //! has the numbers of all that.
 
-use crate::fault::{TextFault, Trouble};
+use crate::answer::Answer;
 use crate::forms::{Found, find};
-use crate::names::{Names, ProtoOf, units_of};
+use crate::names::{Names, ProtoOf};
 use crate::operands::{Operands, insn_of};
 use crate::values::{flag_of, named_value, number_value};
 use program_model::{
@@ -11,8 +11,9 @@ use program_model::{
     Version,
 };
 use seq::Seq;
-use std::alloc::{AllocError, Global};
+use std::alloc::Global;
 use std::collections::BTreeMap;
+use std::mem::replace;
 
 /// The superclass of a class that names none.
 const OBJECT: &str = "Ljava/lang/Object;";
@@ -52,10 +53,13 @@ impl Part {
 }
 
 /// What was read so far. `program` has the classes that have ended; `class`, `method` and `body` are those that go on,
-/// `words` the registers that the method's arguments take, and `line` the line of the source of what comes.
+/// `words` the registers that the method's arguments take, and `line` the line of the source of what comes. That a line
+/// can't be read is remembered in `seen`, and its number in `wrong`: so what reads a part of it has no way out of its own.
 #[derive(Drop)]
 struct Assembler {
     alloc: Global,
+    seen: Answer,
+    wrong: u32,
     names: Names,
     labels: BTreeMap<String, u32>,
     is_second: bool,
@@ -84,11 +88,8 @@ fn empty(alloc: Global) -> Program {
 }
 
 /// The number that a word spells.
-fn small(word: Option<&str>) -> Result<u16, Trouble> {
-    match word {
-        Some(word) => word.parse::<u16>().map_err(|_| Trouble::Words),
-        None => Err(Trouble::Words),
-    }
+fn small(word: Option<&str>) -> Option<u16> {
+    word?.parse::<u16>().ok()
 }
 
 /// The place of a directive.
@@ -108,12 +109,14 @@ fn fit(found: &Found, operands: &Operands) -> bool {
 }
 
 impl Assembler {
-    fn new(alloc: Global, names: Names, labels: BTreeMap<String, u32>, is_second: bool) -> Self {
+    fn new(alloc: Global) -> Self {
         Assembler {
             alloc,
-            names,
-            labels,
-            is_second,
+            seen: Answer::new(alloc),
+            wrong: 0,
+            names: Names::new(alloc),
+            labels: BTreeMap::new(alloc),
+            is_second: false,
             program: empty(alloc),
             class: None,
             class_name: Vec::new(alloc),
@@ -126,84 +129,113 @@ impl Assembler {
         }
     }
 
+    /// The word at a place.
+    fn word<'a>(&mut self, words: &[&'a str], place: usize) -> &'a str {
+        match words.get(place) {
+            Some(word) => *word,
+            None => {
+                self.seen.refuse();
+                ""
+            }
+        }
+    }
+
     /// The number of a type.
-    fn kind(&mut self, word: &str) -> Result<u32, Trouble> {
-        let units = units_of(self.alloc, word)?;
-        Ok(self.names.kind(units.as_slice())?)
+    fn kind(&mut self, word: &str) -> u32 {
+        let units = self.seen.units(word);
+        self.names.kind(units.as_slice())
     }
 
     /// The number of a string, which may stand between quotes.
-    fn string(&mut self, word: &str) -> Result<u32, Trouble> {
+    fn string(&mut self, word: &str) -> u32 {
         let word = word.strip_prefix('"').unwrap_or(word);
         let word = word.strip_suffix('"').unwrap_or(word);
-        let units = units_of(self.alloc, word)?;
-        Ok(self.names.string(units.as_slice())?)
+        let units = self.seen.units(word);
+        self.names.string(units.as_slice())
     }
 
     /// The number of a field `CLASS->NAME:TYPE`.
-    fn field(&mut self, word: &str) -> Result<u32, Trouble> {
-        let (class, member) = word.split_once("->").ok_or(Trouble::Words)?;
-        let (name, kind) = member.split_once(':').ok_or(Trouble::Words)?;
-        let class = units_of(self.alloc, class)?;
-        self.field_in(class.as_slice(), name, kind)
-    }
-
-    /// The number of a field of a class.
-    fn field_in(&mut self, class: &[u16], name: &str, kind: &str) -> Result<u32, Trouble> {
-        let name = units_of(self.alloc, name)?;
-        let kind = units_of(self.alloc, kind)?;
-        Ok(
-            self.names
-                .field(&mut self.program, class, name.as_slice(), kind.as_slice())?,
+    fn field(&mut self, word: &str) -> u32 {
+        let (class, member) = self.seen.split(word, "->");
+        let (name, kind) = self.seen.split(member, ":");
+        let class = self.seen.units(class);
+        let name = self.seen.units(name);
+        let kind = self.seen.units(kind);
+        self.names.field(
+            &mut self.program,
+            class.as_slice(),
+            name.as_slice(),
+            kind.as_slice(),
         )
-    }
-
-    /// The number of a method `CLASS->NAME(PARAMETERS)RESULT`.
-    fn method(&mut self, word: &str) -> Result<u32, Trouble> {
-        let (class, member) = word.split_once("->").ok_or(Trouble::Words)?;
-        let class = units_of(self.alloc, class)?;
-        Ok(self.method_in(class.as_slice(), member)?.number)
     }
 
     /// The method `NAME(PARAMETERS)RESULT` of a class.
-    fn method_in(&mut self, class: &[u16], member: &str) -> Result<ProtoOf, Trouble> {
-        let (name, proto) = member.split_once('(').ok_or(Trouble::Words)?;
-        let (parameters, answer) = proto.split_once(')').ok_or(Trouble::Words)?;
-        let name = units_of(self.alloc, name)?;
-        let parameters = units_of(self.alloc, parameters)?;
-        let answer = units_of(self.alloc, answer)?;
+    fn method_in(&mut self, class: &[u16], member: &str) -> ProtoOf {
+        let (name, proto) = self.seen.split(member, "(");
+        let (parameters, answer) = self.seen.split(proto, ")");
+        let name = self.seen.units(name);
+        let parameters = self.seen.units(parameters);
+        let answer = self.seen.units(answer);
         let proto = (parameters.as_slice(), answer.as_slice());
-        Ok(
-            self.names
-                .method(&mut self.program, class, name.as_slice(), proto)?,
-        )
+        self.names
+            .method(&mut self.program, class, name.as_slice(), proto)
+    }
+
+    /// The number of a method `CLASS->NAME(PARAMETERS)RESULT`.
+    fn method(&mut self, word: &str) -> u32 {
+        let (class, member) = self.seen.split(word, "->");
+        let class = self.seen.units(class);
+        self.method_in(class.as_slice(), member).number
+    }
+
+    /// A first value that is a number or `null`.
+    fn number(&mut self, word: &str) -> EncValue {
+        match number_value(word) {
+            Some(value) => value,
+            None => {
+                self.seen.refuse();
+                EncValue::Null
+            }
+        }
     }
 
     /// A first value.
-    fn value(&mut self, word: &str) -> Result<EncValue, Trouble> {
-        Ok(match named_value(word) {
-            Some((0, name)) => EncValue::Str(self.string(name)?),
-            Some((1, name)) => EncValue::Class(self.kind(name)?),
-            Some((2, name)) => EncValue::Field(self.field(name)?),
-            Some((3, name)) => EncValue::Method(self.method(name)?),
-            Some((_, name)) => EncValue::Enum(self.field(name)?),
-            None => number_value(word).ok_or(Trouble::Words)?,
-        })
+    fn value(&mut self, word: &str) -> EncValue {
+        match named_value(word) {
+            Some((0, name)) => EncValue::Str(self.string(name)),
+            Some((1, name)) => EncValue::Class(self.kind(name)),
+            Some((2, name)) => EncValue::Field(self.field(name)),
+            Some((3, name)) => EncValue::Method(self.method(name)),
+            Some((_, name)) => EncValue::Enum(self.field(name)),
+            None => self.number(word),
+        }
     }
 
     /// An annotation without elements.
-    fn mark(&mut self, kind: &str) -> Result<Mark, Trouble> {
-        Ok(Mark {
+    fn mark(&mut self, kind: &str) -> Mark {
+        Mark {
             visibility: 1,
             note: Note {
-                class: self.kind(kind)?,
+                class: self.kind(kind),
                 elements: Seq::new(self.alloc),
             },
-        })
+        }
+    }
+
+    /// Reads a word of a line of a class or a member.
+    fn add_word<'a>(&mut self, word: &'a str, heading: &mut Heading<'a>) {
+        if let Some(kind) = word.strip_prefix('@') {
+            let mark = self.mark(kind);
+            self.seen.note(heading.marks.push(mark).is_err());
+        } else if let Some(flag) = flag_of(word) {
+            heading.flags.0 |= flag;
+        } else {
+            self.seen.note(heading.words.push(word).is_err());
+        }
     }
 
     /// The words of a line of a class or a member.
-    fn heading<'a>(&mut self, text: &'a str) -> Result<Heading<'a>, Trouble> {
+    fn heading<'a>(&mut self, text: &'a str) -> Heading<'a> {
         let mut heading = Heading {
             flags: Flags(0),
             marks: Seq::new(self.alloc),
@@ -215,52 +247,84 @@ impl Assembler {
             None => (text, None),
         };
         for word in said.split_whitespace().skip(1) {
-            if let Some(kind) = word.strip_prefix('@') {
-                heading.marks.push(self.mark(kind)?)?;
-            } else if let Some(flag) = flag_of(word) {
-                heading.flags.0 |= flag;
-            } else {
-                heading.words.push(word).map_err(AllocError::from)?;
-            }
+            self.add_word(word, &mut heading);
         }
         if let Some(value) = value {
-            heading.first = Some(self.value(value.trim())?);
+            heading.first = Some(self.value(value.trim()));
         }
-        Ok(heading)
+        heading
     }
 
     /// The method that goes on ends.
-    fn end_method(&mut self) -> Result<(), AllocError> {
+    fn end_method(&mut self) {
         let Some(mut method) = self.method.take() else {
-            return Ok(());
+            return;
         };
         method.body = self.body.take();
-        method.lines = self.lines.clone()?;
-        self.lines = Seq::new(self.alloc);
+        method.lines = replace(&mut self.lines, Seq::new(self.alloc));
         self.line = None;
         if let Some(class) = &mut self.class {
-            class.methods.push(method)?;
+            self.seen.note(class.methods.push(method).is_err());
         }
-        Ok(())
     }
 
     /// The class that goes on ends.
-    fn end_class(&mut self) -> Result<(), AllocError> {
-        self.end_method()?;
-        match self.class.take() {
-            Some(class) => self.program.classes.push(class),
-            None => Ok(()),
+    fn end_class(&mut self) {
+        self.end_method();
+        if let Some(class) = self.class.take() {
+            self.seen.note(self.program.classes.push(class).is_err());
+        }
+    }
+
+    /// The number of the class that a line names first, whose members are those that follow.
+    fn name_class(&mut self, words: &[&str]) -> u32 {
+        let name = self.word(words, 0);
+        self.class_name = self.seen.units(name);
+        self.kind(name)
+    }
+
+    /// An interface of the class.
+    fn add_interface(&mut self, word: &str) {
+        let kind = self.kind(word);
+        if let Some(class) = &mut self.class {
+            self.seen.note(class.interfaces.push(kind).is_err());
+        }
+    }
+
+    /// The source of the class.
+    fn set_source(&mut self, word: &str) {
+        let string = self.string(word);
+        if let Some(class) = &mut self.class {
+            class.source = Some(string);
+        }
+    }
+
+    /// What the words of the class's line say behind its name.
+    fn add_above(&mut self, words: &[&str]) {
+        let mut superclass = OBJECT;
+        let mut part = Part::Name;
+        for word in words {
+            match (Part::of(*word), part) {
+                (Some(next), _) => part = next,
+                (None, Part::Name) => {}
+                (None, Part::Superclass) => superclass = *word,
+                (None, Part::Interfaces) => self.add_interface(*word),
+                (None, Part::Source) => self.set_source(*word),
+            }
+        }
+        let superclass = self.kind(superclass);
+        if let Some(class) = &mut self.class {
+            class.superclass = superclass;
         }
     }
 
     /// A class begins.
-    fn begin_class(&mut self, text: &str) -> Result<(), Trouble> {
-        self.end_class()?;
-        let heading = self.heading(text)?;
-        let name = heading.words.first().copied().ok_or(Trouble::Words)?;
-        self.class_name = units_of(self.alloc, name)?;
-        let mut class = Class {
-            name: self.kind(name)?,
+    fn begin_class(&mut self, text: &str) {
+        self.end_class();
+        let heading = self.heading(text);
+        let name = self.name_class(heading.words.as_slice());
+        self.class = Some(Class {
+            name,
             flags: heading.flags,
             superclass: 0,
             interfaces: Seq::new(self.alloc),
@@ -268,55 +332,58 @@ impl Assembler {
             marks: heading.marks,
             fields: Seq::new(self.alloc),
             methods: Seq::new(self.alloc),
-        };
-        let mut superclass = None;
-        let mut part = Part::Name;
-        for word in &heading.words {
-            match (Part::of(*word), part) {
-                (Some(next), _) => part = next,
-                (None, Part::Name) => {}
-                (None, Part::Superclass) => superclass = Some(self.kind(*word)?),
-                (None, Part::Interfaces) => class.interfaces.push(self.kind(*word)?)?,
-                (None, Part::Source) => class.source = Some(self.string(*word)?),
-            }
-        }
-        class.superclass = match superclass {
-            Some(kind) => kind,
-            None => self.kind(OBJECT)?,
-        };
-        self.class = Some(class);
-        Ok(())
+        });
+        self.add_above(heading.words.as_slice());
+    }
+
+    /// The number of the field of the class that a line names.
+    fn field_named(&mut self, words: &[&str]) -> u32 {
+        let name = self.word(words, 0);
+        let kind = self.word(words, 1);
+        let name = self.seen.units(name);
+        let kind = self.seen.units(kind);
+        self.names.field(
+            &mut self.program,
+            self.class_name.as_slice(),
+            name.as_slice(),
+            kind.as_slice(),
+        )
     }
 
     /// A field of the class.
-    fn add_field(&mut self, text: &str) -> Result<(), Trouble> {
-        self.end_method()?;
-        let heading = self.heading(text)?;
-        let name = heading.words.first().copied().ok_or(Trouble::Words)?;
-        let kind = heading.words.get(1).copied().ok_or(Trouble::Words)?;
-        let class = self.class_name.clone()?;
+    fn add_field(&mut self, text: &str) {
+        self.end_method();
+        let heading = self.heading(text);
+        let name = self.field_named(heading.words.as_slice());
         let field = Field {
-            name: self.field_in(class.as_slice(), name, kind)?,
+            name,
             flags: heading.flags,
             first: heading.first,
             marks: heading.marks,
         };
         match &mut self.class {
-            Some(class) => Ok(class.fields.push(field)?),
-            None => Err(Trouble::Words),
+            Some(class) => self.seen.note(class.fields.push(field).is_err()),
+            None => self.seen.refuse(),
         }
     }
 
-    /// A method of the class begins.
-    fn begin_method(&mut self, text: &str) -> Result<(), Trouble> {
-        self.end_method()?;
-        let heading = self.heading(text)?;
+    /// The method of the class that a line names.
+    fn method_named(&mut self, words: &[&str]) -> ProtoOf {
         let mut member = String::new(self.alloc);
-        for word in &heading.words {
-            member.push_str(*word)?;
+        for word in words {
+            self.seen.note(member.push_str(*word).is_err());
         }
-        let class = self.class_name.clone()?;
-        let method = self.method_in(class.as_slice(), member.as_str())?;
+        let class = replace(&mut self.class_name, Vec::new(self.alloc));
+        let method = self.method_in(class.as_slice(), member.as_str());
+        self.class_name = class;
+        method
+    }
+
+    /// A method of the class begins.
+    fn begin_method(&mut self, text: &str) {
+        self.end_method();
+        let heading = self.heading(text);
+        let method = self.method_named(heading.words.as_slice());
         let receiver = if heading.flags.has(Flags::STATIC) {
             0
         } else {
@@ -332,41 +399,56 @@ impl Assembler {
             body: None,
             lines: Seq::new(self.alloc),
         });
-        Ok(())
+    }
+
+    /// The key of a label of the method.
+    fn key(&mut self, label: &str) -> Option<String> {
+        let methods = self.methods;
+        let key = format!(in self.alloc; "{methods}{label}").ok();
+        self.seen.note(key.is_none());
+        key
     }
 
     /// The position of a label of the method.
-    fn label(&self, label: &str) -> Result<u32, Trouble> {
-        let methods = self.methods;
-        let key = format!(in self.alloc; "{methods}{label}")?;
-        match self.labels.get(key.as_str()) {
-            Some(position) => Ok(*position),
-            None if self.is_second => Err(Trouble::Words),
-            None => Ok(0),
+    fn label(&mut self, label: &str) -> u32 {
+        let position = match self.key(label) {
+            Some(key) => self.labels.get(key.as_str()).copied(),
+            None => None,
+        };
+        self.seen.refuse_where(self.is_second && position.is_none());
+        position.unwrap_or(0)
+    }
+
+    /// The position of a label that has to stand there.
+    fn label_of(&mut self, word: Option<&str>) -> u32 {
+        self.seen.refuse_where(word.is_none());
+        self.label(word.unwrap_or(""))
+    }
+
+    /// How many instructions the method has so far.
+    fn position(&self) -> u32 {
+        match &self.body {
+            Some(body) => u32::try_from(body.insns.len()).unwrap_or(u32::MAX),
+            None => 0,
         }
     }
 
     /// A label stands here.
-    fn put_label(&mut self, label: &str) -> Result<(), Trouble> {
+    fn put_label(&mut self, label: &str) {
         if self.is_second {
-            return Ok(());
+            return;
         }
-        let methods = self.methods;
-        let key = format!(in self.alloc; "{methods}{label}")?;
-        let position = match &self.body {
-            Some(body) => body.insns.len(),
-            None => 0,
-        };
-        let position = u32::try_from(position).map_err(|_| Trouble::Words)?;
-        match self.labels.insert(key, position) {
-            Ok(None) => Ok(()),
-            Ok(Some(_)) => Err(Trouble::Words),
-            Err(_) => Err(Trouble::NoMemory),
+        let position = self.position();
+        if let Some(key) = self.key(label) {
+            match self.labels.insert(key, position) {
+                Ok(before) => self.seen.refuse_where(before.is_some()),
+                Err(_) => self.seen.note(true),
+            }
         }
     }
 
     /// The number of what a form names, by the last letter of what its operands are.
-    fn name(&mut self, kind: u8, word: &str) -> Result<u32, Trouble> {
+    fn name(&mut self, kind: u8, word: &str) -> u32 {
         match kind {
             b's' => self.string(word),
             b't' => self.kind(word),
@@ -376,7 +458,7 @@ impl Assembler {
     }
 
     /// The operands of a form in a line.
-    fn operands(&mut self, found: &Found, text: &str) -> Result<Operands, Trouble> {
+    fn operands(&mut self, found: &Found, text: &str) -> Operands {
         let mut operands = Operands {
             registers: Vec::new(self.alloc),
             numbers: Vec::new(self.alloc),
@@ -386,95 +468,106 @@ impl Assembler {
         let kind = found.operands.bytes().last().unwrap_or(b'-');
         let mut is_named = kind == b'-';
         for word in text.split_whitespace().skip(1) {
-            let register = word.strip_prefix('v').map(|digits| digits.parse::<u16>());
-            if let Some(Ok(register)) = register {
-                operands.registers.push(register).map_err(AllocError::from)?;
+            if let Some(register) = small(word.strip_prefix('v')) {
+                self.seen.note(operands.registers.push(register).is_err());
             } else if word.starts_with(':') {
-                operands
-                    .labels
-                    .push(self.label(word)?)
-                    .map_err(AllocError::from)?;
+                let label = self.label(word);
+                self.seen.note(operands.labels.push(label).is_err());
             } else if let Ok(number) = word.parse::<i128>() {
-                operands.numbers.push(number).map_err(AllocError::from)?;
-            } else if is_named {
-                return Err(Trouble::Words);
+                self.seen.note(operands.numbers.push(number).is_err());
             } else {
-                operands.name = self.name(kind, word)?;
+                self.seen.refuse_where(is_named);
+                operands.name = self.name(kind, word);
                 is_named = true;
             }
         }
-        if is_named {
-            Ok(operands)
-        } else {
-            Err(Trouble::Words)
+        self.seen.refuse_where(!is_named);
+        operands
+    }
+
+    /// The instruction of a form with these operands.
+    fn insn(&mut self, found: &Found, operands: &Operands) -> Option<Insn> {
+        if !fit(found, operands) {
+            return None;
+        }
+        match insn_of(self.alloc, found.form, found.operation, operands) {
+            Ok(insn) => insn,
+            Err(_) => {
+                self.seen.note(true);
+                None
+            }
+        }
+    }
+
+    /// Adds an instruction to the method.
+    fn put_insn(&mut self, insn: Insn) {
+        if let Some(line) = self.line {
+            self.seen.note(self.lines.push(line).is_err());
+        }
+        match &mut self.body {
+            Some(body) => self.seen.note(body.insns.push(insn).is_err()),
+            None => self.seen.refuse(),
         }
     }
 
     /// An instruction of the method.
-    fn add_insn(&mut self, text: &str) -> Result<(), Trouble> {
-        let mnemonic = text.split_whitespace().next().ok_or(Trouble::Words)?;
-        let found = find(mnemonic).ok_or(Trouble::Words)?;
-        let operands = self.operands(&found, text)?;
-        if !fit(&found, &operands) {
-            return Err(Trouble::Words);
+    fn add_insn(&mut self, text: &str) {
+        let Some(found) = find(text.split_whitespace().next().unwrap_or("")) else {
+            self.seen.refuse();
+            return;
+        };
+        let operands = self.operands(&found, text);
+        match self.insn(&found, &operands) {
+            Some(insn) => self.put_insn(insn),
+            None => self.seen.refuse(),
         }
-        let insn = insn_of(self.alloc, found.form, found.operation, &operands)?;
-        let insn: Insn = insn.ok_or(Trouble::Words)?;
-        if let Some(line) = self.line {
-            self.lines.push(line)?;
-        }
-        match &mut self.body {
-            Some(body) => Ok(body.insns.push(insn)?),
-            None => Err(Trouble::Words),
+    }
+
+    /// Reads the handlers of a region and its catch-all, from the third word on.
+    fn fill_region(&mut self, text: &str, region: &mut Region) {
+        let mut kind = None;
+        for word in text.split_whitespace().skip(3) {
+            match kind {
+                _ if !word.starts_with(':') => kind = Some(self.kind(word)),
+                Some(of) => {
+                    let position = self.label(word);
+                    let handler = Handler { kind: of, position };
+                    self.seen.note(region.handlers.push(handler).is_err());
+                    kind = None;
+                }
+                None => region.rest = Some(self.label(word)),
+            }
         }
     }
 
     /// A region of the method: its first position, its end, the types with the positions of their handlers, and the
     /// position of the catch-all.
-    fn add_region(&mut self, text: &str) -> Result<(), Trouble> {
+    fn add_region(&mut self, text: &str) {
         let mut words = text.split_whitespace().skip(1);
-        let first = self.label(words.next().ok_or(Trouble::Words)?)?;
-        let end = self.label(words.next().ok_or(Trouble::Words)?)?;
-        let mut handlers = Seq::new(self.alloc);
-        let mut rest = None;
-        let mut kind = None;
-        for word in words {
-            match kind {
-                _ if !word.starts_with(':') => kind = Some(self.kind(word)?),
-                Some(of) => {
-                    handlers.push(Handler {
-                        kind: of,
-                        position: self.label(word)?,
-                    })?;
-                    kind = None;
-                }
-                None => rest = Some(self.label(word)?),
-            }
-        }
-        let region = Region {
-            first,
-            end,
-            handlers,
-            rest,
+        let mut region = Region {
+            first: self.label_of(words.next()),
+            end: self.label_of(words.next()),
+            handlers: Seq::new(self.alloc),
+            rest: None,
         };
+        self.fill_region(text, &mut region);
         match &mut self.body {
-            Some(body) => Ok(body.regions.push(region)?),
-            None => Err(Trouble::Words),
+            Some(body) => self.seen.note(body.regions.push(region).is_err()),
+            None => self.seen.refuse(),
         }
     }
 
     /// What no class names.
-    fn add_names(&mut self, text: &str) -> Result<(), Trouble> {
+    fn add_names(&mut self, text: &str) {
         for word in text.split_whitespace().skip(1) {
             if word.contains('(') {
-                self.method(word)?;
+                self.method(word);
             } else if word.contains(':') {
-                self.field(word)?;
+                self.field(word);
             } else {
-                self.kind(word)?;
+                self.kind(word);
             }
         }
-        Ok(())
     }
 
     /// The method has code, with so many registers.
@@ -488,22 +581,17 @@ impl Assembler {
     }
 
     /// What follows stands in this line of the source.
-    fn set_line(&mut self, line: u16) -> Result<(), AllocError> {
-        let before = match &self.body {
-            Some(body) => body.insns.len(),
-            None => 0,
-        };
+    fn set_line(&mut self, line: u16) {
         if self.line.is_none() {
-            for _ in 0..before {
-                self.lines.push(0)?;
+            for _ in 0..self.position() {
+                self.seen.note(self.lines.push(0).is_err());
             }
         }
         self.line = Some(u32::from(line));
-        Ok(())
     }
 
     /// Says how many registers the code has, how many of them are arguments, the line of the source, or the version.
-    fn count(&mut self, directive: usize, number: u16) -> Result<(), AllocError> {
+    fn count(&mut self, directive: usize, number: u16) {
         match directive {
             5 => self.begin_code(number),
             6 => {
@@ -511,75 +599,89 @@ impl Assembler {
                     body.ins = number;
                 }
             }
-            7 => return self.set_line(number),
+            7 => self.set_line(number),
             _ if number == 37 => self.program.version = Version::V037,
             _ => self.program.version = Version::V035,
         }
-        Ok(())
     }
 
     /// Reads a line that begins with a directive, by its place.
-    fn direct(&mut self, directive: usize, text: &str) -> Result<(), Trouble> {
+    fn direct(&mut self, directive: usize, text: &str) {
         match directive {
             0 => self.begin_class(text),
             1 => self.add_field(text),
             2 => self.begin_method(text),
             3 => self.add_region(text),
             4 => self.add_names(text),
-            _ => Ok(self.count(directive, small(text.split_whitespace().nth(1))?)?),
+            _ => match small(text.split_whitespace().nth(1)) {
+                Some(number) => self.count(directive, number),
+                None => self.seen.refuse(),
+            },
         }
     }
 
     /// Reads a line.
-    fn read(&mut self, text: &str) -> Result<(), Trouble> {
+    fn read(&mut self, text: &str) {
         let first = text.split_whitespace().next().unwrap_or("#");
-        if first.starts_with('#') {
-            return Ok(());
-        }
         if first.starts_with(':') {
-            return self.put_label(first);
-        }
-        match directive(first) {
-            Some(directive) => self.direct(directive, text),
-            None => self.add_insn(text),
+            self.put_label(first);
+        } else if !first.starts_with('#') {
+            match directive(first) {
+                Some(directive) => self.direct(directive, text),
+                None => self.add_insn(text),
+            }
         }
     }
 
     /// Reads all lines.
-    fn read_all(&mut self, text: &str) -> Result<(), TextFault> {
+    fn read_all(&mut self, text: &str) {
         let mut number: u32 = 0;
         for line in text.lines() {
             number = number.saturating_add(1);
-            self.read(line).map_err(|trouble| trouble.at(number))?;
+            self.read(line);
+            if self.wrong == 0 && self.seen.is_wrong() {
+                self.wrong = number;
+            }
         }
-        Ok(self.end_class()?)
+        self.end_class();
+    }
+
+    /// Numbers what was named, and begins a program with tables of all that.
+    fn begin_again(&mut self) {
+        self.is_second = true;
+        self.methods = 0;
+        self.line = None;
+        self.lines = Seq::new(self.alloc);
+        self.program = empty(self.alloc);
+        self.names.number();
+        let begun = self.names.begin(&mut self.program);
+        self.seen.note(begun.is_err());
+    }
+
+    /// Reads a text twice.
+    fn read_twice(&mut self, text: &str) {
+        self.read_all(text);
+        self.begin_again();
+        self.read_all(text);
+        self.seen.note(self.names.lacks_memory());
+    }
+
+    /// Tells what went wrong.
+    fn tell(&self, answer: &mut Answer) {
+        answer.note(self.seen.lacks_memory());
+        if self.wrong > 0 {
+            answer.say_number("line ", i128::from(self.wrong));
+            answer.say(" of the program ");
+            answer.refuse();
+        }
     }
 }
 
-/// What a first reading names, and where its labels stand.
-fn gathered(alloc: Global, text: &str) -> Result<(Names, BTreeMap<String, u32>), TextFault> {
-    let mut first = Assembler::new(alloc, Names::new(alloc), BTreeMap::new(alloc), false);
-    first.read_all(text)?;
-    Ok((first.names, first.labels))
-}
-
-/// What a second reading gives.
-fn numbered(
-    alloc: Global,
-    names: Names,
-    labels: BTreeMap<String, u32>,
-    text: &str,
-) -> Result<Program, TextFault> {
-    let mut second = Assembler::new(alloc, names, labels, true);
-    second.names.begin(&mut second.program)?;
-    second.read_all(text)?;
-    Ok(second.program)
-}
-
-/// The program of a text, whose tables have what it names, in order. The errors are the first line that can't be read,
-/// and want of memory.
-pub fn assemble(alloc: Global, text: &str) -> Result<Program, TextFault> {
-    let (mut names, labels) = gathered(alloc, text)?;
-    names.number();
-    numbered(alloc, names, labels, text)
+/// The program of a text, whose tables have what it names, in order. Where a line can't be read the answer is refused, and
+/// has its number.
+pub fn program_of(answer: &mut Answer, text: &str) -> Program {
+    let mut reading = Assembler::new(answer.alloc());
+    reading.read_twice(text);
+    reading.tell(answer);
+    reading.program
 }

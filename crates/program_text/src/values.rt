@@ -1,7 +1,7 @@
 //! First values and flags as words.
 
+use crate::answer::Answer;
 use program_model::EncValue;
-use std::alloc::AllocError;
 
 /// The kinds of first values that are a number.
 const KINDS: &str = "byte short char int long float double bool";
@@ -29,14 +29,13 @@ pub fn flag_of(word: &str) -> Option<u32> {
 }
 
 /// Adds the words of flags in the order of their bits, each behind a blank.
-pub fn push_flags(out: &mut String, flags: u32) -> Result<(), AllocError> {
+pub fn push_flags(out: &mut Answer, flags: u32) {
     for (place, word) in FLAGS.split_whitespace().enumerate() {
         if flag_at(place).unwrap_or(0) & flags != 0 {
-            out.push_str(" ")?;
-            out.push_str(word)?;
+            out.say(" ");
+            out.say(word);
         }
     }
-    Ok(())
 }
 
 /// What a first value names: its kind by its place among those that name something, and the name.

@@ -1,35 +1,63 @@
 //! What lies ready for the runs of a row.
 
-use crate::files::{file_of, text_of};
+use crate::files::{file_of, say_file};
 use crate::forgetful::Forgetful;
+use program_text::Answer;
 use redex_cli::run;
 use redex_outside::{Adviser, BudgetAdviser, Fail, MemoryNotes, MemoryShelf, PrefixAdviser};
-use row_text::Trouble;
-use std::alloc::{AllocError, Global};
+use std::alloc::Global;
 
 /// The shelf, which call of the next run's notes fails, and whether its adviser finds no memory.
 #[derive(Drop)]
 pub struct Desk {
-    alloc: Global,
     shelf: MemoryShelf,
     pub saying: Option<Fail>,
     pub is_forgetful: bool,
 }
 
 /// The list of this one, or the empty one.
-fn list_of(alloc: Global, fail: Option<Fail>) -> Result<Vec<Fail>, AllocError> {
-    let mut fails = Vec::new(alloc);
+fn list_of(answer: &mut Answer, fail: Option<Fail>) -> Vec<Fail> {
+    let mut fails = Vec::new(answer.alloc());
     if let Some(fail) = fail {
-        fails.push(fail)?;
+        answer.note(fails.push(fail).is_err());
     }
-    Ok(fails)
+    fails
+}
+
+/// The words of a line.
+fn words_of(answer: &mut Answer, words: &str) -> Vec<String> {
+    let mut list = Vec::new(answer.alloc());
+    for word in words.split_whitespace() {
+        let made = String::from_str(answer.alloc(), word);
+        if let Some(word) = answer.taken(made) {
+            answer.note(list.push(word).is_err());
+        }
+    }
+    list
+}
+
+/// A copy of bytes.
+pub fn copied(answer: &mut Answer, bytes: &[u8]) -> Vec<u8> {
+    let mut copy = Vec::new(answer.alloc());
+    answer.note(copy.extend_from_slice(bytes).is_err());
+    copy
+}
+
+/// An adviser in a box.
+fn boxed<A: Drop>(answer: &mut Answer, adviser: A) -> Option<Box<A>> {
+    match Box::new(answer.alloc(), adviser) {
+        Ok(boxed) => Some(boxed),
+        Err(_) => {
+            answer.note(true);
+            None
+        }
+    }
 }
 
 impl Desk {
     /// An empty desk.
     pub fn new(alloc: Global) -> Desk {
         Desk {
-            alloc,
             shelf: MemoryShelf::new(alloc, Vec::new(alloc)),
             saying: None,
             is_forgetful: false,
@@ -37,72 +65,86 @@ impl Desk {
     }
 
     /// Begins a row about a program, on a shelf that may fail.
-    pub fn begin(&mut self, text: &str, fail: Option<Fail>) -> Result<(), Trouble> {
-        let mut shelf = MemoryShelf::new(self.alloc, list_of(self.alloc, fail)?);
-        shelf.add(self.alloc, "in", file_of(self.alloc, text)?.as_slice())?;
-        shelf.add(self.alloc, "out", b"old")?;
-        self.shelf = shelf;
-        Ok(())
+    pub fn begin(&mut self, answer: &mut Answer, text: &str, fail: Option<Fail>) {
+        let fails = list_of(answer, fail);
+        let file = file_of(answer, text);
+        self.shelf = MemoryShelf::new(answer.alloc(), fails);
+        self.put(answer, "in", file.as_slice());
+        self.put(answer, "out", b"old");
     }
 
     /// What the shelf holds under a name, the empty list where that is nothing.
-    pub fn held(&self, name: &str) -> Result<Vec<u8>, AllocError> {
-        Vec::from_slice(self.alloc, self.shelf.bytes(name).unwrap_or(b""))
+    pub fn held(&self, name: &str) -> &[u8] {
+        self.shelf.bytes(name).unwrap_or(b"")
     }
 
     /// Puts bytes under a name.
-    pub fn put(&mut self, name: &str, bytes: &[u8]) -> Result<(), AllocError> {
-        self.shelf.add(self.alloc, name, bytes)
+    pub fn put(&mut self, answer: &mut Answer, name: &str, bytes: &[u8]) {
+        let added = self.shelf.add(answer.alloc(), name, bytes);
+        answer.note(added.is_err());
     }
 
     /// Adds a line to what a name holds.
-    pub fn add_line(&mut self, name: &str, line: &str) -> Result<(), AllocError> {
-        let mut text = self.held(name)?;
+    pub fn add_line(&mut self, answer: &mut Answer, name: &str, line: &str) {
+        let mut text = copied(answer, self.held(name));
         if self.shelf.bytes(name).is_some() {
-            text.push(b'\n')?;
+            answer.note(text.push(b'\n').is_err());
         }
-        text.extend_from_slice(line.as_bytes())?;
-        self.put(name, text.as_slice())
+        answer.note(text.extend_from_slice(line.as_bytes()).is_err());
+        self.put(answer, name, text.as_slice());
     }
 
-    /// Runs these words, and answers the status and what was said, in whole lines.
-    fn run_words(&mut self, words: &[String]) -> Result<String, AllocError> {
-        let alloc = self.alloc;
+    /// Runs these words with these advisers, and says the status and what was said, in whole lines.
+    fn run_with(&mut self, answer: &mut Answer, words: &[String], advisers: Vec<Box<dyn Adviser>>) {
+        let fails = list_of(answer, self.saying);
+        let mut notes = MemoryNotes::new(answer.alloc(), fails);
+        let status = run(answer.alloc(), words, &mut self.shelf, &mut notes, advisers);
+        answer.say_number("ends with ", i128::from(status.code()));
+        answer.say("\n");
+        answer.say_ascii(notes.bytes());
+        if !answer.text().ends_with('\n') {
+            answer.say(" without an end\n");
+        }
+    }
+
+    /// Runs these words.
+    fn run_words(&mut self, answer: &mut Answer, words: &[String]) {
+        let alloc = answer.alloc();
         let mut advisers: Vec<Box<dyn Adviser>> = Vec::new(alloc);
         if self.is_forgetful {
-            advisers.push(Box::new(alloc, Forgetful)?)?;
+            if let Some(adviser) = boxed(answer, Forgetful) {
+                answer.note(advisers.push(adviser).is_err());
+            }
         }
-        advisers.push(Box::new(alloc, PrefixAdviser::new(alloc))?)?;
-        advisers.push(Box::new(alloc, BudgetAdviser::new())?)?;
-        let mut notes = MemoryNotes::new(alloc, list_of(alloc, self.saying)?);
-        let status = run(alloc, words, &mut self.shelf, &mut notes, advisers).code();
-        let mut told = format!(in alloc; "ends with {status}\n")?;
-        for byte in notes.bytes() {
-            told.push(char::from(*byte))?;
+        if let Some(adviser) = boxed(answer, PrefixAdviser::new(alloc)) {
+            answer.note(advisers.push(adviser).is_err());
         }
-        if !told.ends_with('\n') {
-            told.push_str(" without an end\n")?;
+        if let Some(adviser) = boxed(answer, BudgetAdviser::new()) {
+            answer.note(advisers.push(adviser).is_err());
         }
-        Ok(told)
-    }
-
-    /// Runs these words, and answers the status, what was said, and what the output holds where that has changed.
-    pub fn run(&mut self, words: &str) -> Result<String, AllocError> {
-        let alloc = self.alloc;
-        let mut list = Vec::new(alloc);
-        for word in words.split_whitespace() {
-            list.push(String::from_str(alloc, word)?)?;
-        }
-        let before = self.held("out")?;
-        let mut told = self.run_words(&list)?;
+        self.run_with(answer, words, advisers);
         self.saying = None;
         self.is_forgetful = false;
-        let after = self.held("out")?;
-        if after != before && after == self.held("in")? {
-            told.push_str("out is in\n")?;
-        } else if after != before {
-            told.push_str(text_of(alloc, after.as_slice())?.as_str())?;
+    }
+
+    /// Says what the output holds, nothing where that is what it held before.
+    fn say_out(&self, answer: &mut Answer, before: &[u8]) {
+        let after = self.held("out");
+        if after != before {
+            if after == self.held("in") {
+                answer.say("out is in\n");
+            } else {
+                say_file(answer, after);
+            }
         }
-        String::from_str(alloc, told.strip_suffix('\n').unwrap_or(""))
+    }
+
+    /// Runs these words, and says the status, what was said, and what the output holds where that has changed.
+    pub fn run(&mut self, answer: &mut Answer, words: &str) {
+        let list = words_of(answer, words);
+        let before = copied(answer, self.held("out"));
+        self.run_words(answer, list.as_slice());
+        self.say_out(answer, before.as_slice());
+        answer.cut_end(0);
     }
 }

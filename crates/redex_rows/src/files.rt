@@ -3,9 +3,7 @@
 use dex_base::{adler, write_u32};
 use dex_read::{DexFault, read_dex};
 use dex_write::write_dex;
-use program_text::{TextFault, assemble, print};
-use row_text::{Trouble, bytes, digits_of, place};
-use std::alloc::{AllocError, Global};
+use program_text::{Answer, print, program_of};
 
 /// Where the checksum stands, and where what it is of begins.
 const CHECKSUM: usize = 8;
@@ -13,59 +11,73 @@ const CHECKSUM: usize = 8;
 const SUMMED: usize = 12;
 
 /// The bytes of words: hexadecimal digits, and `+N` for N zeros.
-pub fn raw(alloc: Global, words: &str) -> Result<Vec<u8>, Trouble> {
-    let mut file = Vec::new(alloc);
+pub fn raw(answer: &mut Answer, words: &str) -> Vec<u8> {
+    let mut file = Vec::new(answer.alloc());
     for word in words.split_whitespace() {
         match word.strip_prefix('+') {
             Some(count) => {
-                let size = file.len().saturating_add(place(count)?);
-                file.resize(size, 0)?;
+                let size = file.len().saturating_add(answer.place(count));
+                answer.note(file.resize(size, 0).is_err());
             }
-            None => file.extend_from_slice(bytes(alloc, word)?.as_slice())?,
+            None => {
+                let bytes = answer.bytes(word);
+                answer.note(file.extend_from_slice(bytes.as_slice()).is_err());
+            }
         }
     }
-    Ok(file)
+    file
+}
+
+/// The file of a program's text.
+fn written(answer: &mut Answer, text: &str) -> Vec<u8> {
+    let program = program_of(answer, text);
+    let file = write_dex(answer.alloc(), &program);
+    match answer.taken(file) {
+        Some(file) => file,
+        None => Vec::new(answer.alloc()),
+    }
 }
 
 /// The file of a program's text, or that of words of digits.
-pub fn file_of(alloc: Global, text: &str) -> Result<Vec<u8>, Trouble> {
+pub fn file_of(answer: &mut Answer, text: &str) -> Vec<u8> {
     if text.starts_with("  ") {
-        return raw(alloc, text);
-    }
-    match assemble(alloc, text) {
-        Ok(program) => Ok(write_dex(alloc, &program)?),
-        Err(TextFault::NoMemory) => Err(Trouble::NoMemory),
-        Err(_) => Err(Trouble::Words),
+        raw(answer, text)
+    } else {
+        written(answer, text)
     }
 }
 
-/// Lines that say what the output is: the classes of the program that it spells, or its bytes where it spells none.
-pub fn text_of(alloc: Global, file: &[u8]) -> Result<String, AllocError> {
-    match read_dex(alloc, file) {
+/// Says in lines what the output is: the classes of the program that it spells, or its bytes where it spells none.
+pub fn say_file(answer: &mut Answer, file: &[u8]) {
+    match read_dex(answer.alloc(), file) {
         Ok(program) => {
-            let text = print(alloc, &program)?;
-            format!(in alloc; "out has these classes\n{text}")
+            answer.say("out has these classes\n");
+            print(answer, &program);
         }
-        Err(DexFault::NoMemory) => Err(AllocError),
+        Err(DexFault::NoMemory) => answer.note(true),
         Err(_) => {
-            let digits = digits_of(alloc, file)?;
-            format!(in alloc; "out has the bytes ({digits})\n")
+            answer.say("out has the bytes (");
+            answer.say_bytes(file);
+            answer.say(")\n");
         }
     }
 }
 
 /// The file with these bytes over those from a place on.
-pub fn changed(alloc: Global, file: &[u8], at: usize, over: &[u8]) -> Result<Vec<u8>, AllocError> {
+pub fn changed(answer: &mut Answer, file: &[u8], at: usize, over: &[u8]) -> Vec<u8> {
     let (front, rest) = file.split_at(at.min(file.len()));
-    let mut result = Vec::from_slice(alloc, front)?;
-    result.extend_from_slice(over)?;
-    result.extend_from_slice(rest.get(over.len()..).unwrap_or(&[]))?;
-    Ok(result)
+    let rest = rest.get(over.len()..).unwrap_or(&[]);
+    let mut result = Vec::new(answer.alloc());
+    for part in [front, over, rest] {
+        answer.note(result.extend_from_slice(part).is_err());
+    }
+    result
 }
 
 /// The file with its checksum made right (Dalvik executable format, "header_item").
-pub fn summed(alloc: Global, file: &[u8]) -> Result<Vec<u8>, AllocError> {
-    let mut sum = Vec::new(alloc);
-    write_u32(&mut sum, adler(file.get(SUMMED..).unwrap_or(&[])))?;
-    changed(alloc, file, CHECKSUM, sum.as_slice())
+pub fn summed(answer: &mut Answer, file: &[u8]) -> Vec<u8> {
+    let mut sum = Vec::new(answer.alloc());
+    let added = write_u32(&mut sum, adler(file.get(SUMMED..).unwrap_or(&[])));
+    answer.note(added.is_err());
+    changed(answer, file, CHECKSUM, sum.as_slice())
 }

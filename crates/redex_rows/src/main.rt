@@ -27,27 +27,24 @@ mod lines;
 mod many;
 
 use crate::desk::Desk;
-use crate::lines::answer;
-use row_text::{Page, said};
+use crate::lines::asks;
+use program_text::{Answer, Page};
 use std::io;
 
 fn main(rt: HostRuntime) -> io::Result<()> {
     let alloc = rt.alloc();
+    let text = io::read_to_string(alloc, rt.stdin())?;
     let mut page = Page::new(alloc);
     let mut desk = Desk::new(alloc);
-    for line in rt.lines(alloc) {
-        let line = line?;
-        if !page.takes(line.as_str())? {
-            if !page.is_in_program() {
-                rt.println(line)?;
-            }
-        } else {
-            match answer(alloc, &mut desk, page.text(), line.as_str()) {
-                Ok(None) => rt.println(line)?,
-                Ok(Some(text)) => rt.println(said(alloc, line.as_str(), Ok(text))?)?,
-                Err(trouble) => rt.println(said(alloc, line.as_str(), Err(trouble))?)?,
+    for line in text.lines() {
+        if page.takes(line) {
+            let mut said = Answer::new(alloc);
+            if asks(&mut said, &mut desk, page.program(), line) {
+                page.tell(line, &said);
+            } else {
+                page.write_line(line);
             }
         }
     }
-    Ok(())
+    rt.print(page.written()?)
 }

@@ -1,27 +1,37 @@
 //! Runs on many changed files.
 
-use crate::desk::Desk;
+use crate::desk::{Desk, copied};
 use crate::files::{changed, summed};
-use std::alloc::{AllocError, Global};
+use program_text::Answer;
+
+/// Adds what a run answers on a beginning of so many bytes, in a line of its own.
+fn say_cut(answer: &mut Answer, length: usize, cut: &str) {
+    if !answer.text().is_empty() {
+        answer.say("\n");
+    }
+    answer.say("from ");
+    answer.say_value(&length);
+    answer.say(" on it ");
+    answer.say(cut);
+}
 
 /// What a run answers on each shorter beginning of the file, said once for all lengths, one behind the other, for which it is
 /// the same.
-pub fn each_cut(alloc: Global, desk: &mut Desk, words: &str) -> Result<String, AllocError> {
-    let file = desk.held("in")?;
-    let mut told = String::new(alloc);
-    let mut last = String::new(alloc);
+pub fn each_cut(answer: &mut Answer, desk: &mut Desk, words: &str) {
+    let file = copied(answer, desk.held("in"));
+    let mut one = Answer::new(answer.alloc());
+    let mut last = Answer::new(answer.alloc());
     for length in 0..file.len() {
-        desk.put("in", file.get(..length).unwrap_or(&[]))?;
-        let answer = desk.run(words)?;
-        if answer != last {
-            if !told.is_empty() {
-                told.push_str("\n")?;
-            }
-            write!(told, "from {length} on it {answer}")?;
-            last = answer;
+        desk.put(answer, "in", file.as_slice().get(..length).unwrap_or(&[]));
+        one.clear();
+        desk.run(&mut one, words);
+        if one.text() != last.text() {
+            say_cut(answer, length, one.text());
+            last.clear();
+            last.say(one.text());
         }
     }
-    Ok(told)
+    answer.note(one.lacks_memory() || last.lacks_memory());
 }
 
 /// Whether a run was done, or was refused for the file or a limit and left the output.
@@ -30,20 +40,38 @@ fn is_harmless(answer: &str) -> bool {
     answer.starts_with("ends with 0") || is_refused && !answer.contains("\nout ")
 }
 
+/// Whether the run on the file with a byte in place of another one and its checksum made right is harmless.
+fn is_turn_harmless(
+    answer: &mut Answer,
+    desk: &mut Desk,
+    words: &str,
+    file: &[u8],
+    at: usize,
+    byte: u8,
+) -> bool {
+    let turned = changed(answer, file, at, &[byte]);
+    let turned = summed(answer, turned.as_slice());
+    desk.put(answer, "in", turned.as_slice());
+    let mut one = Answer::new(answer.alloc());
+    desk.run(&mut one, words);
+    answer.note(one.lacks_memory());
+    is_harmless(one.text())
+}
+
 /// How many runs are harmless of those on the file with one bit turned and its checksum made right.
-pub fn each_turn(alloc: Global, desk: &mut Desk, words: &str) -> Result<String, AllocError> {
-    let file = desk.held("in")?;
+pub fn each_turn(answer: &mut Answer, desk: &mut Desk, words: &str) {
+    let file = copied(answer, desk.held("in"));
     let mut harmless: u32 = 0;
     let mut all: u32 = 0;
-    for (at, byte) in file.iter().enumerate().skip(32) {
+    for (at, byte) in file.as_slice().iter().enumerate().skip(32) {
         for bit in [0x01, 0x80] {
-            let turned = changed(alloc, file.as_slice(), at, &[*byte ^ bit])?;
-            desk.put("in", summed(alloc, turned.as_slice())?.as_slice())?;
             all = all.saturating_add(1);
-            if is_harmless(desk.run(words)?.as_str()) {
+            if is_turn_harmless(answer, desk, words, file.as_slice(), at, *byte ^ bit) {
                 harmless = harmless.saturating_add(1);
             }
         }
     }
-    format!(in alloc; "{harmless} of {all} are done, or refused and leave out")
+    answer.say_number("", i128::from(harmless));
+    answer.say_number(" of ", i128::from(all));
+    answer.say(" are done, or refused and leave out");
 }

@@ -51,7 +51,8 @@ fn taken_facts(
 ) -> Result<Facts, AllocError>
     ensures { is_well_formed program.now ≡ true → HasGraph program.now hierarchy.now → IfOk result (AreTaken outside.now admitted.now.methods.items program.now) }
 {
-    let found = facts_by(alloc, program, hierarchy, outside, admitted)?;
+    let mut none: Option<Facts> = None;
+    let found = facts_by(alloc, program, hierarchy, outside, admitted, &mut none)?;
     Ok(facts_or_none(alloc, found))
 }
 

@@ -120,12 +120,14 @@ fn is_any_admitted(admitted: &Admitted) -> bool
 }
 
 /// Facts that hold in every run of a program whose kept constructors are those of their classes, and whose lists of
-/// interfaces name interfaces alone; none where that is not known of any, or the program isn't well-formed. The only error is want of memory.
+/// interfaces name interfaces alone; none where that is not known of any, or the program isn't well-formed. What was known before
+/// instructions were written over may hold still, and saves a search. The only error is want of memory.
 fn known_facts(
     alloc: Global,
     program: &Program,
     hierarchy: &Hierarchy,
     outside: &Outside,
+    old: &mut Option<Facts>,
 ) -> Result<Option<Facts>, AllocError>
     ensures formed { IfOk result (λ facts. IfSome facts (λ f. is_well_formed program.now ≡ true)) }
     ensures known { MakersAreOwn program.now outside.now → ListsPlainly program.now → is_well_formed program.now ≡ true → IsResolved program.now hierarchy.now
@@ -138,7 +140,7 @@ fn known_facts(
     if !numbers_have_bits(program) {
         return Ok(None);
     }
-    let facts = summaries::analyse(alloc, program, hierarchy, outside)?;
+    let facts = summaries::renew(alloc, program, hierarchy, outside, old)?;
     Ok(facts)
 }
 
@@ -150,6 +152,7 @@ pub fn facts_by(
     hierarchy: &Hierarchy,
     outside: &Outside,
     admitted: &Admitted,
+    old: &mut Option<Facts>,
 ) -> Result<Option<Facts>, AllocError>
     ensures { IsGraph program.now (Some hierarchy.now) → IfOk result (IsAnalysis outside.now admitted.now.methods.items program.now) }
 {
@@ -164,7 +167,7 @@ pub fn facts_by(
     if !plain {
         return Ok(None);
     }
-    let facts = known_facts(alloc, program, hierarchy, outside)?;
+    let facts = known_facts(alloc, program, hierarchy, outside, old)?;
     Ok(facts)
 }
 
@@ -176,12 +179,13 @@ pub fn facts_of(
     graph: &Option<Hierarchy>,
     outside: &Outside,
     admitted: &Admitted,
+    old: &mut Option<Facts>,
 ) -> Result<Option<Facts>, AllocError>
     ensures { IsGraph program.now graph.now → IfOk result (IsAnalysis outside.now admitted.now.methods.items program.now) }
 {
     match graph {
         Some(hierarchy) => {
-            let facts = facts_by(alloc, program, hierarchy, outside, admitted)?;
+            let facts = facts_by(alloc, program, hierarchy, outside, admitted, old)?;
             Ok(facts)
         }
         None => Ok(None),
@@ -189,7 +193,7 @@ pub fn facts_of(
 }
 
 /// Makes facts those of what a pass left of a program: they stay where nothing changed, and else are let go before others are
-/// found. The only error is want of memory.
+/// searched for. The only error is want of memory.
 fn refresh_facts(
     alloc: Global,
     facts: &mut Option<Facts>,
@@ -205,8 +209,14 @@ fn refresh_facts(
     if passed.changes.is_none() {
         return Ok(());
     }
-    *facts = None;
-    let found = facts_of(alloc, &passed.traced.program, graph, outside, admitted)?;
+    let found = facts_of(
+        alloc,
+        &passed.traced.program,
+        graph,
+        outside,
+        admitted,
+        facts,
+    )?;
     *facts = found;
     Ok(())
 }

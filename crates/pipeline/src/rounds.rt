@@ -184,7 +184,8 @@ fn value_passes(
     ensures passed { IsGraph traced.program graph.old → IfOk result (HavePassed outside.now admitted.now.methods.items (ConstProp ∷ Devirt ∷ Staticise ∷ QuietCalls ∷ []) traced) }
     ensures graph { IsGraph traced.program graph.old → IfOk result (λ passed. IsGraph passed.traced.program graph.new) }
 {
-    let mut facts = facts_of(alloc, &traced.program, graph, outside, admitted)?;
+    let mut none: Option<Facts> = None;
+    let mut facts = facts_of(alloc, &traced.program, graph, outside, admitted, &mut none)?;
     value_passes_by(alloc, traced, graph, &mut facts, outside, admitted)
 }
 

@@ -12,6 +12,7 @@ ghost use Rattle.summaries.specs.Certified.{IsCertified};
 
 use crate::cells::number_cells;
 use crate::codes::{Codes, make_codes};
+use crate::renewal::renewed_pieces;
 use crate::rows::{NONE, Rows, rows_of};
 use crate::sites::{Sites, make_sites};
 use crate::spread::{Ground, Spread};
@@ -210,12 +211,64 @@ fn certified(
     Ok(Some(with_frames(facts, frames)))
 }
 
+/// What is known of a program by what was known before its instructions were written over, if that is closed.
+fn renewed(
+    alloc: Global,
+    program: &Program,
+    classes: Classes<'_>,
+    bounds: Bounds<'_>,
+    old: &mut Option<Facts>,
+) -> Result<Option<Facts>, AllocError>
+    ensures { is_well_formed program.now ≡ true → AreClasses program.now classes.entry
+        → IfOk result (λ o. IfSome o (AreClosed program.now bounds.entry.outside.now bounds.entry.live.now bounds.entry.found.now)) }
+{
+    match old.take() {
+        Some(facts) => {
+            let pieces = renewed_pieces(alloc, program, classes.hierarchy, bounds.found, facts)?;
+            certified(alloc, program, classes, bounds, pieces)
+        }
+        None => Ok(None),
+    }
+}
+
+/// What is known of a program by a search.
+fn found_by(
+    alloc: Global,
+    program: &Program,
+    classes: Classes<'_>,
+    bounds: Bounds<'_>,
+) -> Result<Option<Facts>, AllocError>
+    ensures { is_well_formed program.now ≡ true → AreClasses program.now classes.entry
+        → IfOk result (λ o. IfSome o (AreClosed program.now bounds.entry.outside.now bounds.entry.live.now bounds.entry.found.now)) }
+{
+    let pieces = searched_of(alloc, program, classes, bounds)?;
+    certified(alloc, program, classes, bounds, pieces)
+}
+
+/// The one where it is so, and else the other.
+fn known_by(
+    alloc: Global,
+    program: &Program,
+    classes: Classes<'_>,
+    bounds: Bounds<'_>,
+    old: &mut Option<Facts>,
+) -> Result<Option<Facts>, AllocError>
+    ensures { is_well_formed program.now ≡ true → AreClasses program.now classes.entry
+        → IfOk result (λ o. IfSome o (AreClosed program.now bounds.entry.outside.now bounds.entry.live.now bounds.entry.found.now)) }
+{
+    match renewed(alloc, program, classes, bounds, old)? {
+        Some(facts) => Ok(Some(facts)),
+        None => found_by(alloc, program, classes, bounds),
+    }
+}
+
 /// What is known of a program by the table of its classes.
 fn facts_by(
     alloc: Global,
     program: &Program,
     classes: Classes<'_>,
     outside: &Outside,
+    old: &mut Option<Facts>,
 ) -> Result<Option<Facts>, AllocError>
     ensures { is_well_formed program.now ≡ true → AreClasses program.now classes.entry
         → IfOk result (λ o. IfSome o (IsCertified program.now outside.now)) }
@@ -228,24 +281,25 @@ fn facts_by(
         live: &live,
         found: &found,
     };
-    let pieces = searched_of(alloc, program, classes, bounds)?;
-    let facts = certified(alloc, program, classes, bounds, pieces)?;
+    let facts = known_by(alloc, program, classes, bounds, old)?;
     Ok(facts)
 }
 
 /// What is known of every run of a program that the framework begins as the table of the outside allows, by the hierarchy of
 /// the program's classes: of each position that a run may come to, and of parameters, results and fields. No method is said
-/// to be quiet. What is answered has been checked to be closed; where it weren't, nothing is answered. The only error is want of
-/// memory.
-pub fn analyse(
+/// to be quiet. `old` is what was known before a pass wrote instructions over others, or nothing; it is let go. Where its tables
+/// are closed of the program still they are answered, with what calls pass told anew, and else the program is searched. What is
+/// answered has been checked to be closed; where it weren't, nothing is answered. The only error is want of memory.
+pub fn renew(
     alloc: Global,
     program: &Program,
     hierarchy: &Hierarchy,
     outside: &Outside,
+    old: &mut Option<Facts>,
 ) -> Result<Option<Facts>, AllocError>
     ensures { is_well_formed program.now ≡ true → IsResolved program.now hierarchy.now → IfOk result (λ o. IfSome o (IsCertified program.now outside.now)) }
 {
     let places = places_of(alloc, hierarchy, program.types.len())?;
     let classes = classes_of(program, hierarchy, &places);
-    facts_by(alloc, program, classes, outside)
+    facts_by(alloc, program, classes, outside, old)
 }

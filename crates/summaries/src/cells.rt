@@ -66,6 +66,17 @@ impl Cell {
     }
 }
 
+impl Cell {
+    /// Joins a value to the cell's.
+    pub(crate) fn gather(&mut self, alloc: Global, value: &Value) -> Result<(), AllocError> {
+        if !value.leq(&self.value) {
+            let risen = self.value.join(alloc, value)?;
+            self.value = risen;
+        }
+        Ok(())
+    }
+}
+
 /// All cells.
 #[derive(Drop)]
 pub(crate) struct Cells {

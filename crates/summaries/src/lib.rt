@@ -1,6 +1,6 @@
 //! What is known of every run of a program: of each register at each position, and of parameters, results and fields.
 //!
-//! [`analyse`] lets what is known spread from where runs begin until nothing rises any more (`spread.rt`), and has it
+//! [`renew`] lets what is known spread from where runs begin until nothing rises any more (`spread.rt`), and has it
 //! checked. A body is walked through with the steps of `dom_frame` from node to node: nodes stand where its branches and
 //! handlers go, and after so many instructions at the latest, and have the registers there (`sites.rt`, `nodes.rt`). What
 //! methods share stands in cells: parameter words, results, fields, and what the calls of each number on objects get back
@@ -26,6 +26,7 @@ mod codes;
 mod nodes;
 mod order;
 mod pools;
+mod renewal;
 mod rows;
 mod sites;
 mod spread;
@@ -33,5 +34,5 @@ mod starts;
 mod tables;
 mod waits;
 
-pub use analysis::analyse;
+pub use analysis::renew;
 pub use facts::Facts;

@@ -67,7 +67,57 @@ impl Pool {
     }
 }
 
+impl Pool {
+    /// Joins the value of a register to a word.
+    fn gather_word(
+        &mut self,
+        alloc: Global,
+        place: usize,
+        registers: &PatMap<Value>,
+        register: u16,
+    ) -> Result<(), AllocError> {
+        if place >= self.words.items.len() {
+            self.words.items.push(Cell::new())?;
+        }
+        match (
+            self.words.items.get_mut(place),
+            registers.get(u32::from(register)),
+        ) {
+            (Some(cell), Some(value)) => cell.gather(alloc, value),
+            _ => Ok(()),
+        }
+    }
+
+    /// Joins these arguments to what is passed.
+    fn gather(
+        &mut self,
+        alloc: Global,
+        args: &[u16],
+        registers: &PatMap<Value>,
+    ) -> Result<(), AllocError> {
+        self.reached = true;
+        for place in 0..args.len() {
+            self.gather_word(alloc, place, registers, args[place])?;
+        }
+        Ok(())
+    }
+}
+
 impl Passing {
+    /// Joins these arguments to what the calls of a number pass.
+    pub(crate) fn gather(
+        &mut self,
+        alloc: Global,
+        call: u32,
+        args: &[u16],
+        registers: &PatMap<Value>,
+    ) -> Result<(), AllocError> {
+        match self.all.get_mut(call as usize) {
+            Some(pool) => pool.gather(alloc, args, registers),
+            None => Ok(()),
+        }
+    }
+
     /// Nothing is passed by any of so many calls.
     pub(crate) fn new(alloc: Global, calls: usize) -> Result<Passing, AllocError> {
         let mut all = Vec::with_capacity(alloc, calls)?;

@@ -305,6 +305,16 @@ fn mark_regions(sites: &mut [Site], regions: &[Region]) {
     }
 }
 
+/// The positions of a body with nodes at its entry and where its branches and handlers go, and nothing else.
+pub(crate) fn landings(alloc: Global, body: &Body) -> Result<Vec<Site>, AllocError> {
+    let insns = body.insns.as_slice();
+    let mut sites = vec![in alloc; PLAIN; insns.len()]?;
+    mark(&mut sites, 0);
+    mark_jumps(&mut sites, insns);
+    mark_regions(&mut sites, body.regions.as_slice());
+    Ok(sites)
+}
+
 /// Gives each position of a region that may throw the region's place.
 fn cover(sites: &mut [Site], insns: &[Insn], region: &Region, place: u32) {
     let end = (region.end as usize).min(sites.len()).min(insns.len());

@@ -124,6 +124,16 @@ fn stepped(
     step(alloc, classes, registers, insn, &value)
 }
 
+/// Whether an interface has a virtual method with code.
+pub(crate) fn has_default(hierarchy: &Hierarchy, class: &Class) -> bool {
+    for method in class.methods.as_slice() {
+        if method.body.is_some() && hierarchy.is_virtual(method) {
+            return true;
+        }
+    }
+    false
+}
+
 /// The registers past a switch.
 fn past(
     alloc: Global,
@@ -610,16 +620,6 @@ impl<'a> Spread<'a> {
         }
     }
 
-    /// Whether an interface has a virtual method with code.
-    fn has_default(&self, class: &Class) -> bool {
-        for method in class.methods.as_slice() {
-            if method.body.is_some() && self.ground.hierarchy.is_virtual(method) {
-                return true;
-            }
-        }
-        false
-    }
-
     /// Looks through the list of an interface.
     fn look_through(&mut self, place: u32) -> Result<(), AllocError> {
         let (program, hierarchy) = (self.ground.program, self.ground.hierarchy);
@@ -629,7 +629,7 @@ impl<'a> Spread<'a> {
                     return Ok(());
                 }
                 self.list_all(hierarchy.interfaces_of(place))?;
-                if self.has_default(class) {
+                if has_default(hierarchy, class) {
                     self.needed.add(place)?;
                 }
                 Ok(())

@@ -64,7 +64,7 @@ fn note_parameters(
 }
 
 /// An empty list for each of so many numbers.
-fn no_lists<T: Drop>(alloc: Global, count: usize) -> Result<Vec<Seq<T>>, AllocError> {
+pub(crate) fn no_lists<T: Drop>(alloc: Global, count: usize) -> Result<Vec<Seq<T>>, AllocError> {
     let mut lists: Vec<Seq<T>> = Vec::with_capacity(alloc, count)?;
     for _ in 0..count {
         lists.push(Seq::new(alloc))?;
@@ -159,7 +159,7 @@ fn registers_of(alloc: Global, cells: &[Cell]) -> Result<PatMap<Value>, AllocErr
 }
 
 /// What virtual and interface calls pass.
-fn calls_of(alloc: Global, pools: &[Pool]) -> Result<Vec<PatMap<Value>>, AllocError> {
+pub(crate) fn calls_of(alloc: Global, pools: &[Pool]) -> Result<Vec<PatMap<Value>>, AllocError> {
     let mut calls = Vec::with_capacity(alloc, pools.len())?;
     for pool in pools {
         calls.push(registers_of(alloc, pool.words.as_slice())?)?;
@@ -168,7 +168,7 @@ fn calls_of(alloc: Global, pools: &[Pool]) -> Result<Vec<PatMap<Value>>, AllocEr
 }
 
 /// To which of these calls a run comes.
-fn reached_of(alloc: Global, pools: &[Pool]) -> Result<Vec<bool>, AllocError> {
+pub(crate) fn reached_of(alloc: Global, pools: &[Pool]) -> Result<Vec<bool>, AllocError> {
     let mut reached = Vec::with_capacity(alloc, pools.len())?;
     for pool in pools {
         reached.push(pool.reached)?;

@@ -1,5 +1,5 @@
 -- What the passes of a round do to a program, by number (this project's profile).
-use Rattle.std.specs.Prelude.{◌≡◌, ◌⊎◌, ℕ, Bool, true, false, List, [], ◌∷◌, Option, IfSome, MatchOption}
+use Rattle.std.specs.Prelude.{◌≡◌, ◌⊎◌, ℕ, Bool, true, false, List, [], ◌∷◌, Option, IfSome, MatchOption, slice_index_or}
 use Rattle.std.specs.List.{list_any}
 use Rattle.program_model.specs.declared.body.Body.{Body}
 use Rattle.program_model.specs.declared.pass.Changed.{Changed}
@@ -227,10 +227,17 @@ Does o admitted Compact p q moved = IsCompaction admitted p q moved
 
 -- ---- passes one after another
 
--- A pass ran over a program, and the origins of its positions follow. What the pass did is said where the program is well-formed.
+-- each method that is marked is admitted
+abbrev pub AreWithin : List Bool → List Bool → Type 0
+AreWithin marks admitted = (n : ℕ) → slice_index_or marks n false ≡ true → slice_index_or admitted n false ≡ true
+
+-- A pass ran over a program, and the origins of its positions follow. It looked at some of the admitted methods alone, as a round does
+-- that isn't the last. What the pass did is said where the program is well-formed.
 pub record Step (o : Outside) (admitted : List Bool) (pass : Pass) (t u : Traced) : Type 0 where
+  pub marks : List Bool
+  pub within : AreWithin marks admitted
   pub moved : List (List Origin)
-  pub does : is_well_formed t.program ≡ true → Does o admitted pass t.program u.program moved
+  pub does : is_well_formed t.program ≡ true → Does o marks pass t.program u.program moved
   pub follow : Follow t.origins moved u.origins
 
 -- Some passes ran, one after another.
@@ -238,7 +245,7 @@ pub data Steps (o : Outside) (admitted : List Bool) : List Pass → Traced → T
   Last : (t : Traced) → Steps o admitted [] t t
   Then : (pass : Pass) (rest : List Pass) (t u v : Traced) → Step o admitted pass t u → Steps o admitted rest u v → Steps o admitted (pass ∷ rest) t v
 
--- Each of some passes leaves the program the same, where it is well-formed.
+-- Each of some passes leaves the program the same, where it is well-formed; each looks at all admitted methods.
 abbrev pub AreStill : Outside → List Bool → List Pass → Program → Type 0
 AreStill o admitted [] p = Unit {0}
 AreStill o admitted (pass ∷ rest) p = (is_well_formed p ≡ true → Does o admitted pass p p []) × AreStill o admitted rest p
@@ -249,4 +256,11 @@ pub record HavePassed (o : Outside) (admitted : List Bool) (some : List Pass) (t
   pub steps : Steps o admitted some t r.traced
   pub same : total_of r.changes ≡ 0 → r.traced ≡ t
   pub still : total_of r.changes ≡ 0 → AreStill o admitted some t.program
+  pub falls : Falls r.changes r.traced.program t.program
+
+-- The same, but that they are known to leave the program the same only where it is said that they looked at all admitted methods.
+pub record HaveLooked (o : Outside) (admitted : List Bool) (some : List Pass) (all : Bool) (t : Traced) (r : Passed) : Type 0 where
+  pub steps : Steps o admitted some t r.traced
+  pub same : total_of r.changes ≡ 0 → r.traced ≡ t
+  pub still : all ≡ true → total_of r.changes ≡ 0 → AreStill o admitted some t.program
   pub falls : Falls r.changes r.traced.program t.program

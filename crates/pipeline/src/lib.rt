@@ -8,6 +8,7 @@ mod counts;
 mod graph;
 mod inlined;
 mod passes;
+mod prints;
 mod rounds;
 mod silent;
 mod texts;

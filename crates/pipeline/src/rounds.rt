@@ -10,7 +10,7 @@ ghost use Rattle.moves_law.specs.Measure.{moves_in};
 ghost use Rattle.pipeline.specs.Changes.{bulk_of, total_of};
 ghost use Rattle.pipeline.specs.Counts.{members_of, insns_of};
 ghost use Rattle.pipeline.specs.Graph.{IsGraph};
-ghost use Rattle.pipeline.specs.Passes.{ConstProp, Devirt, Staticise, QuietCalls, CopyProp, DeadCode, Squeeze, Compact, passes, HavePassed, IsAnalysis};
+ghost use Rattle.pipeline.specs.Passes.{ConstProp, Devirt, Staticise, QuietCalls, CopyProp, DeadCode, Squeeze, Compact, passes, AreWithin, HaveLooked, HavePassed, IsAnalysis};
 ghost use Rattle.pipeline.specs.Inlined.{InlinedBegins, IsOptimisedInlined};
 ghost use Rattle.pipeline.specs.Prepared.{IsAdvisedBy, IsPrepared, MayBegin};
 ghost use Rattle.pipeline.specs.Replies.{HaveTaken};
@@ -24,6 +24,7 @@ use crate::passes::{
     clean_bodies, compact_bodies, facts_of, fold_constants, loosen_methods, propagate_copies,
     quiet_calls, rebind_calls, remove_unreached, squeeze_bodies,
 };
+use crate::prints::changed_bodies;
 use crate::silent::silence;
 use crate::traces::{Passed, Traced, and_then, unmoved};
 use call_graph::{LiveSet, live_members};
@@ -188,14 +189,15 @@ fn value_passes(
     value_passes_by(alloc, traced, graph, &mut facts, outside, admitted)
 }
 
-/// The passes on bodies that take no facts.
+/// The passes on bodies that take no facts. Where they change nothing, the graph is that of what is left.
 fn body_passes(
     alloc: Global,
     traced: Traced,
     graph: &mut Option<Hierarchy>,
     admitted: &Admitted,
 ) -> Result<Passed, AllocError>
-    ensures { IsGraph traced.program graph.old → IfOk result (λ passed. (outside : Outside) → HavePassed outside admitted.now.methods.items (CopyProp ∷ DeadCode ∷ Squeeze ∷ Compact ∷ []) traced passed) }
+    ensures passed { IsGraph traced.program graph.old → IfOk result (λ passed. (outside : Outside) → HavePassed outside admitted.now.methods.items (CopyProp ∷ DeadCode ∷ Squeeze ∷ Compact ∷ []) traced passed) }
+    ensures graph { IsGraph traced.program graph.old → IfOk result (λ passed. total_of passed.changes ≡ 0 → IsGraph passed.traced.program graph.new) }
 {
     let copied = propagate_copies(alloc, traced, graph, admitted)?;
     let cleaned = clean_bodies(alloc, copied.traced, graph, admitted)?;
@@ -206,6 +208,51 @@ fn body_passes(
     Ok(and_then(squeezed.changes, compacted))
 }
 
+/// Whether the same methods are marked.
+fn is_same(marks: &Admitted, admitted: &Admitted) -> bool
+    ensures { result ≡ true → marks.now.methods.items ≡ admitted.now.methods.items }
+{
+    marks.methods == admitted.methods
+}
+
+/// The passes on bodies over some of the admitted methods. Where nothing was changed before, and they change nothing, they run once more
+/// over all admitted ones.
+fn settle_bodies(
+    alloc: Global,
+    traced: Traced,
+    graph: &mut Option<Hierarchy>,
+    marks: &Admitted,
+    admitted: &Admitted,
+    all: bool,
+) -> Result<Passed, AllocError>
+    ensures { AreWithin marks.now.methods.items admitted.now.methods.items → IsGraph traced.program graph.old
+        → IfOk result (λ passed. (outside : Outside) → HaveLooked outside admitted.now.methods.items (CopyProp ∷ DeadCode ∷ Squeeze ∷ Compact ∷ []) all traced passed) }
+{
+    let left = body_passes(alloc, traced, graph, marks)?;
+    let settled = left.changes.is_none();
+    if all && settled && !is_same(marks, admitted) {
+        return body_passes(alloc, left.traced, graph, admitted);
+    }
+    Ok(left)
+}
+
+/// The passes on bodies over the methods whose bodies changed since these passes left them as they were, by the prints of bodies in the
+/// round before.
+fn changed_passes(
+    alloc: Global,
+    traced: Traced,
+    graph: &mut Option<Hierarchy>,
+    prints: &mut [u64],
+    admitted: &Admitted,
+    all: bool,
+) -> Result<Passed, AllocError>
+    ensures { IsGraph traced.program graph.old
+        → IfOk result (λ passed. (outside : Outside) → HaveLooked outside admitted.now.methods.items (CopyProp ∷ DeadCode ∷ Squeeze ∷ Compact ∷ []) all traced passed) }
+{
+    let marks = changed_bodies(alloc, &traced.program, graph, prints, admitted)?;
+    settle_bodies(alloc, traced, graph, &marks, admitted, all)
+}
+
 /// Each pass once, in its order, by the graph of the program as it stands before it.
 fn all_passes(
     alloc: Global,
@@ -213,13 +260,15 @@ fn all_passes(
     graph: &mut Option<Hierarchy>,
     outside: &Outside,
     admitted: &Admitted,
+    prints: &mut [u64],
 ) -> Result<Passed, AllocError>
     ensures { IsGraph traced.program graph.old → IfOk result (HavePassed outside.now admitted.now.methods.items passes traced) }
 {
     let reached = remove_unreached(alloc, traced, graph, outside)?;
     let valued = value_passes(alloc, reached.traced, graph, outside, admitted)?;
     let valued = and_then(reached.changes, valued);
-    let left = body_passes(alloc, valued.traced, graph, admitted)?;
+    let all = valued.changes.is_none();
+    let left = changed_passes(alloc, valued.traced, graph, prints, admitted, all)?;
     Ok(and_then(valued.changes, left))
 }
 
@@ -230,11 +279,12 @@ fn owned_passes(
     graph: Option<Hierarchy>,
     outside: &Outside,
     admitted: &Admitted,
+    prints: &mut [u64],
 ) -> Result<Passed, AllocError>
     ensures { IsGraph traced.program graph → IfOk result (HavePassed outside.now admitted.now.methods.items passes traced) }
 {
     let mut lent = graph;
-    all_passes(alloc, traced, &mut lent, outside, admitted)
+    all_passes(alloc, traced, &mut lent, outside, admitted, prints)
 }
 
 /// One round: each pass once, in its order.
@@ -243,11 +293,12 @@ fn round(
     traced: Traced,
     outside: &Outside,
     admitted: &Admitted,
+    prints: &mut [u64],
 ) -> Result<Passed, AllocError>
     ensures { IfOk result (HavePassed outside.now admitted.now.methods.items passes traced) }
 {
     let graph = hierarchy_of(alloc, &traced.program)?;
-    owned_passes(alloc, traced, graph, outside, admitted)
+    owned_passes(alloc, traced, graph, outside, admitted, prints)
 }
 
 /// Rounds, until one changes more than the numbers of registers, or nothing: what the last one left, and how many ran.
@@ -256,6 +307,7 @@ fn renaming_rounds(
     traced: Traced,
     outside: &Outside,
     admitted: &Admitted,
+    prints: &mut [u64],
 ) -> Result<(Passed, u32), AllocError>
     ensures run { IfOk result (λ r. Rounding outside.now admitted.now.methods.items traced r.0 r.1) }
     ensures settled { IfOk result (λ r. r.0.changes.removed ≡ 0 → r.0.changes.folded ≡ 0 → r.0.changes.rebound ≡ 0 → r.0.changes.reread ≡ 0 → r.0.changes.renamed ≡ 0) }
@@ -267,14 +319,14 @@ fn renaming_rounds(
     ensures count { IfOk result (λ r. 1 ≤ r.1) }
 {
     let mut rounds: u32 = 1;
-    let mut left = round(alloc, traced, outside, admitted)?;
+    let mut left = round(alloc, traced, outside, admitted, prints)?;
     'rounds: while left.changes.removed == 0
         && left.changes.folded == 0
         && left.changes.rebound == 0
         && left.changes.reread == 0
         && left.changes.renamed > 0
     {
-        left = round(alloc, left.traced, outside, admitted)?;
+        left = round(alloc, left.traced, outside, admitted, prints)?;
         rounds = rounds.saturating_add(1);
     }
     Ok((left, rounds))
@@ -287,6 +339,7 @@ fn rereading_rounds(
     traced: Traced,
     outside: &Outside,
     admitted: &Admitted,
+    prints: &mut [u64],
 ) -> Result<(Passed, u32), AllocError>
     ensures run { IfOk result (λ r. Rounding outside.now admitted.now.methods.items traced r.0 r.1) }
     ensures settled { IfOk result (λ r. r.0.changes.removed ≡ 0 → r.0.changes.folded ≡ 0 → r.0.changes.rebound ≡ 0 → total_of r.0.changes ≡ 0) }
@@ -295,13 +348,13 @@ fn rereading_rounds(
     ensures nearer { IfOk result (λ r. r.0.changes.removed ≡ 0 → r.0.changes.folded ≡ 0 → calls_in r.0.traced.program + min r.0.changes.rebound 1 ≤ calls_in traced.program) }
     ensures count { IfOk result (λ r. 1 ≤ r.1) }
 {
-    let (mut left, mut rounds) = renaming_rounds(alloc, traced, outside, admitted)?;
+    let (mut left, mut rounds) = renaming_rounds(alloc, traced, outside, admitted, prints)?;
     'rounds: while left.changes.removed == 0
         && left.changes.folded == 0
         && left.changes.rebound == 0
         && left.changes.reread > 0
     {
-        let (next, more) = renaming_rounds(alloc, left.traced, outside, admitted)?;
+        let (next, more) = renaming_rounds(alloc, left.traced, outside, admitted, prints)?;
         left = next;
         rounds = rounds.saturating_add(more);
     }
@@ -314,6 +367,7 @@ fn rebinding_rounds(
     traced: Traced,
     outside: &Outside,
     admitted: &Admitted,
+    prints: &mut [u64],
 ) -> Result<(Passed, u32), AllocError>
     ensures run { IfOk result (λ r. Rounding outside.now admitted.now.methods.items traced r.0 r.1) }
     ensures settled { IfOk result (λ r. r.0.changes.removed ≡ 0 → r.0.changes.folded ≡ 0 → total_of r.0.changes ≡ 0) }
@@ -321,12 +375,12 @@ fn rebinding_rounds(
     ensures plainer { IfOk result (λ r. r.0.changes.removed ≡ 0 → open_forms r.0.traced.program + min r.0.changes.folded 1 ≤ open_forms traced.program) }
     ensures count { IfOk result (λ r. 1 ≤ r.1) }
 {
-    let (mut left, mut rounds) = rereading_rounds(alloc, traced, outside, admitted)?;
+    let (mut left, mut rounds) = rereading_rounds(alloc, traced, outside, admitted, prints)?;
     'rounds: while left.changes.removed == 0
         && left.changes.folded == 0
         && left.changes.rebound > 0
     {
-        let (next, more) = rereading_rounds(alloc, left.traced, outside, admitted)?;
+        let (next, more) = rereading_rounds(alloc, left.traced, outside, admitted, prints)?;
         left = next;
         rounds = rounds.saturating_add(more);
     }
@@ -339,15 +393,16 @@ fn folding_rounds(
     traced: Traced,
     outside: &Outside,
     admitted: &Admitted,
+    prints: &mut [u64],
 ) -> Result<(Passed, u32), AllocError>
     ensures run { IfOk result (λ r. Rounding outside.now admitted.now.methods.items traced r.0 r.1) }
     ensures settled { IfOk result (λ r. r.0.changes.removed ≡ 0 → total_of r.0.changes ≡ 0) }
     ensures less { IfOk result (λ r. bulk_of r.0.traced.program + min r.0.changes.removed 1 ≤ bulk_of traced.program) }
     ensures count { IfOk result (λ r. 1 ≤ r.1) }
 {
-    let (mut left, mut rounds) = rebinding_rounds(alloc, traced, outside, admitted)?;
+    let (mut left, mut rounds) = rebinding_rounds(alloc, traced, outside, admitted, prints)?;
     'rounds: while left.changes.removed == 0 && left.changes.folded > 0 {
-        let (next, more) = rebinding_rounds(alloc, left.traced, outside, admitted)?;
+        let (next, more) = rebinding_rounds(alloc, left.traced, outside, admitted, prints)?;
         left = next;
         rounds = rounds.saturating_add(more);
     }
@@ -360,13 +415,14 @@ fn all_rounds(
     first: Traced,
     outside: &Outside,
     admitted: &Admitted,
+    prints: &mut [u64],
 ) -> Result<(Traced, u32), AllocError>
     ensures run { IfOk result (λ r. HaveRunFrom outside.now admitted.now.methods.items first r.0 r.1) }
     ensures count { IfOk result (λ r. 1 ≤ r.1) }
 {
-    let (mut left, mut rounds) = folding_rounds(alloc, first, outside, admitted)?;
+    let (mut left, mut rounds) = folding_rounds(alloc, first, outside, admitted, prints)?;
     'rounds: while left.changes.removed > 0 {
-        let (next, more) = folding_rounds(alloc, left.traced, outside, admitted)?;
+        let (next, more) = folding_rounds(alloc, left.traced, outside, admitted, prints)?;
         left = next;
         rounds = rounds.saturating_add(more);
     }
@@ -433,7 +489,14 @@ fn finish(
     ensures members { IfOk result (λ outcome. outcome.removed_members ≡ members - capped (members_of outcome.program)) }
     ensures instructions { IfOk result (λ outcome. outcome.removed_instructions ≡ instructions - capped (insns_of outcome.program)) }
 {
-    let (left, rounds) = all_rounds(alloc, first, outside, &advice.admitted)?;
+    let mut prints = vec![in alloc; 0_u64; first.program.methods.len()]?;
+    let (left, rounds) = all_rounds(
+        alloc,
+        first,
+        outside,
+        &advice.admitted,
+        prints.as_mut_slice(),
+    )?;
     Ok(outcome_of(left, rounds, members, instructions, advice.spared))
 }
 

@@ -84,23 +84,23 @@ module _ (o : Outside) (admitted : List Bool) where
 
 -- ---- what each pass keeps, all rounds keep
 
-module _ (o : Outside) (admitted : List Bool) (Is : Program → Type 0) (keeps : (pass : Pass) (p q : Program) (moved : List (List Origin)) → is_well_formed p ≡ true → Does o admitted pass p q moved → Is p → Is q) where
+module _ (o : Outside) (admitted : List Bool) (Is : Program → Type 0) (keeps : (marks : List Bool) (pass : Pass) (p q : Program) (moved : List (List Origin)) → is_well_formed p ≡ true → Does o marks pass p q moved → Is p → Is q) where
   steps_keep : (some : List Pass) (t u : Traced) → Steps o admitted some t u → IsSound t.program → Is t.program → Is u.program
   steps_keep some t u (Last x) sound is = is
   steps_keep some t u (Then pass rest x y z first others) sound is =
-      let does : Does o admitted pass x.program y.program first.moved = first.does sound.formed in
-      let owed : Owes o x.program y.program = (each_keeps o admitted pass).owes x.program y.program first.moved sound does in
-      steps_keep rest y z others owed.sound (keeps pass x.program y.program first.moved sound.formed does is)
+      let does : Does o first.marks pass x.program y.program first.moved = first.does sound.formed in
+      let owed : Owes o x.program y.program = (each_keeps o first.marks pass).owes x.program y.program first.moved sound does in
+      steps_keep rest y z others owed.sound (keeps first.marks pass x.program y.program first.moved sound.formed does is)
 
   rounds_keep : (n : ℕ) (t u : Traced) → Rounds o admitted n t u → IsSound t.program → Is t.program → Is u.program
   rounds_keep n t u (Ended x) sound is = is
   rounds_keep n t u (Next m x y z first less rest) sound is =
-      let owed : Owes o x.program y.program = steps_owe o admitted (each_keeps o admitted) passes x y first sound in
+      let owed : Owes o x.program y.program = steps_owe o admitted (each_keeps o) passes x y first sound in
       rounds_keep m y z rest owed.sound (steps_keep passes x y first sound is)
 
 module _ (o : Outside) (admitted : List Bool) where
   pub rounds_lie : (n : ℕ) (t u : Traced) → Rounds o admitted n t u → IsSound t.program → LaysOut t.program → LaysOut u.program
-  rounds_lie n t u rounds sound l = rounds_keep o admitted LaysOut (λ pass p q moved well does is. pass_lies o admitted pass p q moved well does is) n t u rounds sound l
+  rounds_lie n t u rounds sound l = rounds_keep o admitted LaysOut (λ marks pass p q moved well does is. pass_lies o marks pass p q moved well does is) n t u rounds sound l
 
   pub rounds_ascend : (n : ℕ) (t u : Traced) → Rounds o admitted n t u → IsSound t.program → TextsAscend t.program → TextsAscend u.program
-  rounds_ascend n t u rounds sound a = rounds_keep o admitted TextsAscend (λ pass p q moved well does is. pass_ascends o admitted pass p q moved well does is) n t u rounds sound a
+  rounds_ascend n t u rounds sound a = rounds_keep o admitted TextsAscend (λ marks pass p q moved well does is. pass_ascends o marks pass p q moved well does is) n t u rounds sound a

@@ -40,11 +40,11 @@ module _ (o : Outside) where
       before : SameShown (named q) (named r) (outer_of q o) → SameShown (named q) (named r) (outer_of p o)
       before same = shown_on (named q) (named r) (outer_of p o) (outer_of q o).silent (outer_of q o).shut two.virtuals one.shuts (subst (λ (x : Outer). SameShown (named q) (named r) x) one.outer same)
 
-  module _ (admitted : List Bool) (keeps : (pass : Pass) → Keeps o admitted pass) where
+  module _ (admitted : List Bool) (keeps : (marks : List Bool) (pass : Pass) → Keeps o marks pass) where
     pub steps_owe : (some : List Pass) (t u : Traced) → Steps o admitted some t u → IsSound t.program → Owes o t.program u.program
     steps_owe some t u (Last x) sound = owes_same x.program sound
     steps_owe some t u (Then pass rest x y z first others) sound =
-        let one : Owes o x.program y.program = (keeps pass).owes x.program y.program first.moved sound (first.does sound.formed) in
+        let one : Owes o x.program y.program = (keeps first.marks pass).owes x.program y.program first.moved sound (first.does sound.formed) in
         owes_on x.program y.program z.program one (steps_owe rest y z others one.sound)
 
     pub rounds_owe : (n : ℕ) (t u : Traced) → Rounds o admitted n t u → IsSound t.program → Owes o t.program u.program

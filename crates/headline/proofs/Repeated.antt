@@ -17,7 +17,7 @@ use Rattle.headline.proofs.Keeping.{each_keeps}
 use Rattle.headline.proofs.Owing.{rounds_owe}
 
 pub all_rounds_owe : (o : Outside) (admitted : List Bool) (n : ℕ) (t u : Traced) → Rounds o admitted n t u → IsSound t.program → Owes o t.program u.program
-all_rounds_owe o admitted n t u rounds sound = rounds_owe o admitted (each_keeps o admitted) n t u rounds sound
+all_rounds_owe o admitted n t u rounds sound = rounds_owe o admitted (each_keeps o) n t u rounds sound
 
 -- what hierarchy and verify accept is sound
 pub accepted_sound : (p : Program) (h : Hierarchy) → is_well_formed p ≡ true → IsResolved p h → IsAcyclic p → NoSplit p → TypesAll p h → IsSound p

@@ -1,7 +1,10 @@
 -- What passes leave as it was, rounds leave so.
-use Rattle.std.proofs.Common.{◌≡◌, ◌⊎◌, inl, inr, ℕ, Bool, true, false, List, sym, subst}
+use Rattle.std.proofs.Common.{◌≡◌, ◌⊎◌, inl, inr, ℕ, Bool, true, false, true≢false, List, refl, sym, ◌∙◌, subst}
+use Rattle.std.specs.Prelude.{slice_index_or}
 use Rattle.program_model.specs.declared.pass.Origin.{Origin}
 use Rattle.program_model.specs.declared.pass.Outside.{Outside}
+use Rattle.program_model.specs.declared.program.Class.{Class}
+use Rattle.program_model.specs.declared.program.Method.{Method}
 use Rattle.program_model.specs.declared.program.Program.{Program}
 use Rattle.dead_code.specs.Dead.{is_quiet_field}
 use Rattle.dead_code.specs.Wishes.{AreCleaned}
@@ -17,9 +20,9 @@ use Rattle.stay_law.proofs.Staying.{stays_same}
 use Rattle.stay_law.proofs.Rewritten.{rewritten_stays}
 use Rattle.stay_law.proofs.Passes.{removed_stays, thinned_stays, propagated_stays, compacted_stays}
 use Rattle.pipeline.specs.declared.traces.Traced.{Traced}
-use Rattle.pipeline.specs.Passes.{Pass, Reach, ConstProp, Devirt, Staticise, QuietCalls, CopyProp, DeadCode, Squeeze, Compact, Removes, IsBarred, Folds, KeepsForms, Rebinds, Loosens, Quiets, Propagates, KeepsReads, Thins, IsCleaning, Does, passes, Steps, Last, Then}
+use Rattle.pipeline.specs.Passes.{Pass, Reach, ConstProp, Devirt, Staticise, QuietCalls, CopyProp, DeadCode, Squeeze, Compact, Removes, IsBarred, Folds, KeepsForms, Rebinds, Loosens, Quiets, Propagates, KeepsReads, Thins, IsCleaning, Does, passes, AreWithin, Steps, Last, Then}
 use Rattle.pipeline.specs.Rounds.{Rounds, Ended, Next}
-use Rattle.static_kept.specs.Staying.{StaysAlong}
+use Rattle.static_kept.specs.Staying.{MethodStaysAlong, ClassStaysAlong, StaysAlong}
 use Rattle.static_kept.proofs.Passing.{staticised_stays}
 use Rattle.static_kept.proofs.Staying.{along_kept, along_then}
 use Rattle.headline.specs.Owed.{IsSound, Owes}
@@ -76,15 +79,44 @@ module _ (o : Outside) (admitted : List Bool) where
   pass_stays Squeeze p q moved sound h = along_kept admitted p q (squeezing_stays p q moved h)
   pass_stays Compact p q moved sound h = along_kept admitted p q (compaction_stays p q h.compaction)
 
+-- what stays where some of the admitted methods are admitted alone, stays
+module _ (marks admitted : List Bool) (within : AreWithin marks admitted) where
+  not_marked : (n : ℕ) → slice_index_or admitted n false ≡ false → slice_index_or marks n false ≡ false
+  not_marked n no = by (slice_index_or marks n false) refl
+    where
+      by : (b : Bool) → slice_index_or marks n false ≡ b → b ≡ false
+      by true e = absurd (true≢false (sym (within n e) ∙ no))
+      by false e = refl
+
+  method_wider : (made : ℕ → Bool) (m n : Method) → MethodStaysAlong made marks m n → MethodStaysAlong made admitted m n
+  method_wider made m n x = record { rest = x.rest; plain = x.plain; receiver = x.receiver; turned = x.turned; refused = λ no. x.refused (not_marked m.name no); registers = x.registers }
+
+  class_wider : (made : ℕ → Bool) (c d : Class) → ClassStaysAlong made marks c d → ClassStaysAlong made admitted c d
+  class_wider made c d x = record { rest = x.rest; fields = x.fields; methods = λ n s. let y = x.methods n s in (y.0, (y.1.0, method_wider made y.0 n y.1.1)) }
+
+  along_wider : (p q : Program) → StaysAlong marks p q → StaysAlong admitted p q
+  along_wider p q x = record {
+    made = x.made;
+    rest = x.rest;
+    strings = x.strings;
+    protos = x.protos;
+    long = x.long;
+    names = x.names;
+    named = x.named;
+    had = x.had;
+    classes = λ d s. let y = x.classes d s in (y.0, (y.1.0, class_wider x.made y.0 d y.1.1));
+  }
+
+module _ (o : Outside) (admitted : List Bool) where
   steps_stay : (some : List Pass) (t u : Traced) → Steps o admitted some t u → IsSound t.program → StaysAlong admitted t.program u.program
   steps_stay some t u (Last x) sound = along_kept admitted x.program x.program (stays_same admitted x.program)
   steps_stay some t u (Then pass rest x y z first others) sound =
-      let does : Does o admitted pass x.program y.program first.moved = first.does sound.formed in
-      let owed : Owes o x.program y.program = (each_keeps o admitted pass).owes x.program y.program first.moved sound does in
-      along_then admitted x.program y.program z.program (pass_stays pass x.program y.program first.moved sound does) (steps_stay rest y z others owed.sound)
+      let does : Does o first.marks pass x.program y.program first.moved = first.does sound.formed in
+      let owed : Owes o x.program y.program = (each_keeps o first.marks pass).owes x.program y.program first.moved sound does in
+      along_then admitted x.program y.program z.program (along_wider first.marks admitted first.within x.program y.program (pass_stays o first.marks pass x.program y.program first.moved sound does)) (steps_stay rest y z others owed.sound)
 
   pub rounds_stay : (n : ℕ) (t u : Traced) → Rounds o admitted n t u → IsSound t.program → StaysAlong admitted t.program u.program
   rounds_stay n t u (Ended x) sound = along_kept admitted x.program x.program (stays_same admitted x.program)
   rounds_stay n t u (Next m x y z first less rest) sound =
-      let owed : Owes o x.program y.program = steps_owe o admitted (each_keeps o admitted) passes x y first sound in
+      let owed : Owes o x.program y.program = steps_owe o admitted (each_keeps o) passes x y first sound in
       along_then admitted x.program y.program z.program (steps_stay passes x y first sound) (rounds_stay m y z rest owed.sound)

@@ -6,6 +6,7 @@ pub mod Few
 pub mod Formed
 pub mod Graphs
 pub mod Inlines
+pub mod Looking
 pub mod Passing
 pub mod Preparing
 pub mod Results

@@ -56,7 +56,7 @@ use Rattle.pipeline.specs.declared.traces.Traced.{Traced}
 use Rattle.pipeline.specs.Changes.{no_changes, total_of, bulk_of, rank_of, Falls}
 use Rattle.pipeline.specs.Graph.{HasGraph, HasGraphFault}
 use Rattle.pipeline.specs.Origins.{Follow}
-use Rattle.pipeline.specs.Passes.{Pass, Reach, ConstProp, Devirt, Staticise, QuietCalls, CopyProp, DeadCode, Squeeze, Compact, Removes, AreKnown, KeepsForms, IsIllTyped, KeepsReads, Does, Steps, Last, Then, AreStill, HavePassed}
+use Rattle.pipeline.specs.Passes.{Pass, Reach, ConstProp, Devirt, Staticise, QuietCalls, CopyProp, DeadCode, Squeeze, Compact, Removes, AreKnown, KeepsForms, IsIllTyped, KeepsReads, Does, Steps, Last, Then, AreStill, AreWithin, HavePassed, HaveLooked}
 use Rattle.pipeline.proofs.Few.{few_fields}
 use Rattle.pipeline.proofs.Bulk.{removal_less, loosened_less, folded_no_more, rebound_same, rebound_plainer, propagated_same, propagated_plainer, propagated_nearer, thinned_less, written_less, compacted_same, compacted_plainer, compacted_nearer}
 
@@ -71,8 +71,11 @@ module _ (o : Outside) (admitted : List Bool) where
   both_still [] ys p one two = two
   both_still (x ∷ xs) ys p one two = (one.0, both_still xs ys p one.1 two)
 
-  -- more passes after these
-  module _ (xs ys : List Pass) (t : Traced) (a b r : Passed) (one : HavePassed o admitted xs t a) (two : HavePassed o admitted ys a.traced b) (left : r.traced ≡ b.traced)
+  pub looked : (some : List Pass) (t : Traced) (r : Passed) → HavePassed o admitted some t r → HaveLooked o admitted some true t r
+  looked some t r h = record { steps = h.steps; same = h.same; still = λ _. h.still; falls = h.falls }
+
+  -- more passes after these, which looked at all admitted methods where these changed nothing
+  module _ (xs ys : List Pass) (t : Traced) (a b r : Passed) (all : Bool) (one : HavePassed o admitted xs t a) (two : HaveLooked o admitted ys all a.traced b) (done : total_of a.changes ≡ 0 → all ≡ true) (left : r.traced ≡ b.traced)
       (removed : r.changes.removed ≡ capped (a.changes.removed + b.changes.removed)) (folded : r.changes.folded ≡ capped (a.changes.folded + b.changes.folded))
       (rebound : r.changes.rebound ≡ capped (a.changes.rebound + b.changes.rebound)) (reread : r.changes.reread ≡ capped (a.changes.reread + b.changes.reread)) (renamed : r.changes.renamed ≡ capped (a.changes.renamed + b.changes.renamed)) where
     none_first : total_of r.changes ≡ 0 → total_of a.changes ≡ 0
@@ -85,7 +88,7 @@ module _ (o : Outside) (admitted : List Bool) where
     same_both z = left ∙ two.same (none_then z) ∙ one.same (none_first z)
 
     still_both : total_of r.changes ≡ 0 → AreStill o admitted (xs ++ ys) t.program
-    still_both z = both_still xs ys t.program (one.still (none_first z)) (subst (λ (x : Traced). AreStill o admitted ys x.program) (one.same (none_first z)) (two.still (none_then z)))
+    still_both z = both_still xs ys t.program (one.still (none_first z)) (subst (λ (x : Traced). AreStill o admitted ys x.program) (one.same (none_first z)) (two.still (done (none_first z)) (none_then z)))
 
     bulk_left : bulk_of r.traced.program ≡ bulk_of b.traced.program
     bulk_left = ap (λ (x : Traced). bulk_of x.program) left
@@ -126,13 +129,52 @@ module _ (o : Outside) (admitted : List Bool) where
     lower_both : r.changes.removed ≡ 0 → r.changes.folded ≡ 0 → r.changes.rebound ≡ 0 → r.changes.reread ≡ 0 → rank_of r.traced.program + min r.changes.renamed 1 ≤ rank_of t.program
     lower_both z x v y = omega (arith, rank_left, renamed, one.falls.lower (none_removed z).0 (none_folded x).0 (none_rebound v).0 (none_reread y).0, two.falls.lower (none_removed z).1 (none_folded x).1 (none_rebound v).1 (none_reread y).1)
 
-    pub both_passed : HavePassed o admitted (xs ++ ys) t r
-    both_passed = record {
+    pub both_looked : HavePassed o admitted (xs ++ ys) t r
+    both_looked = record {
       steps = subst (λ (x : Traced). Steps o admitted (xs ++ ys) t x) (sym left) (both_steps xs ys t a.traced b.traced one.steps two.steps);
       same = same_both;
       still = still_both;
       falls = record { less = omega (arith, bulk_left, removed, one.falls.less, two.falls.less); plainer = plainer_both; nearer = nearer_both; fewer = fewer_both; lower = lower_both };
     }
+
+  -- more passes after these
+  pub both_passed : (xs ys : List Pass) (t : Traced) (a b r : Passed) → HavePassed o admitted xs t a → HavePassed o admitted ys a.traced b → r.traced ≡ b.traced
+      → r.changes.removed ≡ capped (a.changes.removed + b.changes.removed) → r.changes.folded ≡ capped (a.changes.folded + b.changes.folded)
+      → r.changes.rebound ≡ capped (a.changes.rebound + b.changes.rebound) → r.changes.reread ≡ capped (a.changes.reread + b.changes.reread) → r.changes.renamed ≡ capped (a.changes.renamed + b.changes.renamed)
+      → HavePassed o admitted (xs ++ ys) t r
+  both_passed xs ys t a b r one two left removed folded rebound reread renamed = both_looked xs ys t a b r true one (looked ys a.traced b two) (λ _. refl) left removed folded rebound reread renamed
+
+pub none_is : {n : ℕ} → n ≡ 0 → nat_eq n 0 ≡ true
+none_is {n} e = ap (λ (k : ℕ). nat_eq k 0) e
+
+-- passes that changed nothing, others behind them counted
+pub none_before : (a b r : Changes) → r.removed ≡ capped (a.removed + b.removed) → r.folded ≡ capped (a.folded + b.folded) → r.rebound ≡ capped (a.rebound + b.rebound) → r.reread ≡ capped (a.reread + b.reread)
+    → r.renamed ≡ capped (a.renamed + b.renamed) → total_of r ≡ 0 → total_of a ≡ 0
+none_before a b r removed folded rebound reread renamed z = omega (arith, removed, folded, rebound, reread, renamed, z)
+
+-- ---- passes that looked at some methods
+
+module _ (o : Outside) (marks admitted : List Bool) where
+  steps_within : AreWithin marks admitted → (some : List Pass) (t u : Traced) → Steps o marks some t u → Steps o admitted some t u
+  steps_within within some t u (Last x) = Last x
+  steps_within within some t u (Then pass rest x y z first others) =
+      Then pass rest x y z (record { marks = first.marks; within = λ n h. within n (first.within n h); moved = first.moved; does = first.does; follow = first.follow }) (steps_within within rest y z others)
+
+  -- they left the program the same for all admitted methods where they looked at all
+  pub some_looked : AreWithin marks admitted → (some : List Pass) (all : Bool) (t : Traced) (r : Passed) → HavePassed o marks some t r → (all ≡ true → total_of r.changes ≡ 0 → marks ≡ admitted)
+      → HaveLooked o admitted some all t r
+  some_looked within some all t r h same = record {
+    steps = steps_within within some t r.traced h.steps;
+    same = h.same;
+    still = λ yes none. subst (λ (ms : List Bool). AreStill o ms some t.program) (same yes none) (h.still none);
+    falls = h.falls;
+  }
+
+  -- where they changed nothing, they ran once more over all of them
+  pub again_looked : (some : List Pass) (all : Bool) (t : Traced) (a b : Passed) → HavePassed o marks some t a → total_of a.changes ≡ 0 → HavePassed o admitted some a.traced b → HaveLooked o admitted some all t b
+  again_looked some all t a b one none two =
+      let h : HavePassed o admitted some t b = subst (λ (x : Traced). HavePassed o admitted some x b) (one.same none) two in
+      record { steps = h.steps; same = h.same; still = λ _. h.still; falls = h.falls }
 
 -- ---- one pass
 
@@ -213,7 +255,7 @@ module _ (o : Outside) (admitted : List Bool) (pass : Pass) (t : Traced) where
   -- nothing changed
   pub none_passed : (r : Passed) → (is_well_formed t.program ≡ true → Does o admitted pass t.program t.program []) → r.traced ≡ t → r.changes ≡ no_changes → HavePassed o admitted (pass ∷ []) t r
   none_passed r does same none = record {
-    steps = subst (λ (x : Traced). Steps o admitted (pass ∷ []) t x) (sym same) (Then pass [] t t t (record { moved = []; does = does; follow = refl }) (Last t));
+    steps = subst (λ (x : Traced). Steps o admitted (pass ∷ []) t x) (sym same) (Then pass [] t t t (record { marks = admitted; within = λ n h. h; moved = []; does = does; follow = refl }) (Last t));
     same = λ _. same;
     still = λ _. (does, tt);
     falls = subst (λ (x : Changes). Falls x r.traced.program t.program) (sym none)
@@ -237,6 +279,8 @@ module _ (o : Outside) (admitted : List Bool) (pass : Pass) (t : Traced) where
 
     steps : Steps o admitted (pass ∷ []) t r.traced
     steps = Then pass [] t r.traced r.traced (record {
+      marks = admitted;
+      within = λ n h. h;
       moved = c.origins;
       does = λ formed. subst (λ (p : Program). Does o admitted pass t.program p c.origins) (sym h.program) (does formed);
       follow = h.origins;
@@ -251,7 +295,7 @@ module _ (o : Outside) (admitted : List Bool) (pass : Pass) (t : Traced) where
     }
 
 -- what passes left whatever lies outside, where they changed nothing
-some_outside : Outside
+pub some_outside : Outside
 some_outside = record { classes = []; methods = []; fields = []; methods_if = []; fields_if = []; classes_if = []; shrink = false; optimise = false; silent = []; shut = [] }
 
 pub same_program : (admitted : List Bool) (some : List Pass) (t : Traced) (r : Passed) → ((o : Outside) → HavePassed o admitted some t r) → total_of r.changes ≡ 0 → r.traced.program ≡ t.program

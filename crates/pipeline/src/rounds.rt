@@ -26,7 +26,7 @@ use crate::passes::{
 };
 use crate::prints::changed_bodies;
 use crate::silent::silence;
-use crate::traces::{Passed, Traced, and_then, unmoved};
+use crate::traces::{Changes, Passed, Traced, and_then, unmoved};
 use call_graph::{LiveSet, live_members};
 use facts::Facts;
 use hierarchy::Hierarchy;
@@ -215,6 +215,14 @@ fn is_same(marks: &Admitted, admitted: &Admitted) -> bool
     marks.methods == admitted.methods
 }
 
+/// Whether the admitted methods that aren't marked are still to be looked at: all are, and nothing changed of those that are marked.
+fn is_due(all: bool, changes: &Changes, marks: &Admitted, admitted: &Admitted) -> bool
+    ensures due { result ≡ true → total_of changes.now ≡ 0 }
+    ensures done { result ≡ false → all ≡ true → total_of changes.now ≡ 0 → marks.now.methods.items ≡ admitted.now.methods.items }
+{
+    all && changes.is_none() && !is_same(marks, admitted)
+}
+
 /// The passes on bodies over some of the admitted methods. Where nothing was changed before, and they change nothing, they run once more
 /// over all admitted ones.
 fn settle_bodies(
@@ -229,9 +237,10 @@ fn settle_bodies(
         → IfOk result (λ passed. (outside : Outside) → HaveLooked outside admitted.now.methods.items (CopyProp ∷ DeadCode ∷ Squeeze ∷ Compact ∷ []) all traced passed) }
 {
     let left = body_passes(alloc, traced, graph, marks)?;
-    let settled = left.changes.is_none();
-    if all && settled && !is_same(marks, admitted) {
-        return body_passes(alloc, left.traced, graph, admitted);
+    let due = is_due(all, &left.changes, marks, admitted);
+    if due {
+        let again = body_passes(alloc, left.traced, graph, admitted)?;
+        return Ok(again);
     }
     Ok(left)
 }

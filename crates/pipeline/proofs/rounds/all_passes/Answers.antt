@@ -1,8 +1,8 @@
-use Rattle.std.proofs.Common.{[], ◌∷◌, sym, subst}
+use Rattle.std.proofs.Common.{[], ◌∷◌, ◌∙◌, sym, subst}
 use Rattle.pipeline.specs.declared.traces.Traced.{Traced}
 use Rattle.pipeline.specs.Graph.{IsGraph}
 use Rattle.pipeline.specs.Passes.{Reach, ConstProp, Devirt, Staticise, QuietCalls, CopyProp, DeadCode, Squeeze, Compact, HavePassed}
-use Rattle.pipeline.proofs.Passing.{both_passed}
+use Rattle.pipeline.proofs.Passing.{both_looked, both_passed, none_is}
 use Rattle.pipeline.proofs.rounds.all_passes.Goals as goal
 
 pub returns : goal.returns
@@ -13,6 +13,6 @@ returns c = λ before.
     let valued : HavePassed o admitted (Reach ∷ ConstProp ∷ Devirt ∷ Staticise ∷ QuietCalls ∷ []) c.args.traced c.and_then-valued.result =
     both_passed o admitted (Reach ∷ []) (ConstProp ∷ Devirt ∷ Staticise ∷ QuietCalls ∷ []) c.args.traced c.in_ok-reached.reached c.in_ok-valued.valued c.and_then-valued.result
     (c.in_ok-reached.ensures.passed before admitted) (c.in_ok-valued.ensures.passed reached) c.and_then-valued.ensures.traced c.and_then-valued.ensures.removed c.and_then-valued.ensures.folded c.and_then-valued.ensures.rebound c.and_then-valued.ensures.reread c.and_then-valued.ensures.renamed in
-    both_passed o admitted (Reach ∷ ConstProp ∷ Devirt ∷ Staticise ∷ QuietCalls ∷ []) (CopyProp ∷ DeadCode ∷ Squeeze ∷ Compact ∷ []) c.args.traced c.and_then-valued.result c.in_ok-left.left c.and_then.result
-    valued (c.in_ok-left.ensures (subst (λ (x : Traced). IsGraph x.program c.value_passes.new.graph) (sym c.and_then-valued.ensures.traced) (c.in_ok-valued.ensures.graph reached)) o)
+    both_looked o admitted (Reach ∷ ConstProp ∷ Devirt ∷ Staticise ∷ QuietCalls ∷ []) (CopyProp ∷ DeadCode ∷ Squeeze ∷ Compact ∷ []) c.args.traced c.and_then-valued.result c.in_ok-left.left c.and_then.result c.is_none.result
+    valued (c.in_ok-left.ensures (subst (λ (x : Traced). IsGraph x.program c.value_passes.new.graph) (sym c.and_then-valued.ensures.traced) (c.in_ok-valued.ensures.graph reached)) o) (λ none. c.is_none.ensures ∙ none_is none)
     c.and_then.ensures.traced c.and_then.ensures.removed c.and_then.ensures.folded c.and_then.ensures.rebound c.and_then.ensures.reread c.and_then.ensures.renamed

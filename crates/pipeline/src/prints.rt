@@ -211,8 +211,8 @@ fn mark(marks: &mut [bool], method: u32)
 /// Marks a method that may be rewritten where its body isn't what it was.
 #[tactic(auto, using(crate::proofs::Looking::marked_within))]
 fn look_at_body(marks: &mut [bool], prints: &mut [u64], admitted: &[bool], method: u32, print: u64)
-    requires { AreWithin marks.old admitted.now }
-    requires { slice_index_or admitted.now method false ≡ true }
+    requires within { AreWithin marks.old admitted.now }
+    requires admitted { slice_index_or admitted.now method false ≡ true }
     ensures { AreWithin marks.new admitted.now }
 {
     if is_new(prints, method, print) {

@@ -9,6 +9,7 @@ pub mod Inlines
 pub mod Looking
 pub mod Passing
 pub mod Preparing
+pub mod Repeating
 pub mod Results
 pub mod RoundLemmas
 pub mod Silencing

@@ -14,12 +14,13 @@ use Rattle.pipeline.specs.Asks.{Verdict}
 use Rattle.pipeline.specs.Changes.{total_of, rank_of, HasFewerCopies, IsNearer, IsPlainer, IsLess, Falls}
 use Rattle.pipeline.specs.Counts.{counted}
 use Rattle.pipeline.specs.Silence.{IsSilent, is_quiet, silenced_body, silenced_method, silenced_class, silenced}
-use Rattle.pipeline.specs.Passes.{passes, AreStill, HavePassed}
+use Rattle.pipeline.specs.Passes.{passes, AreStill, IsRound}
 use Rattle.pipeline.specs.Rounds.{Rounds, Ended, Next, Rounding, HaveRunFrom}
 use Rattle.pipeline.specs.declared.rounds.Outcome.{Outcome}
 use Rattle.pipeline.specs.declared.traces.Changes.{Changes}
 use Rattle.pipeline.specs.declared.traces.Passed.{Passed}
 use Rattle.pipeline.specs.declared.traces.Traced.{Traced}
+use Rattle.pipeline.proofs.Repeating.{still_once}
 
 -- ---- all rounds
 
@@ -106,21 +107,21 @@ counted_more r = r.changes.removed + r.changes.folded + r.changes.rebound + r.ch
 
 module _ (o : Outside) (admitted : List Bool) where
   -- a round behind one that only gave registers other numbers leaves fewer to give
-  pub less_to_rename : (b c : Passed) → HavePassed o admitted passes b.traced c → counted_more b ≡ 0 → 0 < b.changes.renamed → left_to_rename (counted_more c) c < left_to_rename (counted_more b) b
+  pub less_to_rename : (b c : Passed) → IsRound o admitted b.traced c → counted_more b ≡ 0 → 0 < b.changes.renamed → left_to_rename (counted_more c) c < left_to_rename (counted_more b) b
   less_to_rename b c h none some = subst (λ (n : ℕ). left_to_rename (counted_more c) c < left_to_rename n b) (sym none) (by (counted_more c) refl)
     where
       by : (n : ℕ) → counted_more c ≡ n → left_to_rename n c < left_to_rename 0 b
-      by zero e = omega (arith, h.falls.lower (omega (arith, e)) (omega (arith, e)) (omega (arith, e)) (omega (arith, e)), some)
+      by zero e = omega (arith, h.passed.falls.lower (omega (arith, e)) (omega (arith, e)) (omega (arith, e)) (omega (arith, e)), some)
       by (suc n) e = omega (arith, some)
 
   more_rounds : (m n : ℕ) (t u v : Traced) → Rounds o admitted m t u → Rounds o admitted n u v → Rounds o admitted (m + n) t v
   more_rounds m n t u v (Ended x) others = subst (λ (k : ℕ). Rounds o admitted k x v) (omega arith) others
-  more_rounds m n t u v (Next k x y z first less rest) others = subst (λ (j : ℕ). Rounds o admitted j x v) (omega arith) (Next (k + n) x y v first less (more_rounds k n y z v rest others))
+  more_rounds m n t u v (Next k times x y z first less rest) others = subst (λ (j : ℕ). Rounds o admitted j x v) (omega arith) (Next (k + n) times x y v first less (more_rounds k n y z v rest others))
 
-  one_round : (t : Traced) (r : Passed) → HavePassed o admitted passes t r → 0 < total_of r.changes → Rounds o admitted 1 t r.traced
-  one_round t r h some = Next zero t r.traced r.traced h.steps (falls_less r.changes r.traced.program t.program h.falls some) (Ended r.traced)
+  one_round : (t : Traced) (r : Passed) → IsRound o admitted t r → 0 < total_of r.changes → Rounds o admitted 1 t r.traced
+  one_round t r h some = Next zero h.times t r.traced r.traced h.passed.steps (falls_less r.changes r.traced.program t.program h.passed.falls some) (Ended r.traced)
 
-  pub begun : (t : Traced) (r : Passed) → HavePassed o admitted passes t r → Rounding o admitted t r 1
+  pub begun : (t : Traced) (r : Passed) → IsRound o admitted t r → Rounding o admitted t r 1
   begun t r one = record { before = t; changing = zero; rounds = Ended t; one = one; count_is = refl }
 
   -- rounds that changed something, and others behind them
@@ -137,8 +138,8 @@ module _ (o : Outside) (admitted : List Bool) where
   pub ended : (t : Traced) (r : Passed) (n : ℕ) → Rounding o admitted t r n → total_of r.changes ≡ 0 → HaveRunFrom o admitted t r.traced n
   ended t r n so none = record {
     changing = so.changing;
-    rounds = subst (λ (x : Traced). Rounds o admitted so.changing t x) (sym (so.one.same none)) so.rounds;
-    ends = subst (λ (x : Traced). AreStill o admitted passes x.program) (sym (so.one.same none)) (so.one.still none);
+    rounds = subst (λ (x : Traced). Rounds o admitted so.changing t x) (sym (so.one.passed.same none)) so.rounds;
+    ends = subst (λ (x : Traced). AreStill o admitted passes x.program) (sym (so.one.passed.same none)) (still_once o admitted so.before.program so.one.times (so.one.passed.still none));
     count_is = so.count_is;
   }
 

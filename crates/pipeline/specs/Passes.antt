@@ -1,5 +1,5 @@
 -- What the passes of a round do to a program, by number (this project's profile).
-use Rattle.std.specs.Prelude.{◌≡◌, ◌⊎◌, ℕ, Bool, true, false, List, [], ◌∷◌, Option, IfSome, MatchOption, slice_index_or}
+use Rattle.std.specs.Prelude.{◌≡◌, ◌⊎◌, ℕ, zero, suc, Bool, true, false, List, [], ◌∷◌, ◌++◌, Option, IfSome, MatchOption, slice_index_or}
 use Rattle.std.specs.List.{list_any}
 use Rattle.program_model.specs.declared.body.Body.{Body}
 use Rattle.program_model.specs.declared.pass.Changed.{Changed}
@@ -54,9 +54,26 @@ pub data Pass : Type 0 where
   Squeeze : Pass
   Compact : Pass
 
--- The passes of a round, in their order.
+-- The removal, and the passes that take facts.
+abbrev pub values : List Pass
+values = Reach ∷ ConstProp ∷ Devirt ∷ Staticise ∷ QuietCalls ∷ []
+
+-- The passes on bodies that take no facts.
+abbrev pub bodies : List Pass
+bodies = CopyProp ∷ DeadCode ∷ Squeeze ∷ Compact ∷ []
+
+-- These once, and so many times again.
+abbrev pub repeated : ℕ → List Pass
+repeated zero = bodies
+repeated (suc n) = repeated n ++ bodies
+
+-- The passes of a round, in their order, where those on bodies run so many times again.
+abbrev pub round_of : ℕ → List Pass
+round_of n = values ++ repeated n
+
+-- Each pass once.
 abbrev pub passes : List Pass
-passes = Reach ∷ ConstProp ∷ Devirt ∷ Staticise ∷ QuietCalls ∷ CopyProp ∷ DeadCode ∷ Squeeze ∷ Compact ∷ []
+passes = round_of zero
 
 -- ---- what each pass does to a well-formed program
 
@@ -264,3 +281,14 @@ pub record HaveLooked (o : Outside) (admitted : List Bool) (some : List Pass) (a
   pub same : total_of r.changes ≡ 0 → r.traced ≡ t
   pub still : all ≡ true → total_of r.changes ≡ 0 → AreStill o admitted some t.program
   pub falls : Falls r.changes r.traced.program t.program
+
+-- The passes on bodies ran, so many times again. Where it is said that they looked at all admitted methods, and they changed nothing, they
+-- leave the program the same.
+pub record HaveRepeated (admitted : List Bool) (all : Bool) (t : Traced) (r : Passed) : Type 0 where
+  pub times : ℕ
+  pub looked : (o : Outside) → HaveLooked o admitted (repeated times) all t r
+
+-- A round ran, in which the passes on bodies ran so many times again.
+pub record IsRound (o : Outside) (admitted : List Bool) (t : Traced) (r : Passed) : Type 0 where
+  pub times : ℕ
+  pub passed : HavePassed o admitted (round_of times) t r

@@ -12,21 +12,21 @@ use Rattle.pipeline.specs.declared.traces.Traced.{Traced}
 use Rattle.pipeline.specs.Advised.{IsAdvised}
 use Rattle.pipeline.specs.Changes.{IsLess}
 use Rattle.pipeline.specs.Counts.{counted}
-use Rattle.pipeline.specs.Passes.{passes, Steps, AreStill, HavePassed}
+use Rattle.pipeline.specs.Passes.{passes, round_of, Steps, AreStill, IsRound}
 use Rattle.pipeline.specs.Prepared.{IsPrepared}
 use Rattle.pipeline.specs.Silence.{IsSilent}
 
--- So many rounds, one after another, each of which leaves less.
+-- So many rounds, one after another, each of which leaves less. In each the passes on bodies run so many times again.
 pub data Rounds (o : Outside) (admitted : List Bool) : ℕ → Traced → Traced → Type 0 where
   Ended : (t : Traced) → Rounds o admitted zero t t
-  Next : (n : ℕ) (t u v : Traced) → Steps o admitted passes t u → IsLess u.program t.program → Rounds o admitted n u v → Rounds o admitted (suc n) t v
+  Next : (n times : ℕ) (t u v : Traced) → Steps o admitted (round_of times) t u → IsLess u.program t.program → Rounds o admitted n u v → Rounds o admitted (suc n) t v
 
 -- Rounds ran from a program on, so many with the last one, which left this.
 pub record Rounding (o : Outside) (admitted : List Bool) (t : Traced) (r : Passed) (count : ℕ) : Type 0 where
   pub before : Traced
   pub changing : ℕ
   pub rounds : Rounds o admitted changing t before
-  pub one : HavePassed o admitted passes before r
+  pub one : IsRound o admitted before r
   pub count_is : count ≡ counted (suc changing)
 
 -- a program no position of which has moved

@@ -1,8 +1,8 @@
 //! The hierarchy of a program.
 
-ghost use Rattle.std.specs.Prelude.{◌≡◌, true, IfOk, MatchOption};
+ghost use Rattle.std.specs.Prelude.{◌≡◌, true, IfOk, OnOk, MatchOption};
 ghost use Rattle.program_model.specs.ProgramRules.{is_well_formed};
-ghost use Rattle.pipeline.specs.Graph.{HasGraph, HasGraphFault};
+ghost use Rattle.pipeline.specs.Graph.{HasGraph, HasGraphFault, IsGraph};
 
 use hierarchy::{Hierarchy, HierarchyFault};
 use program_model::Program;
@@ -19,4 +19,18 @@ pub fn hierarchy_of(alloc: Global, program: &Program) -> Result<Option<Hierarchy
         Err(HierarchyFault::NoMemory) => Err(AllocError),
         Err(_) => Ok(None),
     }
+}
+
+/// Lets a hierarchy go and puts that of a program in its place. The only error is want of memory.
+pub fn renew_graph(
+    alloc: Global,
+    graph: &mut Option<Hierarchy>,
+    program: &Program,
+) -> Result<(), AllocError>
+    ensures { OnOk result (IsGraph program.now graph.new) }
+{
+    *graph = None;
+    let found = hierarchy_of(alloc, program)?;
+    *graph = found;
+    Ok(())
 }

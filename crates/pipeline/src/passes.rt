@@ -12,7 +12,7 @@ ghost use Rattle.pipeline.specs.Changes.{no_changes, total_of};
 ghost use Rattle.pipeline.specs.Graph.{IsGraph};
 ghost use Rattle.pipeline.specs.Passes.{Reach, ConstProp, Devirt, Staticise, QuietCalls, CopyProp, DeadCode, Squeeze, Compact, AreKnown, IsAnalysis, IsIllTyped, KeepsReads, HavePassed};
 
-use crate::graph::hierarchy_of;
+use crate::graph::renew_graph;
 use crate::traces::{Changes, Passed, Traced, left_by};
 use facts::Facts;
 use hierarchy::Hierarchy;
@@ -44,10 +44,7 @@ fn refresh_graph(
     if passed.changes.is_none() {
         return Ok(());
     }
-    *graph = None;
-    let found = hierarchy_of(alloc, &passed.traced.program)?;
-    *graph = found;
-    Ok(())
+    renew_graph(alloc, graph, &passed.traced.program)
 }
 
 /// The same, and hands on what the pass left.

@@ -10,7 +10,7 @@ ghost use Rattle.moves_law.specs.Measure.{moves_in};
 ghost use Rattle.pipeline.specs.Changes.{bulk_of, total_of};
 ghost use Rattle.pipeline.specs.Counts.{members_of, insns_of};
 ghost use Rattle.pipeline.specs.Graph.{IsGraph};
-ghost use Rattle.pipeline.specs.Passes.{ConstProp, Devirt, Staticise, QuietCalls, CopyProp, DeadCode, Squeeze, Compact, passes, AreWithin, HaveLooked, HavePassed, IsAnalysis};
+ghost use Rattle.pipeline.specs.Passes.{ConstProp, Devirt, Staticise, QuietCalls, bodies, AreWithin, HaveLooked, HavePassed, HaveRepeated, IsAnalysis, IsRound};
 ghost use Rattle.pipeline.specs.Inlined.{InlinedBegins, IsOptimisedInlined};
 ghost use Rattle.pipeline.specs.Prepared.{IsAdvisedBy, IsPrepared, MayBegin};
 ghost use Rattle.pipeline.specs.Replies.{HaveTaken};
@@ -18,7 +18,7 @@ ghost use Rattle.pipeline.specs.Rounds.{HaveRunFrom, IsOptimised, IsOptimisedBy,
 
 use crate::asks::{Advice, ask_all, no_advice};
 use crate::counts::{count_instructions, count_members};
-use crate::graph::hierarchy_of;
+use crate::graph::{hierarchy_of, renew_graph};
 use crate::inlined::inline_sites;
 use crate::passes::{
     clean_bodies, compact_bodies, facts_of, fold_constants, loosen_methods, propagate_copies,
@@ -196,7 +196,7 @@ fn body_passes(
     graph: &mut Option<Hierarchy>,
     admitted: &Admitted,
 ) -> Result<Passed, AllocError>
-    ensures passed { IsGraph traced.program graph.old → IfOk result (λ passed. (outside : Outside) → HavePassed outside admitted.now.methods.items (CopyProp ∷ DeadCode ∷ Squeeze ∷ Compact ∷ []) traced passed) }
+    ensures passed { IsGraph traced.program graph.old → IfOk result (λ passed. (outside : Outside) → HavePassed outside admitted.now.methods.items bodies traced passed) }
     ensures graph { IsGraph traced.program graph.old → IfOk result (λ passed. total_of passed.changes ≡ 0 → IsGraph passed.traced.program graph.new) }
 {
     let copied = propagate_copies(alloc, traced, graph, admitted)?;
@@ -234,7 +234,7 @@ fn settle_bodies(
     all: bool,
 ) -> Result<Passed, AllocError>
     ensures { AreWithin marks.now.methods.items admitted.now.methods.items → IsGraph traced.program graph.old
-        → IfOk result (λ passed. (outside : Outside) → HaveLooked outside admitted.now.methods.items (CopyProp ∷ DeadCode ∷ Squeeze ∷ Compact ∷ []) all traced passed) }
+        → IfOk result (λ passed. (outside : Outside) → HaveLooked outside admitted.now.methods.items bodies all traced passed) }
 {
     let left = body_passes(alloc, traced, graph, marks)?;
     let due = is_due(all, &left.changes, marks, admitted);
@@ -256,13 +256,53 @@ fn changed_passes(
     all: bool,
 ) -> Result<Passed, AllocError>
     ensures { IsGraph traced.program graph.old
-        → IfOk result (λ passed. (outside : Outside) → HaveLooked outside admitted.now.methods.items (CopyProp ∷ DeadCode ∷ Squeeze ∷ Compact ∷ []) all traced passed) }
+        → IfOk result (λ passed. (outside : Outside) → HaveLooked outside admitted.now.methods.items bodies all traced passed) }
 {
     let marks = changed_bodies(alloc, &traced.program, graph, prints, admitted)?;
     settle_bodies(alloc, traced, graph, &marks, admitted, all)
 }
 
-/// Each pass once, in its order, by the graph of the program as it stands before it.
+/// How many times the passes on bodies run in a round at most.
+const MOST_LOOKS: u32 = 64;
+
+/// The passes on bodies over those that changed since these passes came to them, by the graph of the program as it stands now.
+fn look_again(
+    alloc: Global,
+    traced: Traced,
+    graph: &mut Option<Hierarchy>,
+    prints: &mut [u64],
+    admitted: &Admitted,
+) -> Result<Passed, AllocError>
+    ensures { IfOk result (λ passed. (outside : Outside) → HaveLooked outside admitted.now.methods.items bodies false traced passed) }
+{
+    renew_graph(alloc, graph, &traced.program)?;
+    changed_passes(alloc, traced, graph, prints, admitted, false)
+}
+
+/// The passes on bodies, again and again over those that changed, until they change nothing.
+fn repeat_passes(
+    alloc: Global,
+    traced: Traced,
+    graph: &mut Option<Hierarchy>,
+    prints: &mut [u64],
+    admitted: &Admitted,
+    all: bool,
+) -> Result<Passed, AllocError>
+    ensures { IsGraph traced.program graph.old → IfOk result (HaveRepeated admitted.now.methods.items all traced) }
+{
+    let mut left = changed_passes(alloc, traced, graph, prints, admitted, all)?;
+    let mut changing = !left.changes.is_none();
+    let mut looks: u32 = 1;
+    'looks: while changing && looks < MOST_LOOKS {
+        let next = look_again(alloc, left.traced, graph, prints, admitted)?;
+        changing = !next.changes.is_none();
+        left = and_then(left.changes, next);
+        looks += 1;
+    }
+    Ok(left)
+}
+
+/// Each pass in its order, those on bodies again where they changed some, by the graph of the program as it stands before it.
 fn all_passes(
     alloc: Global,
     traced: Traced,
@@ -271,17 +311,17 @@ fn all_passes(
     admitted: &Admitted,
     prints: &mut [u64],
 ) -> Result<Passed, AllocError>
-    ensures { IsGraph traced.program graph.old → IfOk result (HavePassed outside.now admitted.now.methods.items passes traced) }
+    ensures { IsGraph traced.program graph.old → IfOk result (IsRound outside.now admitted.now.methods.items traced) }
 {
     let reached = remove_unreached(alloc, traced, graph, outside)?;
     let valued = value_passes(alloc, reached.traced, graph, outside, admitted)?;
     let valued = and_then(reached.changes, valued);
     let all = valued.changes.is_none();
-    let left = changed_passes(alloc, valued.traced, graph, prints, admitted, all)?;
+    let left = repeat_passes(alloc, valued.traced, graph, prints, admitted, all)?;
     Ok(and_then(valued.changes, left))
 }
 
-/// Each pass once, by a graph that it owns and lends to the passes.
+/// A round, by a graph that it owns and lends to the passes.
 fn owned_passes(
     alloc: Global,
     traced: Traced,
@@ -290,13 +330,13 @@ fn owned_passes(
     admitted: &Admitted,
     prints: &mut [u64],
 ) -> Result<Passed, AllocError>
-    ensures { IsGraph traced.program graph → IfOk result (HavePassed outside.now admitted.now.methods.items passes traced) }
+    ensures { IsGraph traced.program graph → IfOk result (IsRound outside.now admitted.now.methods.items traced) }
 {
     let mut lent = graph;
     all_passes(alloc, traced, &mut lent, outside, admitted, prints)
 }
 
-/// One round: each pass once, in its order.
+/// One round: each pass in its order, those on bodies again where they changed some.
 fn round(
     alloc: Global,
     traced: Traced,
@@ -304,7 +344,7 @@ fn round(
     admitted: &Admitted,
     prints: &mut [u64],
 ) -> Result<Passed, AllocError>
-    ensures { IfOk result (HavePassed outside.now admitted.now.methods.items passes traced) }
+    ensures { IfOk result (IsRound outside.now admitted.now.methods.items traced) }
 {
     let graph = hierarchy_of(alloc, &traced.program)?;
     owned_passes(alloc, traced, graph, outside, admitted, prints)

@@ -10,4 +10,4 @@ returns-then-is_none c =
     λ p graph same. subst (λ (x : Program). IsGraph x c.args.graph.now) (sym (same none)) graph
 
 pub returns : goal.returns
-returns c = λ p graph same. c.in_ok-found.ensures
+returns c = λ p graph same. c.renew_graph.ensures

@@ -1,7 +1,7 @@
-//! Which bodies changed from one round to the next.
+//! Which bodies changed since the passes on bodies came to them last.
 //!
-//! Where the passes on bodies leave a body as it was, and nothing changes it before they come again, they leave it so once more. So in a
-//! round they look only at the methods whose bodies stand before these passes otherwise than they stood before them in the round
+//! Where these passes leave a body as it was, and nothing changes it before they come again, they leave it so once more. So they look
+//! only at the methods whose bodies stand before them otherwise than when they came last, be it in the same round or in the one
 //! before. That is told by a print of each body, a sum of 64 bits, in which a get of a static field also tells whether it initialises the
 //! field's class. Two bodies may have the same print: then the second one is looked at in the last round, which looks at all.
 

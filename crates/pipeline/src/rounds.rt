@@ -245,8 +245,8 @@ fn settle_bodies(
     Ok(left)
 }
 
-/// The passes on bodies over the methods whose bodies changed since these passes left them as they were, by the prints of bodies in the
-/// round before.
+/// The passes on bodies over the methods whose bodies changed since these passes left them as they were, by the prints of bodies when they
+/// ran last.
 fn changed_passes(
     alloc: Global,
     traced: Traced,

@@ -52,16 +52,6 @@ pub(crate) struct Spread<'a> {
     results: Waits,
 }
 
-/// Whether an instruction takes the value of a cell, and which it is.
-fn taken(cells: &Cells, site: Site, insn: &Insn) -> Value {
-    match insn {
-        Insn::MoveResult { .. } | Insn::InstanceGet { .. } | Insn::StaticGet { .. } => {
-            cells.value(site.reads)
-        }
-        _ => Value::none(),
-    }
-}
-
 /// The registers past a switch.
 fn past(
     alloc: Global,
@@ -387,7 +377,7 @@ impl<'a> Spread<'a> {
         self.cases(alloc, code, from, insn, targets, &registers)?;
         match past(alloc, insn, targets, &registers)? {
             Some(left) => {
-                walk.resume(left)?;
+                walk.resume(left);
                 Ok(true)
             }
             None => Ok(false),
@@ -415,10 +405,10 @@ impl<'a> Spread<'a> {
             Insn::PackedSwitch { targets, .. } | Insn::SparseSwitch { targets, .. } => {
                 self.switches(alloc, code, from, insn, targets.as_slice(), walk)
             }
-            _ => {
-                let value = taken(&self.cells, site, insn);
-                walk.stride(alloc, &self.ground.classes, insn, value)
+            Insn::MoveResult { .. } | Insn::InstanceGet { .. } | Insn::StaticGet { .. } => {
+                walk.takes(insn, self.cells.value(site.reads))
             }
+            _ => walk.stride(alloc, &self.ground.classes, insn),
         }
     }
 

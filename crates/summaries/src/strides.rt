@@ -3,9 +3,9 @@
 use crate::rows::behind;
 use crate::walks::Walk;
 use dom_frame::{Classes, step};
-use domains::{Nullness, Value};
+use domains::Value;
 use pat_map::PatMap;
-use program_model::{Insn, InvokeKind};
+use program_model::{Insn, InvokeKind, Test};
 use std::alloc::{AllocError, Global};
 use value_ops::{
     any_object, binary, compare, held, literal, of_class, refine, unary, words_between,
@@ -49,23 +49,13 @@ impl Walk {
         }
     }
 
-    /// What is left in a register that is used as an object; none where it needn't be put, as an object is surely there.
-    fn left_in(&self, register: u16) -> Option<Option<Value>> {
-        match self.get(u32::from(register)) {
-            Some(value) => match value.nullness() {
-                Nullness::NotNull => None,
-                _ => Some(held(value)),
-            },
-            None => Some(held(&Value::none())),
-        }
-    }
-
-    /// Uses a register as an object.
+    /// Uses a register as an object. One that is surely there needn't be put again.
     fn uses(&mut self, register: u16) -> Result<bool, AllocError> {
-        match self.left_in(register) {
-            Some(left) => self.refined(register, left),
-            None => Ok(true),
+        if self.has_object(register) {
+            return Ok(true);
         }
+        let left = held(&self.value_at(register));
+        self.refined(register, left)
     }
 
     /// Moves a register, or two.
@@ -113,20 +103,9 @@ impl Walk {
         }
     }
 
-    /// A get or a put of a field, and a call.
-    fn step_field(&mut self, insn: &Insn, given: Value) -> Result<bool, AllocError> {
+    /// A put of a field, and a call.
+    fn step_field(&mut self, insn: &Insn) -> Result<bool, AllocError> {
         match insn {
-            Insn::InstanceGet { item, to, on, .. } => {
-                if !self.uses(*on)? {
-                    return Ok(false);
-                }
-                self.put_sized(item.is_wide(), *to, given)?;
-                Ok(true)
-            }
-            Insn::StaticGet { item, to, .. } => {
-                self.put_sized(item.is_wide(), *to, given)?;
-                Ok(true)
-            }
             Insn::InstancePut { on, .. } => self.uses(*on),
             Insn::Invoke { kind, args, .. } => match (kind, args.as_slice()) {
                 (InvokeKind::Static, _) => Ok(true),
@@ -138,7 +117,7 @@ impl Walk {
     }
 
     /// An operation on an array, and a monitor.
-    fn step_array(&mut self, insn: &Insn, given: Value) -> Result<bool, AllocError> {
+    fn step_array(&mut self, insn: &Insn) -> Result<bool, AllocError> {
         match insn {
             Insn::ArrayLength { to, from } => {
                 if !self.uses(*from)? {
@@ -162,7 +141,7 @@ impl Walk {
             Insn::ArrayPut { array, .. } => self.uses(*array),
             Insn::FillArray { on, .. } => self.uses(*on),
             Insn::MonitorEnter { on } | Insn::MonitorExit { on } => self.uses(*on),
-            _ => self.step_field(insn, given),
+            _ => self.step_field(insn),
         }
     }
 
@@ -190,22 +169,35 @@ impl Walk {
         Ok(true)
     }
 
-    /// Lets an instruction other than a branch leave what it leaves, and answers whether a run goes on behind it. `given` is
-    /// what it takes that stands elsewhere.
+    /// Puts a value into the register of an instruction that takes it from elsewhere, and answers whether a run goes on behind
+    /// it.
+    pub(crate) fn takes(&mut self, insn: &Insn, value: Value) -> Result<bool, AllocError> {
+        let (wide, to) = match insn {
+            Insn::MoveResult { slot, to } => (slot.is_wide(), *to),
+            Insn::StaticGet { item, to, .. } => (item.is_wide(), *to),
+            Insn::InstanceGet { item, to, on, .. } => {
+                if !self.uses(*on)? {
+                    return Ok(false);
+                }
+                (item.is_wide(), *to)
+            }
+            _ => return Ok(true),
+        };
+        self.put_sized(wide, to, value)?;
+        Ok(true)
+    }
+
+    /// Lets an instruction leave what it leaves, other than a branch and one that takes a value from elsewhere. Answers whether
+    /// a run goes on behind it.
     pub(crate) fn stride(
         &mut self,
         alloc: Global,
         classes: &Classes<'_>,
         insn: &Insn,
-        given: Value,
     ) -> Result<bool, AllocError> {
         match insn {
             Insn::Move { slot, to, from } => {
                 self.moves(slot.is_wide(), *to, *from)?;
-                Ok(true)
-            }
-            Insn::MoveResult { slot, to } => {
-                self.put_sized(slot.is_wide(), *to, given)?;
                 Ok(true)
             }
             Insn::MoveException { to } => {
@@ -223,33 +215,47 @@ impl Walk {
             | Insn::NewInstance { .. }
             | Insn::NewArray { .. }
             | Insn::CheckCast { .. } => self.step_constant(alloc, classes, insn),
-            _ => self.step_array(insn, given),
+            _ => self.step_array(insn),
+        }
+    }
+
+    /// What is left of two operands whose test answers so; none where it can't.
+    fn left_of_both(&self, taken: bool, test: Test, a: u16, b: u16) -> Option<Turn> {
+        let values = match (self.get(u32::from(a)), self.get(u32::from(b))) {
+            (Some(value), Some(other)) => refine(taken, test, value, other),
+            _ => refine(taken, test, &self.value_at(a), &self.value_at(b)),
+        };
+        match values {
+            Some((value, other)) => Some(Turn {
+                a,
+                value,
+                other: Some((b, other)),
+            }),
+            None => None,
+        }
+    }
+
+    /// What is left of one that is compared with 0.
+    fn left_of_one(&self, taken: bool, test: Test, a: u16) -> Option<Turn> {
+        let values = match self.get(u32::from(a)) {
+            Some(value) => refine(taken, test, value, &Value::constant(0)),
+            None => refine(taken, test, &Value::none(), &Value::constant(0)),
+        };
+        match values {
+            Some((value, _)) => Some(Turn {
+                a,
+                value,
+                other: None,
+            }),
+            None => None,
         }
     }
 
     /// What is left of the operands of a conditional branch that answers so; none where it can't.
     pub(crate) fn left_of(&self, insn: &Insn, taken: bool) -> Option<Turn> {
         match insn {
-            Insn::If { test, a, b, .. } => {
-                match refine(taken, *test, &self.value_at(*a), &self.value_at(*b)) {
-                    Some((value, other)) => Some(Turn {
-                        a: *a,
-                        value,
-                        other: Some((*b, other)),
-                    }),
-                    None => None,
-                }
-            }
-            Insn::IfZero { test, a, .. } => {
-                match refine(taken, *test, &self.value_at(*a), &Value::constant(0)) {
-                    Some((value, _)) => Some(Turn {
-                        a: *a,
-                        value,
-                        other: None,
-                    }),
-                    None => None,
-                }
-            }
+            Insn::If { test, a, b, .. } => self.left_of_both(taken, *test, *a, *b),
+            Insn::IfZero { test, a, .. } => self.left_of_one(taken, *test, *a),
             _ => None,
         }
     }

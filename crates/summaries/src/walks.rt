@@ -2,22 +2,22 @@
 //!
 //! A map of registers shares what two of them have in common, so one more value in it makes several nodes. A walk goes over
 //! many positions before it comes to a node, where its registers are compared with those that are known there. So it keeps
-//! them in a list, and makes a map of them only where more is known at a node than before.
+//! what it writes in a list, and makes a map of it only where more is known at a node than before.
 
-use crate::rows::{behind, word};
-use domains::Value;
+use crate::rows::behind;
+use domains::{Nullness, Value};
 use lattice_core::{Domain, Lattice};
 use pat_map::{MapValue, PatMap};
 use std::alloc::{AllocError, Global};
 
-/// The registers where a walk is: those of `base`, but for those in `written`, which `marks` says too by number. `values` has
-/// the values of all registers of the body, and none for a register that has none.
+/// The registers where a walk is, so many as `count`: those of `base`, but for those in `written`, whose values stand in
+/// `values`. All others have none there.
 #[derive(Drop)]
 pub(crate) struct Walk {
     base: PatMap<Value>,
     values: Vec<Option<Value>>,
-    marks: Vec<bool>,
     written: Vec<u32>,
+    count: u32,
 }
 
 /// The value of a register as it is known at a node, raised by what comes there; none where it doesn't rise.
@@ -67,45 +67,54 @@ fn set_in(
     Ok(())
 }
 
+/// As many places as there are registers, at least.
+fn widen_to(values: &mut Vec<Option<Value>>, count: usize) -> Result<(), AllocError> {
+    for _ in values.len()..count {
+        values.push(None)?;
+    }
+    Ok(())
+}
+
 impl Walk {
     /// A walk of no registers.
     pub(crate) fn new(alloc: Global) -> Walk {
         Walk {
             base: PatMap::empty(),
             values: Vec::new(alloc),
-            marks: Vec::new(alloc),
             written: Vec::new(alloc),
+            count: 0,
         }
+    }
+
+    /// Lets no register be written.
+    fn clear(&mut self) {
+        for register in self.written.as_slice() {
+            if let Some(own) = self.values.get_mut(*register as usize) {
+                *own = None;
+            }
+        }
+        self.written.clear();
     }
 
     /// Lets a walk begin with so many registers of a map.
     pub(crate) fn begin(&mut self, registers: PatMap<Value>, count: u32) -> Result<(), AllocError> {
-        self.values.clear();
-        self.marks.clear();
-        self.written.clear();
-        for register in 0..count {
-            let value = match registers.get(register) {
-                Some(value) => Some(value.same()),
-                None => None,
-            };
-            self.values.push(value)?;
-            self.marks.push(false)?;
-        }
+        self.clear();
         self.base = registers;
-        Ok(())
+        self.count = count;
+        widen_to(&mut self.values, count as usize)
     }
 
     /// Lets a walk go on with other registers of the same body.
-    pub(crate) fn resume(&mut self, registers: PatMap<Value>) -> Result<(), AllocError> {
-        let count = word(self.values.len());
-        self.begin(registers, count)
+    pub(crate) fn resume(&mut self, registers: PatMap<Value>) {
+        self.clear();
+        self.base = registers;
     }
 
     /// The value of a register, if it has one.
     pub(crate) fn get(&self, register: u32) -> Option<&Value> {
         match self.values.as_slice().get(register as usize) {
             Some(Some(value)) => Some(value),
-            _ => None,
+            _ => self.base.get(register),
         }
     }
 
@@ -117,22 +126,23 @@ impl Walk {
         }
     }
 
-    /// Notes that a register is written.
-    fn mark(&mut self, register: u32) -> Result<(), AllocError> {
-        if let Some(mark) = self.marks.get_mut(register as usize) {
-            if !*mark {
-                *mark = true;
-                self.written.push(register)?;
-            }
+    /// Whether a register surely has an object.
+    pub(crate) fn has_object(&self, register: u16) -> bool {
+        match self.get(u32::from(register)) {
+            Some(value) => matches!(value.nullness(), Nullness::NotNull),
+            None => false,
         }
-        Ok(())
     }
 
     /// Puts a value into a register of the body.
     pub(crate) fn put(&mut self, register: u32, value: Value) -> Result<(), AllocError> {
-        self.mark(register)?;
-        if let Some(own) = self.values.get_mut(register as usize) {
-            *own = Some(value);
+        let Some(own) = self.values.get_mut(register as usize) else {
+            return Ok(());
+        };
+        let first = own.is_none();
+        *own = Some(value);
+        if first {
+            self.written.push(register)?;
         }
         Ok(())
     }
@@ -165,21 +175,11 @@ impl Walk {
         Ok(registers)
     }
 
-    /// Marks no register as written.
-    fn unmark(&mut self) {
-        for register in self.written.as_slice() {
-            if let Some(mark) = self.marks.get_mut(*register as usize) {
-                *mark = false;
-            }
-        }
-        self.written.clear();
-    }
-
     /// The registers as a map.
     pub(crate) fn map(&mut self, alloc: Global) -> Result<PatMap<Value>, AllocError> {
         if !self.written.is_empty() {
-            self.base = self.made(alloc)?;
-            self.unmark();
+            let registers = self.made(alloc)?;
+            self.resume(registers);
         }
         self.base.share()
     }
@@ -192,12 +192,10 @@ impl Walk {
         widens: bool,
     ) -> Result<Option<PatMap<Value>>, AllocError> {
         let mut risen: Option<PatMap<Value>> = None;
-        let mut register = 0u32;
-        for value in self.values.as_slice() {
-            if let Some(more) = raised(alloc, known.get(register), value.as_ref(), widens)? {
+        for register in 0..self.count {
+            if let Some(more) = raised(alloc, known.get(register), self.get(register), widens)? {
                 set_in(alloc, known, &mut risen, register, more)?;
             }
-            register = behind(register, 1);
         }
         Ok(risen)
     }

@@ -30,8 +30,10 @@ mod rows;
 mod sites;
 mod spread;
 mod starts;
+mod strides;
 mod tables;
 mod waits;
+mod walks;
 
 pub use analysis::analyse;
 pub use facts::Facts;

@@ -2,6 +2,7 @@
 
 use crate::rows::is_on;
 use crate::sites::Node;
+use crate::walks::Walk;
 use domains::Value;
 use lattice_core::{Domain, Lattice};
 use pat_map::PatMap;
@@ -74,6 +75,27 @@ impl Place {
     }
 }
 
+impl Place {
+    /// Raises the registers by those of a walk, and answers whether they rose.
+    fn raise_by(
+        &mut self,
+        alloc: Global,
+        walk: &mut Walk,
+        widens: bool,
+    ) -> Result<bool, AllocError> {
+        let risen = match &self.state {
+            None => Some(walk.map(alloc)?),
+            Some(known) => walk.raise(alloc, known, widens || self.rises >= JOINS)?,
+        };
+        let Some(registers) = risen else {
+            return Ok(false);
+        };
+        self.state = Some(registers);
+        self.rises = self.rises.saturating_add(1);
+        Ok(true)
+    }
+}
+
 impl<'a> Nodes<'a> {
     /// No run comes to any node of so many bodies.
     pub(crate) fn new(
@@ -135,6 +157,21 @@ impl<'a> Nodes<'a> {
     ) -> Result<(), AllocError> {
         let rose = match self.places.get_mut(node as usize) {
             Some(place) => place.raise(alloc, registers, widens)?,
+            None => false,
+        };
+        if rose { self.wait(node) } else { Ok(()) }
+    }
+
+    /// Lets a walk come to a node. `widens` says that it comes from further on.
+    pub(crate) fn come(
+        &mut self,
+        alloc: Global,
+        node: u32,
+        walk: &mut Walk,
+        widens: bool,
+    ) -> Result<(), AllocError> {
+        let rose = match self.places.get_mut(node as usize) {
+            Some(place) => place.raise_by(alloc, walk, widens)?,
             None => false,
         };
         if rose { self.wait(node) } else { Ok(()) }

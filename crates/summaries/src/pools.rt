@@ -1,8 +1,7 @@
 //! What virtual and interface calls pass, by the number of the call.
 
 use crate::cells::Cell;
-use domains::Value;
-use pat_map::PatMap;
+use crate::walks::Walk;
 use seq::Seq;
 use std::alloc::{AllocError, Global};
 
@@ -23,10 +22,10 @@ pub(crate) struct Passing {
 pub(crate) fn raise_by(
     alloc: Global,
     cell: &mut Cell,
-    registers: &PatMap<Value>,
+    walk: &Walk,
     register: u16,
 ) -> Result<bool, AllocError> {
-    match registers.get(u32::from(register)) {
+    match walk.get(u32::from(register)) {
         Some(value) => cell.raise(alloc, value),
         None => Ok(false),
     }
@@ -38,29 +37,24 @@ impl Pool {
         &mut self,
         alloc: Global,
         place: usize,
-        registers: &PatMap<Value>,
+        walk: &Walk,
         register: u16,
     ) -> Result<bool, AllocError> {
         if place >= self.words.items.len() {
             self.words.items.push(Cell::new())?;
         }
         match self.words.items.get_mut(place) {
-            Some(cell) => raise_by(alloc, cell, registers, register),
+            Some(cell) => raise_by(alloc, cell, walk, register),
             None => Ok(false),
         }
     }
 
     /// Lets a run come to a call with these arguments, and answers whether anything rose.
-    fn pass(
-        &mut self,
-        alloc: Global,
-        args: &[u16],
-        registers: &PatMap<Value>,
-    ) -> Result<bool, AllocError> {
+    fn pass(&mut self, alloc: Global, args: &[u16], walk: &Walk) -> Result<bool, AllocError> {
         let mut rose = !self.reached;
         self.reached = true;
         for place in 0..args.len() {
-            let risen = self.raise(alloc, place, registers, args[place])?;
+            let risen = self.raise(alloc, place, walk, args[place])?;
             rose |= risen;
         }
         Ok(rose)
@@ -86,10 +80,10 @@ impl Passing {
         alloc: Global,
         call: u32,
         args: &[u16],
-        registers: &PatMap<Value>,
+        walk: &Walk,
     ) -> Result<bool, AllocError> {
         match self.all.get_mut(call as usize) {
-            Some(pool) => pool.pass(alloc, args, registers),
+            Some(pool) => pool.pass(alloc, args, walk),
             None => Ok(false),
         }
     }

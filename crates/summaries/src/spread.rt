@@ -10,11 +10,11 @@ use crate::pools::Passing;
 use crate::rows::{NONE, Rows, behind, is_on};
 use crate::sites::{Site, Sites};
 use crate::waits::Waits;
+use crate::walks::Walk;
 use call_targets::call_number;
-use dom_frame::{Classes, branch, step, switch_at, switch_past};
-use domains::{Nullness, Value};
+use dom_frame::{Classes, switch_at, switch_past};
+use domains::Value;
 use hierarchy::Hierarchy;
-use lattice_core::Lattice;
 use pat_map::PatMap;
 use program_model::{Class, Flags, Insn, InvokeKind, Program, Region, Version};
 use std::alloc::{AllocError, Global};
@@ -52,78 +52,6 @@ pub(crate) struct Spread<'a> {
     results: Waits,
 }
 
-/// Whether an instruction takes the value of a cell, and which it is.
-fn taken(cells: &Cells, site: Site, insn: &Insn) -> Value {
-    match insn {
-        Insn::MoveResult { .. } | Insn::InstanceGet { .. } | Insn::StaticGet { .. } => {
-            cells.value(site.reads)
-        }
-        _ => Value::none(),
-    }
-}
-
-/// The value of a register, that of nothing where it has none.
-fn value_at(registers: &PatMap<Value>, register: u16) -> Value {
-    match registers.get(u32::from(register)) {
-        Some(value) => value.same(),
-        None => Value::none(),
-    }
-}
-
-/// Whether a register surely has an object.
-fn has_object(registers: &PatMap<Value>, register: u16) -> bool {
-    match registers.get(u32::from(register)) {
-        Some(value) => matches!(value.nullness(), Nullness::NotNull),
-        None => false,
-    }
-}
-
-/// Whether an instruction only uses an object that is surely there, so that it leaves all registers as they are.
-fn leaves_all(registers: &PatMap<Value>, insn: &Insn) -> bool {
-    match insn {
-        Insn::InstancePut { on, .. } | Insn::FillArray { on, .. } => has_object(registers, *on),
-        Insn::ArrayPut { array, .. } => has_object(registers, *array),
-        Insn::Invoke { args, .. } => match args.as_slice() {
-            [receiver, ..] => has_object(registers, *receiver),
-            [] => false,
-        },
-        _ => false,
-    }
-}
-
-/// The registers with a value in one, or a wide one in two.
-fn with_value(
-    alloc: Global,
-    registers: &PatMap<Value>,
-    wide: bool,
-    to: u16,
-    value: Value,
-) -> Result<PatMap<Value>, AllocError> {
-    let low = registers.set(alloc, u32::from(to), value)?;
-    if wide {
-        low.set(alloc, behind(u32::from(to), 1), Value::any())
-    } else {
-        Ok(low)
-    }
-}
-
-/// The registers behind an instruction that takes a value. Of an object that is surely there a get needn't note that it is.
-fn stepped(
-    alloc: Global,
-    classes: &Classes<'_>,
-    registers: &PatMap<Value>,
-    insn: &Insn,
-    value: Value,
-) -> Result<Option<PatMap<Value>>, AllocError> {
-    if let Insn::InstanceGet { item, to, on, .. } = insn {
-        if has_object(registers, *on) {
-            let left = with_value(alloc, registers, item.is_wide(), *to, value)?;
-            return Ok(Some(left));
-        }
-    }
-    step(alloc, classes, registers, insn, &value)
-}
-
 /// The registers past a switch.
 fn past(
     alloc: Global,
@@ -157,11 +85,11 @@ fn raise_by_args(
     cells: &mut Cells,
     code: &Code<'_>,
     args: &[u16],
-    registers: &PatMap<Value>,
+    walk: &Walk,
 ) -> Result<bool, AllocError> {
     let mut rose = false;
     for (word, register) in (0..code.body.ins).zip(args) {
-        if let Some(value) = registers.get(u32::from(*register)) {
+        if let Some(value) = walk.get(u32::from(*register)) {
             let cell = behind(code.first_word, u32::from(word));
             let risen = cells.raise(alloc, cell, value)?;
             rose |= risen;
@@ -263,12 +191,12 @@ impl<'a> Spread<'a> {
         alloc: Global,
         place: u32,
         args: &[u16],
-        registers: &PatMap<Value>,
+        walk: &Walk,
     ) -> Result<(), AllocError> {
         let codes = self.ground.codes;
         match codes.at(place) {
             Some(code) => {
-                let rose = raise_by_args(alloc, &mut self.cells, code, args, registers)?;
+                let rose = raise_by_args(alloc, &mut self.cells, code, args, walk)?;
                 self.enter(place, rose)
             }
             None => Ok(()),
@@ -281,12 +209,25 @@ impl<'a> Spread<'a> {
         alloc: Global,
         call: u32,
         args: &[u16],
-        registers: &PatMap<Value>,
+        walk: &Walk,
     ) -> Result<(), AllocError> {
-        if self.passing.pass(alloc, call, args, registers)? {
+        if self.passing.pass(alloc, call, args, walk)? {
             self.calls.add(call)?;
         }
         Ok(())
+    }
+
+    /// Lets a walk come to a position of its body.
+    fn come(
+        &mut self,
+        alloc: Global,
+        code: &Code<'_>,
+        from: u32,
+        target: u32,
+        walk: &mut Walk,
+    ) -> Result<(), AllocError> {
+        let node = self.ground.sites.at(code, target).node;
+        self.nodes.come(alloc, node, walk, target <= from)
     }
 
     /// Lets registers come to a position of a body.
@@ -302,35 +243,35 @@ impl<'a> Spread<'a> {
         self.nodes.flow(alloc, node, registers, target <= from)
     }
 
-    /// Lets the registers in front of an instruction come to the handlers of a region.
+    /// Lets a walk come from in front of an instruction to the handlers of a region.
     fn throw_to(
         &mut self,
         alloc: Global,
         code: &Code<'_>,
         from: u32,
         region: &Region,
-        registers: &PatMap<Value>,
+        walk: &mut Walk,
     ) -> Result<(), AllocError> {
         for handler in region.handlers.as_slice() {
-            self.jump(alloc, code, from, handler.position, registers)?;
+            self.come(alloc, code, from, handler.position, walk)?;
         }
         match region.rest {
-            Some(position) => self.jump(alloc, code, from, position, registers),
+            Some(position) => self.come(alloc, code, from, position, walk),
             None => Ok(()),
         }
     }
 
-    /// Lets them come to the handlers of the region that covers an instruction which may throw.
+    /// Lets it come to the handlers of the region that covers an instruction which may throw.
     fn throw(
         &mut self,
         alloc: Global,
         code: &Code<'_>,
         from: u32,
         site: Site,
-        registers: &PatMap<Value>,
+        walk: &mut Walk,
     ) -> Result<(), AllocError> {
         match code.body.regions.as_slice().get(site.region as usize) {
-            Some(region) => self.throw_to(alloc, code, from, region, registers),
+            Some(region) => self.throw_to(alloc, code, from, region, walk),
             None => Ok(()),
         }
     }
@@ -352,25 +293,25 @@ impl<'a> Spread<'a> {
         place: u32,
         site: Site,
         insn: &Insn,
-        registers: &PatMap<Value>,
+        walk: &Walk,
     ) -> Result<(), AllocError> {
         match insn {
             Insn::Invoke { kind, method, args } => match kind {
                 InvokeKind::Virtual => {
                     let call = call_number(*method, false);
-                    self.call_open(alloc, call, args.as_slice(), registers)
+                    self.call_open(alloc, call, args.as_slice(), walk)
                 }
                 InvokeKind::Interface => {
                     let call = call_number(*method, true);
-                    self.call_open(alloc, call, args.as_slice(), registers)
+                    self.call_open(alloc, call, args.as_slice(), walk)
                 }
-                _ => self.call(alloc, site.writes, args.as_slice(), registers),
+                _ => self.call(alloc, site.writes, args.as_slice(), walk),
             },
             Insn::InstancePut { item, from, .. } | Insn::StaticPut { item, from, .. } => {
-                let value = stored(*item, &value_at(registers, *from));
+                let value = stored(*item, &walk.value_at(*from));
                 self.put(alloc, site.writes, &value)
             }
-            Insn::Return { from, .. } => self.give(alloc, place, &value_at(registers, *from)),
+            Insn::Return { from, .. } => self.give(alloc, place, &walk.value_at(*from)),
             _ => Ok(()),
         }
     }
@@ -395,7 +336,55 @@ impl<'a> Spread<'a> {
         Ok(())
     }
 
-    /// Lets registers come wherever an instruction goes on but at the next position, and answers those there.
+    /// Lets a walk come to the target of a conditional branch, and answers whether it goes on at the next position.
+    fn branches(
+        &mut self,
+        alloc: Global,
+        code: &Code<'_>,
+        from: u32,
+        insn: &Insn,
+        target: u32,
+        walk: &mut Walk,
+    ) -> Result<bool, AllocError> {
+        if let Some(turn) = walk.left_of(insn, true) {
+            let operands = walk.operands(&turn);
+            walk.turn(turn)?;
+            self.come(alloc, code, from, target, walk)?;
+            walk.turn(operands)?;
+        }
+        match walk.left_of(insn, false) {
+            Some(turn) => {
+                walk.turn(turn)?;
+                Ok(true)
+            }
+            None => Ok(false),
+        }
+    }
+
+    /// Lets a walk come to the targets of a switch, and answers whether it goes on at the next position.
+    fn switches(
+        &mut self,
+        alloc: Global,
+        code: &Code<'_>,
+        from: u32,
+        insn: &Insn,
+        targets: &[u32],
+        walk: &mut Walk,
+    ) -> Result<bool, AllocError>
+        requires { targets_of insn.now ≡ targets.now }
+    {
+        let registers = walk.map(alloc)?;
+        self.cases(alloc, code, from, insn, targets, &registers)?;
+        match past(alloc, insn, targets, &registers)? {
+            Some(left) => {
+                walk.resume(left);
+                Ok(true)
+            }
+            None => Ok(false),
+        }
+    }
+
+    /// Lets a walk come wherever an instruction goes on but at the next position, and answers whether it goes on there.
     fn onward(
         &mut self,
         alloc: Global,
@@ -403,34 +392,27 @@ impl<'a> Spread<'a> {
         from: u32,
         site: Site,
         insn: &Insn,
-        registers: &PatMap<Value>,
-    ) -> Result<Option<PatMap<Value>>, AllocError> {
+        walk: &mut Walk,
+    ) -> Result<bool, AllocError> {
         match insn {
             Insn::Goto { target } => {
-                self.jump(alloc, code, from, *target, registers)?;
-                Ok(None)
+                self.come(alloc, code, from, *target, walk)?;
+                Ok(false)
             }
             Insn::If { target, .. } | Insn::IfZero { target, .. } => {
-                if let Some(left) = branch(alloc, registers, insn, true)? {
-                    self.jump(alloc, code, from, *target, &left)?;
-                }
-                branch(alloc, registers, insn, false)
+                self.branches(alloc, code, from, insn, *target, walk)
             }
             Insn::PackedSwitch { targets, .. } | Insn::SparseSwitch { targets, .. } => {
-                self.cases(alloc, code, from, insn, targets.as_slice(), registers)?;
-                past(alloc, insn, targets.as_slice(), registers)
+                self.switches(alloc, code, from, insn, targets.as_slice(), walk)
             }
-            _ => {
-                if leaves_all(registers, insn) {
-                    return Ok(Some(registers.share()?));
-                }
-                let value = taken(&self.cells, site, insn);
-                stepped(alloc, &self.ground.classes, registers, insn, value)
+            Insn::MoveResult { .. } | Insn::InstanceGet { .. } | Insn::StaticGet { .. } => {
+                walk.takes(insn, self.cells.value(site.reads))
             }
+            _ => walk.stride(alloc, &self.ground.classes, insn),
         }
     }
 
-    /// What an instruction does, and the registers at the next position, if it goes on there.
+    /// What an instruction does, and whether it goes on at the next position.
     fn pass(
         &mut self,
         alloc: Global,
@@ -439,12 +421,12 @@ impl<'a> Spread<'a> {
         from: u32,
         site: Site,
         insn: &Insn,
-        registers: &PatMap<Value>,
-    ) -> Result<Option<PatMap<Value>>, AllocError> {
+        walk: &mut Walk,
+    ) -> Result<bool, AllocError> {
         self.needed.add(site.needs)?;
-        self.throw(alloc, code, from, site, registers)?;
-        self.send(alloc, place, site, insn, registers)?;
-        self.onward(alloc, code, from, site, insn, registers)
+        self.throw(alloc, code, from, site, walk)?;
+        self.send(alloc, place, site, insn, walk)?;
+        self.onward(alloc, code, from, site, insn, walk)
     }
 
     /// Walks from a node to the nodes that come next.
@@ -454,19 +436,17 @@ impl<'a> Spread<'a> {
         place: u32,
         code: &Code<'_>,
         first: u32,
-        state: PatMap<Value>,
+        walk: &mut Walk,
     ) -> Result<(), AllocError> {
-        let mut registers = state;
         let mut position = first;
         let sites = self.ground.sites;
         for insn in from_position(code.body.insns.as_slice(), first) {
             let site = sites.at(code, position);
             if position != first && site.node != NONE {
-                return self.nodes.flow(alloc, site.node, &registers, false);
+                return self.nodes.come(alloc, site.node, walk, false);
             }
-            match self.pass(alloc, place, code, position, site, insn, &registers)? {
-                Some(next) => registers = next,
-                None => return Ok(()),
+            if !self.pass(alloc, place, code, position, site, insn, walk)? {
+                return Ok(());
             }
             position = behind(position, 1);
         }
@@ -480,6 +460,7 @@ impl<'a> Spread<'a> {
         place: u32,
         code: &Code<'_>,
         node: u32,
+        walk: &mut Walk,
     ) -> Result<bool, AllocError> {
         if !self.nodes.take(node) {
             return Ok(false);
@@ -489,32 +470,39 @@ impl<'a> Spread<'a> {
             Some(state) => state.share()?,
             None => return Ok(false),
         };
+        walk.begin(state, u32::from(code.body.registers))?;
         if let Some(own) = sites.nodes.as_slice().get(node as usize) {
-            self.walk(alloc, place, code, own.position, state)?;
+            self.walk(alloc, place, code, own.position, walk)?;
         }
         Ok(true)
     }
 
     /// Walks from each node of a body that waits, and answers whether any did.
-    fn sweep(&mut self, alloc: Global, place: u32, code: &Code<'_>) -> Result<bool, AllocError> {
+    fn sweep(
+        &mut self,
+        alloc: Global,
+        place: u32,
+        code: &Code<'_>,
+        walk: &mut Walk,
+    ) -> Result<bool, AllocError> {
         let sites = self.ground.sites;
         let mut any = false;
         for node in sites.first_node(place)..sites.first_node(behind(place, 1)) {
-            let visited = self.visit(alloc, place, code, node)?;
+            let visited = self.visit(alloc, place, code, node, walk)?;
             any |= visited;
         }
         Ok(any)
     }
 
     /// Walks through a body until none of its nodes waits, and its parameters rise no more.
-    fn settle(&mut self, alloc: Global, place: u32) -> Result<(), AllocError> {
+    fn settle(&mut self, alloc: Global, place: u32, walk: &mut Walk) -> Result<(), AllocError> {
         let codes = self.ground.codes;
         let Some(code) = codes.at(place) else {
             return Ok(());
         };
         for _ in 0..u32::MAX {
             self.arrive(alloc, place, code)?;
-            if !self.sweep(alloc, place, code)? {
+            if !self.sweep(alloc, place, code, walk)? {
                 break;
             }
         }
@@ -660,13 +648,13 @@ impl<'a> Spread<'a> {
     }
 
     /// Looks at one of what waits, and answers whether anything did.
-    fn turn(&mut self, alloc: Global) -> Result<bool, AllocError> {
+    fn turn(&mut self, alloc: Global, walk: &mut Walk) -> Result<bool, AllocError> {
         if self.turn_aside(alloc)? {
             return Ok(true);
         }
         match self.nodes.next_code() {
             Some(place) => {
-                self.settle(alloc, place)?;
+                self.settle(alloc, place, walk)?;
                 Ok(true)
             }
             None => Ok(false),
@@ -676,8 +664,9 @@ impl<'a> Spread<'a> {
     /// Looks at all that waits, until nothing does. What would be left after so many turns as 64 bits number, which no
     /// run lives to see, the check finds to be open.
     pub(crate) fn run(&mut self, alloc: Global) -> Result<(), AllocError> {
+        let mut walk = Walk::new(alloc);
         for _ in 0..u64::MAX {
-            if !self.turn(alloc)? {
+            if !self.turn(alloc, &mut walk)? {
                 break;
             }
         }

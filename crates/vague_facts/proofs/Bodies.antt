@@ -1,5 +1,5 @@
 -- What a body of a well-formed program keeps.
-use Rattle.std.proofs.Common.{◌≡◌, ℕ, zero, suc, ◌+◌, ◌-◌, ◌<◌, ◌≤◌, Bool, true, false, List, [], ◌∷◌, length, Option, Some, None, inl, inr, refl, sym, ◌∙◌, subst, arith, leb-true}
+use Rattle.std.proofs.Common.{◌≡◌, ℕ, zero, suc, ◌+◌, ◌-◌, ◌<◌, ◌≤◌, Bool, true, false, List, [], ◌∷◌, length, Option, Some, None, inl, inr, refl, subst, arith, leb-true}
 use Rattle.std.specs.Prelude.{◌&&◌, not, nat_le, slice_get, option_and_then}
 use Rattle.std.specs.List.{list_all, enumerate_from}
 use Rattle.std.proofs.lemmas.Bool.{cases_lt}
@@ -9,7 +9,6 @@ use Rattle.lemmas.proofs.Options.{none_some, some_same}
 use Rattle.insn_set.specs.Flow.{goes_on}
 use Rattle.insn_set.specs.Spelling.{is_encodable}
 use Rattle.insn_set.specs.declared.form.Insn.{Insn}
-use Rattle.insn_set.specs.declared.form.Insn.TheVariants as insn
 use Rattle.program_model.specs.Neighbours.{neighbours}
 use Rattle.program_model.specs.OperandRules.{registers_fit, numbers_fit}
 use Rattle.program_model.specs.RegionRules.{may_begin, region_fits, are_apart, regions_fit}

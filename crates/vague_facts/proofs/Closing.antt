@@ -1,13 +1,12 @@
 -- Facts that say nothing are closed where all is live, and so are the marks by which all is.
-use Rattle.std.proofs.Common.{◌≡◌, ℕ, zero, suc, ◌+◌, ◌-◌, ◌<◌, ◌≤◌, Bool, true, false, List, [], ◌∷◌, length, Option, Some, None, inl, inr, refl, sym, ap, ◌∙◌, subst, arith}
+use Rattle.std.proofs.Common.{◌≡◌, ℕ, zero, suc, ◌+◌, ◌-◌, ◌<◌, Bool, true, false, List, [], ◌∷◌, length, Option, Some, None, inl, inr, refl, sym, ap, ◌∙◌, subst, arith}
 use Rattle.std.specs.Prelude.{is_some, slice_get, slice_index_or, cond, Contains, position, option_and_then}
 use Rattle.std.proofs.lemmas.Option.{get_or_from_slice_get}
-use Rattle.lemmas.proofs.Bools.{clash}
-use Rattle.lemmas.proofs.Lists.{got_short, get_there}
+use Rattle.lemmas.proofs.Bools.{and_right, clash}
+use Rattle.lemmas.proofs.Lists.{got_short}
 use Rattle.lemmas.proofs.Options.{none_some, some_same}
 use Rattle.insn_set.specs.declared.ops.Slot.{Slot}
 use Rattle.insn_set.specs.declared.ops.InvokeKind.{InvokeKind}
-use Rattle.insn_set.specs.declared.form.Insn.{Insn}
 use Rattle.insn_set.specs.declared.form.Insn.TheVariants as insn
 use Rattle.insn_set.specs.Widths.{is_wide_slot}
 use Rattle.insn_set.specs.Flow.{goes_on}
@@ -21,23 +20,20 @@ use Rattle.program_model.specs.declared.program.Method.{Method}
 use Rattle.program_model.specs.declared.program.MethodAt.{MethodAt}
 use Rattle.program_model.specs.declared.program.Program.{Program}
 use Rattle.program_model.specs.declared.pass.Outside.{Outside}
-use Rattle.class_defs.specs.Finding.{Finds}
 use Rattle.class_defs.specs.Starts.{is_initialiser, runs, running, initialiser_of, initialiser_place}
 use Rattle.flow_cfg.specs.Walks.{thrown_to}
 use Rattle.domains.specs.Values.{Parts, any_value}
 use Rattle.dom_frame.specs.Registers.{Registers, value_at, put_sized}
 use Rattle.dom_frame.specs.Steps.{receiver}
 use Rattle.facts.specs.declared.facts.Facts.{Facts}
-use Rattle.call_graph.specs.declared.facts.Fact.{Fact}
 use Rattle.call_graph.specs.declared.facts.Fact.TheVariants as fact
 use Rattle.call_graph.specs.declared.live_set.LiveSet.{LiveSet}
 use Rattle.call_graph.specs.Closed.{IsClosedSet}
 use Rattle.call_graph.specs.Facts.{Fits}
-use Rattle.call_targets.specs.declared.table.Link.{Link}
 use Rattle.call_targets.specs.declared.table.Targets.{Targets}
 use Rattle.call_targets.specs.Targeted as target
 use Rattle.call_targets.specs.Targeted.{IsTargeted, IsCoded, IsLink, is_on}
-use Rattle.closed_facts.specs.Tables.{IsBelow, AreBelow, Arrives, At, IsEntered, IsOpen, registers_at, parameter_at, result_at, field_at}
+use Rattle.closed_facts.specs.Tables.{IsBelow, Arrives, At, IsEntered, IsOpen, registers_at, parameter_at, result_at, field_at}
 use Rattle.closed_facts.specs.Found.{MayCall, Bound, Linked}
 use Rattle.closed_facts.specs.Edges.{edges}
 use Rattle.closed_facts.specs.Entries.{Starts, BeginsAt}
@@ -47,7 +43,7 @@ use Rattle.closed_facts.specs.Calls.{Calls}
 use Rattle.closed_facts.specs.Closed.{ReachesLive, AreClosed}
 use Rattle.vague_facts.specs.Vague.{anything, IsVague, IsWhole}
 use Rattle.vague_facts.proofs.Registers.{Short, below_any, short_anything, below_anything, any_there, sized_short}
-use Rattle.vague_facts.proofs.Bodies.{InsnRules, BodyRules, MethodRules, rules_at}
+use Rattle.vague_facts.proofs.Bodies.{InsnRules, BodyRules, rules_at}
 use Rattle.vague_facts.proofs.Going.{thrown_low, edge_good}
 
 -- ---- marks
@@ -86,11 +82,7 @@ ran ms (Some j) i e = by (runs (slice_get ms j)) refl e
     by false r k = none_some i k
 
 runs_code : (m : Method) → runs (Some m) ≡ true → is_some m.body ≡ true
-runs_code m e = by (is_static m.flags) e
-  where
-    by : (b : Bool) → (elim b as (λ b. Bool) [ true ↦ is_some m.body | false ↦ false ]) ≡ true → is_some m.body ≡ true
-    by true k = k
-    by false k = clash false k refl
+runs_code m e = and_right (is_static m.flags) (is_some m.body) e
 
 initialiser_coded : (p : Program) (c i : ℕ) (m : Method) → initialiser_place p c ≡ Some i → method_at p (record { class = c; place = i }) ≡ Some m → is_some m.body ≡ true
 initialiser_coded p c i m e f = by (slice_get p.classes c) e f

@@ -1,5 +1,5 @@
 -- Where instructions of a body go on: at positions of it, with registers that hold nothing past a count.
-use Rattle.std.proofs.Common.{◌≡◌, ℕ, zero, suc, ◌+◌, ◌<◌, ◌≤◌, Bool, true, false, List, [], ◌∷◌, ◌++◌, length, Option, Some, None, refl, sym, ap, ◌∙◌, subst, arith}
+use Rattle.std.proofs.Common.{◌≡◌, ℕ, zero, suc, ◌+◌, ◌<◌, ◌≤◌, Bool, true, false, List, [], ◌∷◌, ◌++◌, length, Option, Some, None, refl, subst, arith}
 use Rattle.std.specs.Prelude.{ℤ, take, ◌&&◌, nat_lt, nat_le, map, slice_get, option_to_list, Contains, if◌then◌else◌}
 use Rattle.std.specs.List.{list_all}
 use Rattle.std.specs.Option.{option_map}
@@ -10,7 +10,7 @@ use Rattle.insn_set.specs.declared.ops.InvokeKind.{InvokeKind}
 use Rattle.insn_set.specs.declared.ops.InvokeKind.TheVariants as call
 use Rattle.insn_set.specs.declared.form.Insn.{Insn}
 use Rattle.insn_set.specs.declared.form.Insn.TheVariants as insn
-use Rattle.insn_set.specs.Flow.{throws, goes_on, targets_of}
+use Rattle.insn_set.specs.Flow.{throws, goes_on}
 use Rattle.insn_set.specs.Widths.{is_wide_slot, is_wide_item, compares_wide, unary_reads_wide, unary_writes_wide, binary_is_wide, second_is_wide}
 use Rattle.program_model.specs.OperandRules.{has_room, are_registers, registers_fit}
 use Rattle.program_model.specs.Texts.{has_type}
@@ -26,8 +26,8 @@ use Rattle.value_ops.specs.Left.{goes_on as holds_on, held_value, any_object, of
 use Rattle.value_ops.specs.Numbers.{binary_value, literal_value, unary_value, compared_value}
 use Rattle.value_ops.specs.Tests.{tested_values, keyed_value, unkeyed_value, unpacked_value, key_at}
 use Rattle.dom_frame.specs.Classes.{cast_value}
-use Rattle.dom_frame.specs.Registers.{Registers, value_at, put, put_wide, put_sized, moved, refined, refined_both, then_put}
-use Rattle.dom_frame.specs.Steps.{truth, array_length, used, receiver, called, after, branched, switched, unswitched, at_key}
+use Rattle.dom_frame.specs.Registers.{Registers, value_at, put, put_wide, put_sized, moved, then_put}
+use Rattle.dom_frame.specs.Steps.{truth, array_length, used, receiver, called, branched, switched, unswitched, at_key}
 use Rattle.facts.specs.declared.facts.Facts.{Facts}
 use Rattle.closed_facts.specs.Edges.{given, arm, cases_from, both_ways, edges}
 use Rattle.vague_facts.proofs.Registers.{Short, ShortIf, put_short, refined_short, both_short, some_put, low, sized_short, then_short, some_sized, moved_short}
@@ -83,11 +83,11 @@ module _ (p : Program) (is : List Insn) where
 
   found_low : (rs : List Region) (n : ℕ) → list_all (region_fits p is) rs ≡ true → EachLow (handlers_at rs n)
   found_low [] n h = tt
-  found_low (r ∷ rs) n h = by (covers n r)
+  found_low (r ∷ rs) n h = by (region_low r (and_left (region_fits p is r) (list_all (region_fits p is) rs) h)) (found_low rs n (and_right (region_fits p is r) (list_all (region_fits p is) rs) h)) (covers n r)
     where
-      by : (b : Bool) → EachLow (if b then handlers_in r else handlers_at rs n)
-      by true = region_low r (and_left (region_fits p is r) (list_all (region_fits p is) rs) h)
-      by false = found_low rs n (and_right (region_fits p is r) (list_all (region_fits p is) rs) h)
+      by : EachLow (handlers_in r) → EachLow (handlers_at rs n) → (b : Bool) → EachLow (if b then handlers_in r else handlers_at rs n)
+      by own others true = own
+      by own others false = others
 
   pub thrown_low : (rs : List Region) (n : ℕ) (i : Insn) (q : ℕ) → list_all (region_fits p is) rs ≡ true → Contains (thrown_to rs n i) q → q < length is
   thrown_low rs n i q h c = one_low (thrown_to rs n i) q (by (throws i)) c

@@ -1,9 +1,8 @@
 -- Registers that hold nothing past a count.
-use Rattle.std.proofs.Common.{◌≡◌, ℕ, zero, suc, ◌+◌, ◌<◌, ◌≤◌, Bool, true, false, List, [], ◌∷◌, Option, Some, None, inl, inr, refl, sym, ◌∙◌, subst, arith, eqb-true, eqb-false, ltb-true}
+use Rattle.std.proofs.Common.{◌≡◌, ℕ, zero, suc, ◌+◌, ◌<◌, ◌≤◌, Bool, true, false, Option, Some, None, inl, inr, refl, sym, ◌∙◌, subst, arith, eqb-true, ltb-true}
 use Rattle.std.specs.Prelude.{if◌then◌else◌, ◌==◌, nat_lt}
-use Rattle.std.specs.FinMap as finite
 use Rattle.std.specs.Option.{option_map}
-use Rattle.std.proofs.lemmas.Bool.{cases_lt}
+use Rattle.std.proofs.lemmas.Bool.{cases_lt, eqb-false}
 use Rattle.std.proofs.lemmas.Int.{ints}
 use Rattle.insn_set.specs.declared.ops.Slot.{Slot}
 use Rattle.insn_set.specs.declared.ops.Slot.TheVariants as slot
@@ -12,7 +11,7 @@ use Rattle.program_model.specs.OperandRules.{has_room}
 use Rattle.domains.specs.Datum.{Datum, Plain, Single, Double, Object}
 use Rattle.domains.specs.Values.{Parts, value_holds, any_value, least_value}
 use Rattle.domains.specs.ValueLaws.{of_nothing_at_all}
-use Rattle.dom_frame.specs.Registers.{Registers, value_at, filled, put, put_wide, put_sized, moved, refined, refined_both, then_put}
+use Rattle.dom_frame.specs.Registers.{Registers, value_at, filled, put, put_sized, moved, refined, refined_both, then_put}
 use Rattle.dom_frame.proofs.Reading.{value_put, value_none}
 use Rattle.closed_facts.specs.Tables.{IsBelow, AreBelow}
 use Rattle.vague_facts.specs.Vague.{anything}
@@ -29,22 +28,22 @@ below_any x d h = any_holds d
 
 pub filled_low : (n : ℕ) (v : Parts) (r : ℕ) → r < n → value_at (filled n v) r ≡ v
 filled_low zero v r lt = absurd (omega (arith, lt))
-filled_low (suc n) v r lt = value_put n v (filled n v) r ∙ by (r == n) refl
+filled_low (suc n) v r lt = value_put n v (filled n v) r ∙ by (filled_low n v r) (r == n) refl
   where
-    by : (b : Bool) → (r == n) ≡ b → (if b then v else value_at (filled n v) r) ≡ v
-    by true e = refl
-    by false e = elim (cases_lt r n) [
-      | inl below ↦ filled_low n v r below
+    by : (r < n → value_at (filled n v) r ≡ v) → (b : Bool) → (r == n) ≡ b → (if b then v else value_at (filled n v) r) ≡ v
+    by lower true e = refl
+    by lower false e = elim (cases_lt r n) [
+      | inl below ↦ lower below
       | inr above ↦ absurd (eqb-false r n e (omega (arith, lt, above)))
     ]
 
 pub filled_high : (n : ℕ) (v : Parts) (r : ℕ) → n ≤ r → value_at (filled n v) r ≡ least_value
 filled_high zero v r le = value_none r
-filled_high (suc n) v r le = value_put n v (filled n v) r ∙ by (r == n) refl
+filled_high (suc n) v r le = value_put n v (filled n v) r ∙ by (filled_high n v r (omega (arith, le))) (r == n) refl
   where
-    by : (b : Bool) → (r == n) ≡ b → (if b then v else value_at (filled n v) r) ≡ least_value
-    by true e = absurd (let s : r ≡ n = eqb-true r n e in omega (arith, s, le))
-    by false e = filled_high n v r (omega (arith, le))
+    by : value_at (filled n v) r ≡ least_value → (b : Bool) → (r == n) ≡ b → (if b then v else value_at (filled n v) r) ≡ least_value
+    by lower true e = absurd (let s : r ≡ n = eqb-true r n e in omega (arith, s, le))
+    by lower false e = lower
 
 -- ---- nothing past a count
 

@@ -63,9 +63,9 @@ pub record AreAdmitted (voices : List Voice) (given : List Bool) (program : Prog
 -- reply so were asked which methods may be rewritten: these are admitted. Facts that are certified of what is left leave nothing to write
 -- in their bodies (`NoneLeft` of const_prop), where the superclass of no interface is a class of the program that is none, no call to name
 -- another method (`NoneLeft` of devirt), no method that
--- could be static (`NoneLeft` of staticise), and no call and no division that does nothing (`NoneIdle` of quiet_code), or there are no such
--- facts, or none were asked for, since no method is admitted or a kept constructor is none of its class (`KeepsForms` of pipeline). In
--- their bodies, whose positions and regions 32 bits number, every position is reached, is no goto to the next one and no nop, but where the
+-- could be static (`NoneLeft` of staticise), and no call and no division that does nothing (`NoneIdle` of quiet_code), or none were
+-- asked for, since no method is admitted, a kept constructor is none of its class or a list of interfaces names another class
+-- (`KeepsForms` of pipeline). In their bodies, whose positions and regions 32 bits number, every position is reached, is no goto to the next one and no nop, but where the
 -- branch behind it goes to it, and none computes what nobody reads; and unless the program names a method of a wide type, no read of a copy
 -- could be one of the original (`IsStale` of pass_defs; 16 bits number the body's registers), and no register could have a lower number
 -- (`IsPacked`). Unless the rules forbid removal, every class, method and field that is left follows from what the outside keeps, by what is

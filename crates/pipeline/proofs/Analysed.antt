@@ -1,29 +1,20 @@
 -- What was found of the runs of a program.
 use Rattle.std.proofs.Common.{◌≡◌, Bool, true, List, Option, Some, None, subst}
 use Rattle.std.specs.Prelude.{IfSome, MatchOption}
-use Rattle.std.specs.List.{list_any}
 use Rattle.program_model.specs.declared.pass.Outside.{Outside}
 use Rattle.program_model.specs.declared.program.Program.{Program}
 use Rattle.program_model.specs.ProgramRules.{is_well_formed}
 use Rattle.facts.specs.declared.facts.Facts.{Facts}
-use Rattle.premises.specs.Makers.{MakersAreOwn}
-use Rattle.premises.specs.Plain.{lists_plainly}
-use Rattle.pipeline.specs.Passes.{AreKnown, KeepsForms, Uncertified, IsAnalysis}
+use Rattle.pipeline.specs.Passes.{AreKnown, KeepsForms, IsAnalysis}
 
 module _ (o : Outside) (admitted : List Bool) (p : Program) where
-  -- facts are known, or none are certified though they were asked for
-  found : (facts : Option Facts) → KeepsForms o admitted p → IfSome facts (AreKnown o p) → MatchOption facts (KeepsForms o admitted p) (AreKnown o p)
-  found (Some f) none known = known
-  found None none known = none
+  -- facts are known where they were asked for
+  found : (facts : Option Facts) → MatchOption facts ⊥ (AreKnown o p) → MatchOption facts (KeepsForms o admitted p) (AreKnown o p)
+  found (Some f) known = known
+  found None known = absurd known
 
-  pub analysed : (facts : Option Facts) → IfSome facts (λ f. is_well_formed p ≡ true) → list_any (λ yes. yes) admitted ≡ true → (is_well_formed p ≡ true → MakersAreOwn p o)
-      → (is_well_formed p ≡ true → lists_plainly p ≡ true) → (is_well_formed p ≡ true → IfSome facts (AreKnown o p)) → IsAnalysis o admitted p facts
-  analysed facts tested some own plain known = record { formed = tested; says = λ formed. found facts (Uncertified some (own formed) (plain formed)) (known formed) }
-
-  -- the program was tested before facts were asked for
-  pub tested : (facts : Option Facts) → is_well_formed p ≡ true → IfSome facts (λ f. is_well_formed p ≡ true)
-  tested (Some f) e = e
-  tested None e = tt
+  pub analysed : (facts : Option Facts) → IfSome facts (λ f. is_well_formed p ≡ true) → (is_well_formed p ≡ true → MatchOption facts ⊥ (AreKnown o p)) → IsAnalysis o admitted p facts
+  analysed facts tested known = record { formed = tested; says = λ formed. found facts (known formed) }
 
   -- none were asked for, for this reason
   pub none : (is_well_formed p ≡ true → KeepsForms o admitted p) → IsAnalysis o admitted p None

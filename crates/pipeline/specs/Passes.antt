@@ -116,14 +116,13 @@ pub record Folds (o : Outside) (admitted : List Bool) (p q : Program) : Type 0 w
   pub bits : AllHaveWords changed.program
   pub none_left : q ≡ p → NoneLeft p hierarchy facts admitted
 
--- Why nothing is written: no method is admitted, the class graph has a fault, a kept constructor is none of its class, a list of
--- interfaces names another class, or none of these, and the analysis that was asked certified no facts.
+-- Why nothing is written: no method is admitted, the class graph has a fault, a kept constructor is none of its class, or a list
+-- of interfaces names another class.
 pub data KeepsForms (o : Outside) (admitted : List Bool) (p : Program) : Type 0 where
   NoneAdmitted : list_any (λ yes. yes) admitted ≡ false → KeepsForms o admitted p
   Ungraphed : HasGraphFault p → KeepsForms o admitted p
   NotOwn : (MakersAreOwn p o → ⊥) → KeepsForms o admitted p
   NotPlain : lists_plainly p ≡ false → KeepsForms o admitted p
-  Uncertified : list_any (λ yes. yes) admitted ≡ true → MakersAreOwn p o → lists_plainly p ≡ true → KeepsForms o admitted p
 
 -- What was found of the runs of a program: facts that are known, or why there are none where it is well-formed. It was tested to be
 -- so before facts were asked for.

@@ -1,6 +1,6 @@
 //! The passes of a round, each over a whole program.
 
-ghost use Rattle.std.specs.Prelude.{◌≡◌, ◌∷◌, [], Bool, true, false, List, Some, IfOk, IfSome, OnOk};
+ghost use Rattle.std.specs.Prelude.{◌≡◌, ◌∷◌, [], Bool, true, false, List, Some, IfOk, IfSome, MatchOption, OnOk};
 ghost use Rattle.std.specs.List.{list_any};
 ghost use Rattle.program_model.specs.ProgramRules.{is_well_formed};
 ghost use Rattle.hierarchy.specs.Shapes.{IsResolved};
@@ -116,8 +116,8 @@ fn is_any_admitted(admitted: &Admitted) -> bool
     admitted.methods.as_slice().iter().any(|yes| *yes)
 }
 
-/// Facts that hold in every run of a program whose kept constructors are those of their classes, and whose lists of
-/// interfaces name interfaces alone; none where that is not known of any, or the program isn't well-formed. The only error is want of memory.
+/// Facts that hold in every run of a well-formed program whose kept constructors are those of their classes, and whose lists
+/// of interfaces name interfaces alone; none where it isn't well-formed. The only error is want of memory.
 fn known_facts(
     alloc: Global,
     program: &Program,
@@ -126,17 +126,15 @@ fn known_facts(
 ) -> Result<Option<Facts>, AllocError>
     ensures formed { IfOk result (λ facts. IfSome facts (λ f. is_well_formed program.now ≡ true)) }
     ensures known { MakersAreOwn program.now outside.now → ListsPlainly program.now → is_well_formed program.now ≡ true → IsResolved program.now hierarchy.now
-        → IfOk result (λ facts. IfSome facts (AreKnown outside.now program.now)) }
+        → IfOk result (λ facts. MatchOption facts ⊥ (AreKnown outside.now program.now)) }
 {
     let formed = well_formed(program);
     if !formed {
         return Ok(None);
     }
-    if !numbers_have_bits(program) {
-        return Ok(None);
-    }
+    let _bits = numbers_have_bits(program);
     let facts = summaries::analyse(alloc, program, hierarchy, outside)?;
-    Ok(facts)
+    Ok(Some(facts))
 }
 
 /// The same of a program with this hierarchy. They are asked for only where some method may be rewritten, each kept
@@ -166,7 +164,7 @@ pub fn facts_by(
 }
 
 /// Facts that hold in every run of a program, none where the class graph has a fault, no method may be rewritten, a kept
-/// constructor is none of its class, a list of interfaces names another class, or nothing is known. The only error is want of memory.
+/// constructor is none of its class, or a list of interfaces names another class. The only error is want of memory.
 pub fn facts_of(
     alloc: Global,
     program: &Program,

@@ -19,6 +19,8 @@ use Rattle.facts_check.specs.declared.known.Known.{Known}
 use Rattle.facts_check.specs.Known.{AreKnown}
 use Rattle.facts_check.specs.Tables.{AreFilled, Holds}
 use Rattle.facts_check.proofs.Closing.{are_closed}
+use Rattle.vague_facts.specs.Vague.{IsVague, IsWhole}
+use Rattle.vague_facts.proofs.Closing.{whole_closed, vague_closed}
 use Rattle.summaries.specs.Certified.{IsCertified}
 
 pub certify : (p : Program) (o : Outside) (live : LiveSet) (targets : Targets) (t : Facts) → Fits p live → IsClosedSet p o live → IsTargeted p o live targets → AreClosed p o live targets t → IsCertified p o t
@@ -38,3 +40,7 @@ closed_by k o frames t filled holds some formed resolved classes any e =
     let f : AreFilled k frames.items = subst (λ (o : Option (Vec (List (Option Frame)) Global)). IfSome o (λ f. AreFilled k f.items)) some (filled known) in
     let h : Holds k frames.items = subst (λ (o : Option (Vec (List (Option Frame)) Global)). IfSome o (λ f. Holds k f.items)) some (holds known) in
     subst (AreClosed k.program.now k.outside.now k.live.now k.targets.now) (sym e) (are_closed k frames k.facts.now.quiet known f h)
+
+-- facts that say nothing, under marks by which all is live
+pub certify_vague : (p : Program) (o : Outside) (some live : LiveSet) (targets : Targets) (t : Facts) → is_well_formed p ≡ true → IsClosedSet p o some → Fits p live → IsWhole live → IsTargeted p o live targets → IsVague p t → IsCertified p o t
+certify_vague p o some live targets t formed c f w h v = certify p o live targets t f (whole_closed p o some live c w) h (vague_closed p o live targets t formed f w h v)

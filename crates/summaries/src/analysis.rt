@@ -16,6 +16,7 @@ use crate::rows::{NONE, Rows, rows_of};
 use crate::sites::{Sites, make_sites};
 use crate::spread::{Ground, Spread};
 use crate::tables::{Pieces, pieces_of};
+use crate::unknown::unknown_facts;
 use call_graph::{LiveSet, live_members};
 use call_targets::{Link, Targets, targets};
 use class_places::{classes_of, places_of};
@@ -233,11 +234,8 @@ fn facts_by(
     Ok(facts)
 }
 
-/// What is known of every run of a program that the framework begins as the table of the outside allows, by the hierarchy of
-/// the program's classes: of each position that a run may come to, and of parameters, results and fields. No method is said
-/// to be quiet. What is answered has been checked to be closed; where it weren't, nothing is answered. The only error is want of
-/// memory.
-pub fn analyse(
+/// What a search finds of the runs of a program, if it is closed.
+fn found_facts(
     alloc: Global,
     program: &Program,
     hierarchy: &Hierarchy,
@@ -248,4 +246,23 @@ pub fn analyse(
     let places = places_of(alloc, hierarchy, program.types.len())?;
     let classes = classes_of(program, hierarchy, &places);
     facts_by(alloc, program, classes, outside)
+}
+
+/// What is known of every run of a program that the framework begins as the table of the outside allows, by the hierarchy of
+/// the program's classes: of each position that a run may come to, and of parameters, results and fields. No method is said
+/// to be quiet. What a search finds is answered, which has been checked to be closed; where it weren't, facts are answered that
+/// say nothing. The only error is want of memory.
+pub fn analyse(
+    alloc: Global,
+    program: &Program,
+    hierarchy: &Hierarchy,
+    outside: &Outside,
+) -> Result<Facts, AllocError>
+    ensures { is_well_formed program.now ≡ true → IsResolved program.now hierarchy.now → IfOk result (IsCertified program.now outside.now) }
+{
+    let found = found_facts(alloc, program, hierarchy, outside)?;
+    match found {
+        Some(facts) => Ok(facts),
+        None => unknown_facts(alloc, program, hierarchy, outside),
+    }
 }

@@ -12,10 +12,11 @@
 //! Values rise by joins, and are widened after so many of them, or where registers come from further on: so the search ends
 //! soon. The check fills in the frames between nodes, which share all that they have in common.
 //!
-//! Proved is that facts which are answered are closed, as `closed_facts` says (`specs/Certified.antt`). They are checked for
-//! it (`facts_check`), and where they weren't closed, nothing would be answered. So a fault in the search costs facts, and
-//! never makes a wrong one. What this stands on, that the program is well-formed and the hierarchy its own, is a premise of
-//! the contract. No clause says that the check passes. Which methods do nothing that anyone could see is not asked here: the
+//! Proved is that the facts which are answered are closed, as `closed_facts` says (`specs/Certified.antt`). What the search
+//! found is checked for it (`facts_check`), and where it weren't closed, facts would be answered that say nothing
+//! (`unknown.rt`, `vague_facts`). So a fault in the search costs facts, and never makes a wrong one. What this stands on, that
+//! the program is well-formed and the hierarchy its own, is a premise of the contract. No clause says that the check passes, or
+//! how much the search finds. Which methods do nothing that anyone could see is not asked here: the
 //! table of quiet methods stays empty, by which none is known to be quiet (`quiet_code` asks `quiet_methods`).
 #![tactic(auto)]
 
@@ -32,6 +33,7 @@ mod spread;
 mod starts;
 mod strides;
 mod tables;
+mod unknown;
 mod waits;
 mod walks;
 

@@ -15,8 +15,7 @@ pub returns-then-not-plain : goal.returns-then-not-plain
 returns-then-not-plain c = λ graph. none c.args.outside.now c.args.admitted.now.methods.items c.args.program.now (λ formed. NotPlain (sym (c.lists_plainly-plain.ensures.is (graph formed).resolved.of) ∙ c.if-not-plain.true))
 
 pub returns : goal.returns
-returns c = λ graph. analysed c.args.outside.now c.args.admitted.now.methods.items c.args.program.now c.in_ok-facts.facts c.in_ok-facts.ensures.formed (sym c.is_any_admitted.ensures ∙ c.if-not-is_any_admitted.false)
-    (λ formed. c.makers_are_own-own.ensures.sound (graph formed).resolved.of c.if-not-own.false) (λ formed. sym (c.lists_plainly-plain.ensures.is (graph formed).resolved.of) ∙ c.if-not-plain.false) (λ formed.
+returns c = λ graph. analysed c.args.outside.now c.args.admitted.now.methods.items c.args.program.now c.in_ok-facts.facts c.in_ok-facts.ensures.formed (λ formed.
     let own : MakersAreOwn c.args.program.now c.args.outside.now = c.makers_are_own-own.ensures.sound (graph formed).resolved.of c.if-not-own.false in
     let plain : ListsPlainly c.args.program.now = c.lists_plainly-plain.ensures.sound (graph formed).resolved.of c.if-not-plain.false in
     c.in_ok-facts.ensures.known own plain formed (graph formed).resolved)

@@ -1,0 +1,2 @@
+pub mod Vague
+pub mod Counting

@@ -1,6 +1,9 @@
 -- A run of good inputs is done.
 use Rattle.std.proofs.Common.{◌≡◌, ◌≤◌, ◌<◌, ◌⊎◌, inl, inr, ℕ, true, List, [], ◌∷◌, length, Option, Some, refl, sym, subst, ◌∙◌, arith}
 use Rattle.lemmas.proofs.Options.{some_same}
+use Rattle.command_line.proofs.SpellsLemmas.{spells-again}
+use Rattle.command_line.specs.Spelling.{Spells}
+use Rattle.command_line.specs.declared.command.CommandWords.{CommandWords}
 use Rattle.program_model.specs.Limits.{limit_of}
 use Rattle.program_model.specs.declared.limits.Counted.{Counted}
 use Rattle.program_model.specs.declared.limits.LimitFault.{LimitFault}
@@ -131,14 +134,18 @@ module _ (held : Held) where
   limit_past names all fault (inl h) = absurd (none_too_long names (all_of names all) fault.counted (h.first refl))
   limit_past names all fault (inr h) = file_past names all fault (h.file refl)
 
+-- the words spell one command
+its_fetches : (words : List (List ℕ)) (held : Held) (good : AreGood words held) (command : CommandWords) → Spells words command → GoodFetches held (fetches command)
+its_fetches words held good command spelled = subst (λ (c : CommandWords). GoodFetches held (fetches c)) (some_same good.command command (sym (spells-again words good.command good.spelled) ∙ spells-again words command spelled)) good.good
+
 pub completes : (words : List (List ℕ)) (held : Held) (fetches_old fetches_new puts_old puts_new : Failures) (notes_old notes_new : ℕ) (status : Status)
     → AreGood words held → Caused words true held fetches_old fetches_new puts_old puts_new notes_old notes_new status → EndsGood words held fetches_old fetches_new puts_old puts_new notes_old notes_new status
 completes words held fo fn po pn no nn Done good h = tt
 completes words held fo fn po pn no nn Usage good h = h good.command good.spelled
-completes words held fo fn po pn no nn (BadRules fault) good h = let cause = h.cause in rules_cause held (fetches h.command) (good.good h.command h.spelled) fault cause.carried (cause.ruling refl)
-completes words held fo fn po pn no nn (BadDex fault) good h = let cause = h.cause in file_cause held (fetches h.command) (good.good h.command h.spelled) fault cause.carried (cause.file refl)
-completes words held fo fn po pn no nn (Limit fault) good h = record { command = h.command; spelled = h.spelled; one = limit_past held (fetches h.command) (good.good h.command h.spelled) fault h.cause }
+completes words held fo fn po pn no nn (BadRules fault) good h = let cause = h.cause in rules_cause held (fetches h.command) (its_fetches words held good h.command h.spelled) fault cause.carried (cause.ruling refl)
+completes words held fo fn po pn no nn (BadDex fault) good h = let cause = h.cause in file_cause held (fetches h.command) (its_fetches words held good h.command h.spelled) fault cause.carried (cause.file refl)
+completes words held fo fn po pn no nn (Limit fault) good h = record { command = h.command; spelled = h.spelled; one = limit_past held (fetches h.command) (its_fetches words held good h.command h.spelled) fault h.cause }
 completes words held fo fn po pn no nn ReadFault good h = h
 completes words held fo fn po pn no nn WriteFault good h = h
 completes words held fo fn po pn no nn NoMemory good h = tt
-completes words held fo fn po pn no nn (BadScript line) good h = none_bad_line held (fetches h.command) (all_of held (fetches h.command) (good.good h.command h.spelled)) line (h.bad refl)
+completes words held fo fn po pn no nn (BadScript line) good h = none_bad_line held (fetches h.command) (all_of held (fetches h.command) (its_fetches words held good h.command h.spelled)) line (h.bad refl)

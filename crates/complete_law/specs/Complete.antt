@@ -74,7 +74,7 @@ GoodFetches held (fetch ∷ later) = AllGood held (fetch ∷ later)
 pub record AreGood (words : List (List ℕ)) (held : Held) : Type 0 where
   pub command : CommandWords
   pub spelled : SpellsCommand words command
-  pub good : (other : CommandWords) → SpellsCommand words other → GoodFetches held (fetches other)
+  pub good : GoodFetches held (fetches command)
 
 -- ---- how a run ends
 

@@ -157,11 +157,11 @@ is_found bytes lists offset c h =
 
 pub any_got : {X : Type 0} (p : X → Bool) (xs : List X) → list_any p xs ≡ true → (k : ℕ) × (x : X) × (slice_get xs k ≡ Some x) × (p x ≡ true)
 any_got p [] h = absurd cc
-any_got p (x ∷ xs) h = by_first (or_cases (p x) (list_any p xs) h)
+any_got {X = X} p (x ∷ xs) h = by_first (or_cases (p x) (list_any p xs) h) (any_got p xs)
   where
-    by_first : (p x ≡ true) ⊎ (list_any p xs ≡ true) → (k : ℕ) × (y : X) × (slice_get (x ∷ xs) k ≡ Some y) × (p y ≡ true)
-    by_first (inl e) = (0, x, refl, e)
-    by_first (inr e) = let r = any_got p xs e in (suc r.0, r.1, r.2, r.3)
+    by_first : (p x ≡ true) ⊎ (list_any p xs ≡ true) → (list_any p xs ≡ true → (k : ℕ) × (y : X) × (slice_get xs k ≡ Some y) × (p y ≡ true)) → (k : ℕ) × (y : X) × (slice_get (x ∷ xs) k ≡ Some y) × (p y ≡ true)
+    by_first (inl e) rest = (0, x, refl, e)
+    by_first (inr e) rest = let r = rest e in (suc r.0, r.1, r.2, r.3)
 
 none_position : (starts : List ℕ) (unit : ℕ) → position_of starts unit ≡ None → list_any (λ u. eqb u unit) starts ≡ false
 none_position starts unit none = untrue (list_any (λ u. eqb u unit) starts) (λ any.
@@ -198,14 +198,23 @@ module _ (bytes : List ℕ) (places : Places) (types : ℕ) where
   abbrev paired : ℕ × ℕ → ℕ → Option ℕ → Option (Handler × ℕ)
   paired x stop o = o >?= λ position. cond (ltb x.0 types) (Some (handler x.0 position, stop)) None
 
+  abbrev address_by : Option (ℕ × ℕ) → Option (ℕ × ℕ)
+  address_by o = o >?= λ read. position_of starts read.0 >?= λ position. Some (position, read.1)
+
+  abbrev handler_by : ℕ → Option (ℕ × ℕ) → Option (Handler × ℕ)
+  handler_by kind o = o >?= λ address. cond (ltb kind types) (Some (handler kind address.0, address.1)) None
+
+  abbrev located : ℕ → Option ℕ → Option (ℕ × ℕ)
+  located stop o = o >?= λ position. Some (position, stop)
+
   handler_is : (at : ℕ) (x : ℕ × ℕ) (stop : ℕ) → IsPair bytes at (x, stop) → handler_at bytes starts types at ≡ paired x stop (position_of starts x.1)
   unfolding handler_at address_at
   handler_is at x stop p =
-      ap (λ (o : Option (ℕ × ℕ)). o >?= λ read. address_at bytes starts read.1 >?= λ address. cond (ltb read.0 types) (Some (handler read.0 address.0, address.1)) None) (number_is bytes at x.0 p.mid p.kind)
-      ∙ ap (λ (o : Option (ℕ × ℕ)). (o >?= λ read. position_of starts read.0 >?= λ position. Some (position, read.1)) >?= λ address. cond (ltb x.0 types) (Some (handler x.0 address.0, address.1)) None) (number_is bytes p.mid x.1 stop p.unit)
+      ap (λ (o : Option (ℕ × ℕ)). o >?= λ read. handler_by read.0 (address_at bytes starts read.1)) (number_is bytes at x.0 p.mid p.kind)
+      ∙ ap (λ (o : Option (ℕ × ℕ)). handler_by x.0 (address_by o)) (number_is bytes p.mid x.1 stop p.unit)
       ∙ by_position (position_of starts x.1)
     where
-      by_position : (o : Option ℕ) → ((o >?= λ position. Some (position, stop)) >?= λ (address : ℕ × ℕ). cond (ltb x.0 types) (Some (handler x.0 address.0, address.1)) None) ≡ paired x stop o
+      by_position : (o : Option ℕ) → handler_by x.0 (located stop o) ≡ paired x stop o
       by_position None = refl
       by_position (Some k) = refl
 
@@ -224,29 +233,30 @@ module _ (bytes : List ℕ) (places : Places) (types : ℕ) where
   handlers_wrong [] zero at mid many h none = absurd cc
   handlers_wrong [] (suc n) at mid many h none = absurd cc
   handlers_wrong (x ∷ xs) zero at mid many h none = absurd cc
-  handlers_wrong (x ∷ xs) (suc n) at mid many h none = by_first (handler_at bytes starts types at) refl none
+  handlers_wrong (x ∷ xs) (suc n) at mid many h none = by_first (handler_at bytes starts types at) refl none (handlers_wrong xs n h.0 mid (omega (arith, many)) h.2)
     where
-      by_first : (o : Option (Handler × ℕ)) → handler_at bytes starts types at ≡ o → (o >?= λ r. more n r) ≡ None → WrongPair places types (x ∷ xs)
-      by_first None e g = (0, x.0, x.1, refl, pair_wrong x h.0 (position_of starts x.1) refl (sym (handler_is at x h.0 h.1) ∙ e))
-      by_first (Some r) e g =
+      by_first : (o : Option (Handler × ℕ)) → handler_at bytes starts types at ≡ o → (o >?= λ r. more n r) ≡ None → (handlers_at bytes starts types n h.0 ≡ None → WrongPair places types xs) → WrongPair places types (x ∷ xs)
+      by_first None e g later = (0, x.0, x.1, refl, pair_wrong x h.0 (position_of starts x.1) refl (sym (handler_is at x h.0 h.1) ∙ e))
+      by_first (Some r) e g later =
           let behind : r.1 ≡ h.0 = pair_right x h.0 (position_of starts x.1) r (sym (handler_is at x h.0 h.1) ∙ e) in
-          let rest = handlers_wrong xs n h.0 mid (omega (arith, many)) h.2 (subst (λ (a : ℕ). handlers_at bytes starts types n a ≡ None) behind (then_none (handlers_at bytes starts types n r.1) (λ hs. (r.0 ∷ hs.0, hs.1)) g)) in
+          let rest = later (subst (λ (a : ℕ). handlers_at bytes starts types n a ≡ None) behind (then_none {Y = List Handler × ℕ} (handlers_at bytes starts types n r.1) (λ hs. (r.0 ∷ hs.0, hs.1)) g)) in
           (suc rest.0, rest.1, rest.2, rest.3, rest.4)
 
   handlers_right : (pairs : List (ℕ × ℕ)) (n at mid : ℕ) (hs : List Handler × ℕ) → length pairs ≡ n → ChainOf (IsPair bytes) at pairs mid → handlers_at bytes starts types n at ≡ Some hs → hs.1 ≡ mid
   handlers_right [] zero at mid hs many h got = ap (λ (y : List Handler × ℕ). y.1) (sym (some_same ([], at) hs got)) ∙ sym h
   handlers_right [] (suc n) at mid hs many h got = absurd cc
   handlers_right (x ∷ xs) zero at mid hs many h got = absurd cc
-  handlers_right (x ∷ xs) (suc n) at mid hs many h got = by_first (handler_at bytes starts types at) refl got
+  handlers_right (x ∷ xs) (suc n) at mid hs many h got = by_first (handler_at bytes starts types at) refl got (λ gs. handlers_right xs n h.0 mid gs (omega (arith, many)) h.2)
     where
-      by_rest : (r : Handler × ℕ) → r.1 ≡ h.0 → (o : Option (List Handler × ℕ)) → handlers_at bytes starts types n r.1 ≡ o → (o >?= λ gs. Some (r.0 ∷ gs.0, gs.1)) ≡ Some hs → hs.1 ≡ mid
-      by_rest r behind None e g = absurd cc
-      by_rest r behind (Some gs) e g = ap (λ (y : List Handler × ℕ). y.1) (sym (some_same (r.0 ∷ gs.0, gs.1) hs g))
-          ∙ handlers_right xs n h.0 mid gs (omega (arith, many)) h.2 (subst (λ (a : ℕ). handlers_at bytes starts types n a ≡ Some gs) behind e)
+      by_rest : ((gs : List Handler × ℕ) → handlers_at bytes starts types n h.0 ≡ Some gs → gs.1 ≡ mid)
+          → (r : Handler × ℕ) → r.1 ≡ h.0 → (o : Option (List Handler × ℕ)) → handlers_at bytes starts types n r.1 ≡ o → (o >?= λ gs. Some (r.0 ∷ gs.0, gs.1)) ≡ Some hs → hs.1 ≡ mid
+      by_rest later r behind None e g = absurd cc
+      by_rest later r behind (Some gs) e g = ap (λ (y : List Handler × ℕ). y.1) (sym (some_same (r.0 ∷ gs.0, gs.1) hs g))
+          ∙ later gs (subst (λ (a : ℕ). handlers_at bytes starts types n a ≡ Some gs) behind e)
 
-      by_first : (o : Option (Handler × ℕ)) → handler_at bytes starts types at ≡ o → (o >?= λ r. more n r) ≡ Some hs → hs.1 ≡ mid
-      by_first None e g = absurd cc
-      by_first (Some r) e g = by_rest r (pair_right x h.0 (position_of starts x.1) r (sym (handler_is at x h.0 h.1) ∙ e)) (handlers_at bytes starts types n r.1) refl g
+      by_first : (o : Option (Handler × ℕ)) → handler_at bytes starts types at ≡ o → (o >?= λ r. more n r) ≡ Some hs → ((gs : List Handler × ℕ) → handlers_at bytes starts types n h.0 ≡ Some gs → gs.1 ≡ mid) → hs.1 ≡ mid
+      by_first None e g later = absurd cc
+      by_first (Some r) e g later = by_rest later r (pair_right x h.0 (position_of starts x.1) r (sym (handler_is at x h.0 h.1) ∙ e)) (handlers_at bytes starts types n r.1) refl g
 
   abbrev WrongRest : Option ℕ → Type 0
   WrongRest rest = (unit : ℕ) × (rest ≡ Some unit) × NoPosition places unit
@@ -255,8 +265,8 @@ module _ (bytes : List ℕ) (places : Places) (types : ℕ) where
   unfolding address_at
   last_wrong at unit stop h none =
       let address : address_at bytes starts at ≡ None = then_none (address_at bytes starts at) (λ (address : ℕ × ℕ). Some address.0) none in
-      let named : (position_of starts unit >?= λ position. Some (position, stop)) ≡ None = sym (ap (λ (o : Option (ℕ × ℕ)). o >?= λ read. position_of starts read.0 >?= λ position. Some (position, read.1)) (number_is bytes at unit stop h)) ∙ address in
-      none_position starts unit (then_none (position_of starts unit) (λ position. (position, stop)) named)
+      let named : located stop (position_of starts unit) ≡ None = sym (ap (λ (o : Option (ℕ × ℕ)). address_by o) (number_is bytes at unit stop h)) ∙ address in
+      none_position starts unit (then_none {Y = ℕ × ℕ} (position_of starts unit) (λ position. (position, stop)) named)
 
   rest_wrong : (size : ℤ) (at : ℕ) (rest : Option ℕ) (stop : ℕ) → IsRestAt bytes size at rest stop → rest_at bytes starts (has_rest size) at ≡ None → WrongRest rest
   rest_wrong (pos (suc n)) at rest stop h none = absurd (some_none (sym (ap (λ (b : Bool). rest_at bytes starts b at) (positive n)) ∙ none))
@@ -273,17 +283,23 @@ module _ (bytes : List ℕ) (places : Places) (types : ℕ) where
       by_kind (inl e) = bad.Kind w.0 w.1 w.2 w.3 e
       by_kind (inr e) = bad.Unit w.0 w.1 w.2 w.3 e
 
+  abbrev caught_by : List Handler × ℕ → Option (Option ℕ) → Option (List Handler × Option ℕ)
+  caught_by hs o = o >?= λ rest. Some (hs.0, rest)
+
+  abbrev handlers_by : ℤ → Option (List Handler × ℕ) → Option (List Handler × Option ℕ)
+  handlers_by size o = o >?= λ hs. caught_by hs (rest_at bytes starts (has_rest size) hs.1)
+
   pub caught_wrong : (at : ℕ) (c : Catches) (stop : ℕ) → AreCatches bytes at (c, stop) → caught_at bytes starts types at ≡ None → BadCatches places types c
   unfolding caught_at
   caught_wrong at c stop h none = by_handlers (handlers_at bytes starts types (unsigned_abs h.size) h.begin) refl
-      (sym (ap (λ (o : Option (ℤ × ℕ)). o >?= λ size. handlers_at bytes starts types (unsigned_abs size.0) size.1 >?= λ hs. rest_at bytes starts (has_rest size.0) hs.1 >?= λ rest. Some (hs.0, rest)) (size_is bytes at h.size h.begin h.is_size)) ∙ none)
+      (sym (ap (λ (o : Option (ℤ × ℕ)). o >?= λ size. handlers_by size.0 (handlers_at bytes starts types (unsigned_abs size.0) size.1)) (size_is bytes at h.size h.begin h.is_size)) ∙ none)
     where
       many : length c.pairs ≡ unsigned_abs h.size
       many = sym (many_is bytes at c stop h)
 
-      by_handlers : (o : Option (List Handler × ℕ)) → handlers_at bytes starts types (unsigned_abs h.size) h.begin ≡ o → (o >?= λ hs. rest_at bytes starts (has_rest h.size) hs.1 >?= λ rest. Some (hs.0, rest)) ≡ None → BadCatches places types c
+      by_handlers : (o : Option (List Handler × ℕ)) → handlers_at bytes starts types (unsigned_abs h.size) h.begin ≡ o → handlers_by h.size o ≡ None → BadCatches places types c
       by_handlers None e g = by_pair c (handlers_wrong c.pairs (unsigned_abs h.size) h.begin h.mid many h.pairs e)
       by_handlers (Some hs) e g =
           let behind : hs.1 ≡ h.mid = handlers_right c.pairs (unsigned_abs h.size) h.begin h.mid hs many h.pairs e in
-          let w = rest_wrong h.size h.mid c.rest stop h.rest (subst (λ (a : ℕ). rest_at bytes starts (has_rest h.size) a ≡ None) behind (then_none (rest_at bytes starts (has_rest h.size) hs.1) (λ rest. (hs.0, rest)) g)) in
+          let w = rest_wrong h.size h.mid c.rest stop h.rest (subst (λ (a : ℕ). rest_at bytes starts (has_rest h.size) a ≡ None) behind (then_none {Y = List Handler × Option ℕ} (rest_at bytes starts (has_rest h.size) hs.1) (λ rest. (hs.0, rest)) g)) in
           bad.Rest w.0 w.1 w.2

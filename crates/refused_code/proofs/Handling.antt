@@ -41,19 +41,20 @@ one_place low (s ∷ ss) (suc i) (suc j) u h a b = ap suc (one_place (suc s) ss 
 
 covering_got : (places : Places) (ts : List Try) (i : ℕ) (t : Try) → slice_get (covering places ts) i ≡ Some t → (place : ℕ) × (slice_get ts place ≡ Some t) × (covers places t ≡ true)
 covering_got places [] i t h = absurd cc
-covering_got places (x ∷ xs) i t h = by_cover (covers places x) refl i h
+covering_got places (x ∷ xs) i t h = by_cover (covers places x) refl i h (λ j. covering_got places xs j t)
   where
-    by_cover : (b : Bool) → covers places x ≡ b → (i : ℕ) → slice_get (cond b (x ∷ covering places xs) (covering places xs)) i ≡ Some t → (place : ℕ) × (slice_get (x ∷ xs) place ≡ Some t) × (covers places t ≡ true)
-    by_cover true e zero g = let same : x ≡ t = some_same x t g in (0, g, subst (λ (y : Try). covers places y ≡ true) same e)
-    by_cover true e (suc i) g = let rest = covering_got places xs i t g in (suc rest.0, rest.1, rest.2)
-    by_cover false e i g = let rest = covering_got places xs i t g in (suc rest.0, rest.1, rest.2)
+    by_cover : (b : Bool) → covers places x ≡ b → (i : ℕ) → slice_get (cond b (x ∷ covering places xs) (covering places xs)) i ≡ Some t → ((j : ℕ) → slice_get (covering places xs) j ≡ Some t → (place : ℕ) × (slice_get xs place ≡ Some t) × (covers places t ≡ true))
+        → (place : ℕ) × (slice_get (x ∷ xs) place ≡ Some t) × (covers places t ≡ true)
+    by_cover true e zero g later = let same : x ≡ t = some_same x t g in (0, g, subst (λ (y : Try). covers places y ≡ true) same e)
+    by_cover true e (suc i) g later = let rest = later i g in (suc rest.0, rest.1, rest.2)
+    by_cover false e i g later = let rest = later i g in (suc rest.0, rest.1, rest.2)
 
 in_covering : (places : Places) (ts : List Try) (place : ℕ) (t : Try) → slice_get ts place ≡ Some t → covers places t ≡ true → (i : ℕ) × (slice_get (covering places ts) i ≡ Some t)
-in_covering places [] place t h yes = absurd cc
-in_covering places (x ∷ xs) zero t h yes =
+in_covering places [] place t h does = absurd cc
+in_covering places (x ∷ xs) zero t h does =
     let same : x ≡ t = some_same x t h in
-    (0, ap (λ (b : Bool). slice_get (cond b (x ∷ covering places xs) (covering places xs)) 0) (subst (λ (y : Try). covers places y ≡ true) (sym same) yes) ∙ h)
-in_covering places (x ∷ xs) (suc place) t h yes = by_cover (covers places x) (in_covering places xs place t h yes)
+    (0, ap (λ (b : Bool). slice_get (cond b (x ∷ covering places xs) (covering places xs)) 0) (subst (λ (y : Try). covers places y ≡ true) (sym same) does) ∙ h)
+in_covering places (x ∷ xs) (suc place) t h does = by_cover (covers places x) (in_covering places xs place t h does)
   where
     by_cover : (b : Bool) → (i : ℕ) × (slice_get (covering places xs) i ≡ Some t) → (i : ℕ) × (slice_get (cond b (x ∷ covering places xs) (covering places xs)) i ≡ Some t)
     by_cover true rest = (suc rest.0, rest.1)
@@ -131,7 +132,7 @@ module _ (bytes : List ℕ) (places : Places) (rises : RisesFrom 0 places.starts
 -- ---- all regions
 
 module _ (bytes : List ℕ) (at : ℕ) (f : Frame) (places : Places) (rises : RisesFrom 0 places.starts) (sizes : Sizes) (many : sizes.tries ≡ f.tries) (regions : List Region) (read : regions_of (drop (tries_at at f) bytes) sizes places ≡ Ok regions) where
-  tries : List Try
+  abbrev tries : List Try
   tries = ((founds_regions bytes (tries_at at f) sizes places).found regions read).tries
 
   has : HasTries bytes at f tries
@@ -168,4 +169,4 @@ module _ (bytes : List ℕ) (at : ℕ) (f : Frame) (places : Places) (rises : Ri
     handler_marked (bad.OfAll c h got) = caught c h (inr got)
 
     pub none_handled : is_handler regions k ≡ false → IsHandlerAt bytes at f places unit → ⊥
-    none_handled no h = true≢false (sym (handler_marked h) ∙ no)
+    none_handled lacks h = true≢false (sym (handler_marked h) ∙ lacks)

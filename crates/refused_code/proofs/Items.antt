@@ -69,14 +69,14 @@ founds_room bytes at = weaker (item_at bytes at)
     next (whatever (word_at bytes (at + 8))) (λ debug _.
     next (whatever (word_at bytes (at + 12))) (λ size _.
     next (known (finds_need bytes at _)) (λ whole _. done _))))))))
-    (λ y q. let tries = q.2.2.2 in let size = tries.2.2.2 in let whole = size.2 in
+    (λ y q. let tries = q.2.2.2 in let size = tries.2.2 in let whole = size.2 in
     subst (HasRoom bytes) (sym whole.2) (record { units = units_inside at size.0 _ tries.0 (length bytes) whole.1; tries = tries_inside at size.0 _ tries.0 (length bytes) whole.1 }))
   where
-    units_inside : (at size gap tries all : ℕ) → at + (16 + 2 * size + gap + 8 * tries) ≤ all → at + 16 + 2 * size ≤ all
-    units_inside at size gap tries all h = omega (arith, h)
+    units_inside : (at size skip tries all : ℕ) → at + (16 + 2 * size + skip + 8 * tries) ≤ all → at + 16 + 2 * size ≤ all
+    units_inside at size skip tries all h = omega (arith, h)
 
-    tries_inside : (at size gap tries all : ℕ) → at + (16 + 2 * size + gap + 8 * tries) ≤ all → at + (16 + 2 * size + gap) + 8 * tries ≤ all
-    tries_inside at size gap tries all h = omega (arith, h)
+    tries_inside : (at size skip tries all : ℕ) → at + (16 + 2 * size + skip + 8 * tries) ≤ all → at + (16 + 2 * size + skip) + 8 * tries ≤ all
+    tries_inside at size skip tries all h = omega (arith, h)
 
 module _ (bytes : List ℕ) (few : length bytes < 2 ^ 32) (p : Program) (are : values.AreSizes bytes (sizes_in p)) (class which place : ℕ) (method : 2 ≤ which) (e : Listed) (has : HasEntry bytes class which place (entry_of e)) (some : 0 < e.code) (frames : Frames bytes p class e) where
   leads : Leads (entry_of e).code e.code

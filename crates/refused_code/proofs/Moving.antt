@@ -37,7 +37,7 @@ use Rattle.code_laws.proofs.Sweeping.{Instructed}
 use Rattle.code_laws.proofs.Insns.{IsKind, ACall, ABranch, ATable, APlain, leads}
 use Rattle.code_laws.proofs.Payloads.{Found, found_payload, is_payload}
 use Rattle.refused_law.proofs.Defs.{and_none}
-use Rattle.refused_code.proofs.Flowing.{continuing, numbered}
+use Rattle.refused_code.proofs.Flowing.{continuing, numbered, unequal}
 use Rattle.refused_code.proofs.Reading.{IsTable, is_table, AreRead, read_kind, founds_checked}
 use Rattle.refused_code.proofs.Targeting.{plain_none, call_none, size_there, offset_packed, offset_sparse, offset_is}
 use Rattle.refused_code.proofs.Caught.{any_got}
@@ -96,11 +96,11 @@ kind_says places start op f insn (APlain a b t e) = subst (λ (i : Insn). Says o
 -- ---- what gives a result is a call
 
 calls_give : (op : ℕ) (f : Fields) → has_result (c.call_form op f) ≡ true
-calls_give op f = either_gives (from_to op 0x24 0x25) (either_gives (c.is_range op) refl refl)
+calls_give op f = either_gives (from_to op 0x24 0x25) _ _ refl (either_gives (c.is_range op) _ _ refl refl)
   where
-    either_gives : (b : Bool) {x y : Insn} → has_result x ≡ true → has_result y ≡ true → has_result (cond b x y) ≡ true
-    either_gives true g h = g
-    either_gives false g h = h
+    either_gives : (b : Bool) (x y : Insn) → has_result x ≡ true → has_result y ≡ true → has_result (cond b x y) ≡ true
+    either_gives true x y g h = g
+    either_gives false x y g h = h
 
 founds_called : (places : Places) (start op : ℕ) (f : Fields) → c.is_call op ≡ true → Founds (λ insn. insn ≡ c.call_form op f) (insn_of places start op f)
 founds_called places start op f is = subst (λ (b : Bool). Founds (λ insn. insn ≡ c.call_form op f) (cond b (call_at start op f)
@@ -209,6 +209,16 @@ module _ (units : List ℕ) (ps : List Piece) (few : length (starts_of (instruct
 
 -- ---- moves that stand where they may not
 
+result_of : (insns : List Insn) (k : ℕ) → result_before insns (suc k) ≡ some_result (slice_get insns k)
+result_of insns k =
+    let one : suc k - 1 ≡ k = omega arith in
+    ap (λ (b : Bool). cond b false (some_result (slice_get insns (suc k - 1)))) (unequal (suc k) 0 (λ e. omega (arith, e))) ∙ ap (λ (n : ℕ). some_result (slice_get insns n)) one
+
+continues_of : (insns : List Insn) (k : ℕ) → continues_into insns (suc k) ≡ some_goes_on (slice_get insns k)
+continues_of insns k =
+    let one : suc k - 1 ≡ k = omega arith in
+    ap (λ (b : Bool). cond b false (some_goes_on (slice_get insns (suc k - 1)))) (unequal (suc k) 0 (λ e. omega (arith, e))) ∙ ap (λ (n : ℕ). some_goes_on (slice_get insns n)) one
+
 module _ (bytes : List ℕ) (at : ℕ) (f : Frame) (units : List ℕ) (ps : List Piece) (few : length (starts_of (instructions ps)) ≤ nowhere) (sizes : Sizes) (insns : List Insn)
     (read : AreRead (places_of units ps) sizes (instructions ps) insns) (many : length insns ≡ length (starts_of (instructions ps)))
     (instructed : (k : ℕ) (p : Piece) → slice_get (instructions ps) k ≡ Some p → Instructed units p)
@@ -217,22 +227,20 @@ module _ (bytes : List ℕ) (at : ℕ) (f : Frame) (units : List ℕ) (ps : List
   spots = places_of units ps
 
   -- the instruction at a position
-  record IsAt (k : ℕ) (insn : Insn) : Type 0 where
-    p : Piece
-    got : slice_get (instructions ps) k ≡ Some p
-    checked : checked_at spots sizes p.start ≡ Ok insn
+  abbrev IsAt : ℕ → Insn → Type 0
+  IsAt k insn = (p : Piece) × (slice_get (instructions ps) k ≡ Some p) × (checked_at spots sizes p.start ≡ Ok insn)
 
   is_at : (k : ℕ) (insn : Insn) → slice_get insns k ≡ Some insn → IsAt k insn
-  is_at k insn there = let x = read.each k insn there in record { p = x.0; got = x.1; checked = x.2 }
+  is_at k insn there = read.each k insn there
 
-  kind_at : (k : ℕ) (insn : Insn) (x : IsAt k insn) → IsKind spots x.p.start (d.opcode x.p) (fields_at units x.p.start) insn
-  kind_at k insn x = read_kind spots sizes x.p (instructed k x.p x.got) insn x.checked
+  kind_at : (k : ℕ) (insn : Insn) (x : IsAt k insn) → IsKind spots x.0.start (d.opcode x.0) (fields_at units x.0.start) insn
+  kind_at k insn x = read_kind spots sizes x.0 (instructed k x.0 x.1) insn x.2
 
   is_gone : (k : ℕ) → k < length insns → is_target insns k ≡ true → IsGoneTo units ps k
   is_gone k less h =
       let g = any_got (λ i. goes_to k i) insns h in
       let x = is_at g.0 g.1 g.2 in
-      by_kind units ps few g.0 x.p (fields_at units x.p.start) (record { is = x.got; fields = (instructed g.0 x.p x.got).fields_are }) k (subst (λ (n : ℕ). k < n) many less) g.1 (kind_at g.0 g.1 x) (right g.0 x.p x.got) g.3
+      by_kind units ps few g.0 x.0 (fields_at units x.0.start) (record { is = x.1; fields = (instructed g.0 x.0 x.1).fields_are }) k (subst (λ (n : ℕ). k < n) many less) g.1 (kind_at g.0 g.1 x) (right g.0 x.0 x.1) g.3
 
   before_there : (k : ℕ) → suc k < length insns → (insn : Insn) × (slice_get insns k ≡ Some insn)
   before_there k less = get_there insns k (omega (arith, less))
@@ -247,16 +255,16 @@ module _ (bytes : List ℕ) (at : ℕ) (f : Frame) (units : List ℕ) (ps : List
   follows_none (suc k) p moves less none =
       let b = before_there k less in
       let x = is_at k b.0 b.1 in
-      let gives : has_result b.0 ≡ false = ap some_result (sym b.1) ∙ none in
-      bad.BehindNone k x.p moves refl x.got (no_call spots sizes x.p (instructed k x.p x.got) b.0 x.checked gives)
+      let gives : has_result b.0 ≡ false = ap some_result (sym b.1) ∙ sym (result_of insns k) ∙ none in
+      bad.BehindNone k x.0 moves refl x.1 (no_call spots sizes x.0 (instructed k x.0 x.1) b.0 x.2 gives)
 
   is_entered : (k : ℕ) (p : Piece) → moves_caught (d.opcode p) ≡ true → k < length insns → continues_into insns k ≡ true → Bad k p
   is_entered zero p moves less on = absurd cc
   is_entered (suc k) p moves less on =
       let b = before_there k less in
       let x = is_at k b.0 b.1 in
-      let goes : goes_on b.0 ≡ true = ap some_goes_on (sym b.1) ∙ on in
-      bad.Continued k x.p moves refl x.got (continuing spots x.p.start (fields_at units x.p.start) b.0 (d.opcode x.p) (kind_at k b.0 x) goes)
+      let goes : goes_on b.0 ≡ true = ap some_goes_on (sym b.1) ∙ sym (continues_of insns k) ∙ on in
+      bad.Continued k x.0 moves refl x.1 (continuing spots x.0.start (fields_at units x.0.start) b.0 (d.opcode x.0) (kind_at k b.0 x) goes)
 
   follows : (k : ℕ) (p : Piece) (insn : Insn) → Says (d.opcode p) (mark insn) → k < length insns → (targeted : Bool) → (targeted ≡ true → IsGoneTo units ps k) → may_follow insns k targeted insn ≡ false → Bad k p
   follows k p (MoveResult slot to) says less targeted gone h = elim (and_none (not targeted) (result_before insns k) h) [
@@ -277,9 +285,9 @@ module _ (bytes : List ℕ) (at : ℕ) (f : Frame) (units : List ℕ) (ps : List
       → (is_handler regions k ≡ true → IsHandlerAt bytes at f spots p.start) × (is_handler regions k ≡ false → IsHandlerAt bytes at f spots p.start → ⊥)
 
   handles : (k : ℕ) (p : Piece) (insn : Insn) → Says (d.opcode p) (mark insn) → (handled : Bool) → (handled ≡ true → IsHandlerAt bytes at f spots p.start) → (handled ≡ false → IsHandlerAt bytes at f spots p.start → ⊥) → may_handle handled insn ≡ false → Bad k p
-  handles k p (MoveResult slot to) says handled yes no h = bad.Handled (says.0 refl) (yes (not_false handled h))
-  handles k p (MoveException to) says handled yes no h = bad.Unhandled (says.1 refl) (no h)
-  handles k p insn says handled yes no h = absurd cc
+  handles k p (MoveResult slot to) says handled marked unmarked h = bad.Handled (says.0 refl) (marked (not_false handled h))
+  handles k p (MoveException to) says handled marked unmarked h = bad.Unhandled (says.1 refl) (unmarked h)
+  handles k p insn says handled marked unmarked h = absurd cc
 
   -- ---- all of them
 
@@ -294,14 +302,17 @@ module _ (bytes : List ℕ) (at : ℕ) (f : Frame) (units : List ℕ) (ps : List
   astray_at regions known handled k insn there h =
       let x = is_at k insn there in
       let less : k < length insns = got_short insns k insn there in
-      let says = kind_says spots x.p.start (d.opcode x.p) (fields_at units x.p.start) insn (kind_at k insn x) in
-      (x.p, x.got, elim (and_none (may_follow insns k (is_marked targets k) insn) (not known || may_handle (is_marked (handlers regions) k) insn) h) [
-        | inl e ↦ follows k x.p insn says less (is_marked targets k) (λ is. is_gone k less (sym (targets_say (length insns) insns k less) ∙ is)) e
-        | inr e ↦ let both = neither_of (not known) (may_handle (is_marked (handlers regions) k) insn) e in
-            let at_it = handled (not_false known both.0) k x.p x.got in
-            let same = handlers_say (length insns) regions k less in
-            handles k x.p insn says (is_marked (handlers regions) k) (λ is. at_it.0 (sym same ∙ is)) (λ is. at_it.1 (sym same ∙ is)) both.1
-      ])
+      let says = kind_says spots x.0.start (d.opcode x.0) (fields_at units x.0.start) insn (kind_at k insn x) in (
+        x.0,
+        x.1,
+        elim (and_none (may_follow insns k (is_marked targets k) insn) (not known || may_handle (is_marked (handlers regions) k) insn) h) [
+          | inl e ↦ follows k x.0 insn says less (is_marked targets k) (λ is. is_gone k less (sym (targets_say (length insns) insns k less) ∙ is)) e
+          | inr e ↦ let both = neither_of (not known) (may_handle (is_marked (handlers regions) k) insn) e in
+              let at_it = handled (not_false known both.0) k x.0 x.1 in
+              let same = handlers_say (length insns) regions k less in
+              handles k x.0 insn says (is_marked (handlers regions) k) (λ is. at_it.0 (sym same ∙ is)) (λ is. at_it.1 (sym same ∙ is)) both.1
+        ],
+      )
 
   astray_from : (regions : List Region) (known : Bool) (k : ℕ) (x : ℕ × Insn) → slice_get (enumerate_from 0 insns) k ≡ Some x → not (stands insns targets (handlers regions) known x) ≡ true
       → (insn : Insn) × (slice_get insns k ≡ Some insn) × (stands insns targets (handlers regions) known (k, insn) ≡ false)

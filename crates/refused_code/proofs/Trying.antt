@@ -59,20 +59,21 @@ above_none unit low (s ∷ ss) h less = ap (λ (b : Bool). b || list_any (λ u. 
 -- a unit at which what lies there doesn't begin is no start
 none_there : (unit low : ℕ) (ss : List ℕ) → RisesFrom low ss → begins_with (slice_get ss (count_below unit ss)) unit ≡ false → list_any (λ u. eqb u unit) ss ≡ false
 none_there unit low [] h e = refl
-none_there unit low (s ∷ ss) h e = by_test (ltb s unit) refl e
+none_there unit low (s ∷ ss) h e = by_test (ltb s unit) refl e (none_there unit (suc s) ss h.1)
   where
-    by_test : (b : Bool) → ltb s unit ≡ b → begins_with (slice_get (s ∷ ss) (cond b (suc (count_below unit ss)) 0)) unit ≡ false → list_any (λ u. eqb u unit) (s ∷ ss) ≡ false
-    by_test true is g = let less = ltb-true s unit is in ap (λ (b : Bool). b || list_any (λ u. eqb u unit) ss) (unequal s unit (λ same. omega (arith, same, less))) ∙ none_there unit (suc s) ss h.1 g
-    by_test false is g = let le = ltb-false s unit is in ap (λ (b : Bool). b || list_any (λ u. eqb u unit) ss) g ∙ above_none unit (suc s) ss h.1 (omega (arith, le))
+    by_test : (b : Bool) → ltb s unit ≡ b → begins_with (slice_get (s ∷ ss) (cond b (suc (count_below unit ss)) 0)) unit ≡ false → (begins_with (slice_get ss (count_below unit ss)) unit ≡ false → list_any (λ u. eqb u unit) ss ≡ false)
+        → list_any (λ u. eqb u unit) (s ∷ ss) ≡ false
+    by_test true is g rest = let less = ltb-true s unit is in ap (λ (b : Bool). b || list_any (λ u. eqb u unit) ss) (unequal s unit (λ same. omega (arith, same, less))) ∙ rest g
+    by_test false is g rest = let le = ltb-false s unit is in ap (λ (b : Bool). b || list_any (λ u. eqb u unit) ss) g ∙ above_none unit (suc s) ss h.1 (omega (arith, le))
 
 fewer_below : (a b : ℕ) (ss : List ℕ) → a ≤ b → count_below a ss ≤ count_below b ss
 fewer_below a b [] le = omega arith
-fewer_below a b (s ∷ ss) le = by_tests (ltb s a) (ltb s b) refl refl
+fewer_below a b (s ∷ ss) le = by_tests (ltb s a) (ltb s b) refl refl (fewer_below a b ss le)
   where
-    by_tests : (x y : Bool) → ltb s a ≡ x → ltb s b ≡ y → cond x (suc (count_below a ss)) 0 ≤ cond y (suc (count_below b ss)) 0
-    by_tests false y ex ey = omega arith
-    by_tests true true ex ey = omega (arith, fewer_below a b ss le)
-    by_tests true false ex ey = let less = ltb-true s a ex in let over = ltb-false s b ey in absurd (omega (arith, less, over, le))
+    by_tests : (x y : Bool) → ltb s a ≡ x → ltb s b ≡ y → count_below a ss ≤ count_below b ss → cond x (suc (count_below a ss)) 0 ≤ cond y (suc (count_below b ss)) 0
+    by_tests false y ex ey rest = omega arith
+    by_tests true true ex ey rest = omega (arith, rest)
+    by_tests true false ex ey rest = let less = ltb-true s a ex in let over = ltb-false s b ey in absurd (omega (arith, less, over, le))
 
 below_only : (a b : ℕ) (ss : List ℕ) → count_below a ss < count_below b ss → a < b
 below_only a b ss h = elim (cases_lt a b) [ inl less ↦ less | inr le ↦ absurd (omega (arith, h, fewer_below b a ss le)) ]
@@ -163,16 +164,16 @@ data IsFrom (places : Places) (tries : List Try) (place from : ℕ) : Type 0 whe
   AtEnd : (before : Try) → IsBefore places tries place before → from ≡ end_position places before → IsFrom places tries place from
 
 next_same : (places : Places) (tries : List Try) (place from : ℕ) (t : Try) → slice_get tries place ≡ Some t → covers places t ≡ false → IsFrom places tries place from → IsFrom places tries (suc place) from
-next_same places tries place from t there no (AtNone e) = AtNone e
-next_same places tries place from t there no (AtEnd before is e) = AtEnd before (record {
+next_same places tries place from t there lacks (AtNone e) = AtNone e
+next_same places tries place from t there lacks (AtEnd before is e) = AtEnd before (record {
   front = is.front;
-  are = covering_more places tries place t there ∙ ap (λ (b : Bool). covering places (take place tries) ++ cond b (t ∷ []) []) no ∙ append-nil (covering places (take place tries)) ∙ is.are;
+  are = covering_more places tries place t there ∙ ap (λ (b : Bool). covering places (take place tries) ++ cond b (t ∷ []) []) lacks ∙ append-nil (covering places (take place tries)) ∙ is.are;
 }) e
 
 next_more : (places : Places) (tries : List Try) (place from : ℕ) (t : Try) → slice_get tries place ≡ Some t → covers places t ≡ true → from ≡ end_position places t → IsFrom places tries (suc place) from
-next_more places tries place from t there yes e = AtEnd t (record {
+next_more places tries place from t there does e = AtEnd t (record {
   front = covering places (take place tries);
-  are = covering_more places tries place t there ∙ ap (λ (b : Bool). covering places (take place tries) ++ cond b (t ∷ []) []) yes;
+  are = covering_more places tries place t there ∙ ap (λ (b : Bool). covering places (take place tries) ++ cond b (t ∷ []) []) does;
 }) e
 
 -- ---- one region
@@ -199,7 +200,7 @@ founds_keeps lists types places place from left s c o =
     (λ is. weaker (cond (lies_right places (try_item s c o) from) (cond (has_list lists o) (with_handlers place first end left (caught_at lists places.starts types o)) (Err _)) (Err _))
     (when _ (when _ (founds_with place first end left (caught_at lists places.starts types o))))
     (λ y p. subst (Keeps places (the_try s c o)) (sym p.1.1.1) (sym (covers_same places s c o) ∙ is, below_same (s + c) places.starts)))
-    (λ no. weaker (Ok None) (done None) (λ y p. subst (Keeps places (the_try s c o)) (sym p) (sym (covers_same places s c o) ∙ no)))
+    (λ lacks. weaker (Ok None) (done None) (λ y p. subst (Keeps places (the_try s c o)) (sym p) (sym (covers_same places s c o) ∙ lacks)))
 
 -- the list that begins at an offset is that of the bytes behind the try items
 catches_there : (bytes : List ℕ) (lists offset : ℕ) (c : Catches) (stop : ℕ) → HasLists (drop lists bytes) offset → AreCatches (drop lists bytes) offset (c, stop) → AreCatchesAt bytes lists offset c
@@ -238,33 +239,31 @@ module _ (bytes : List ℕ) (at types : ℕ) (f : Frame) (places : Places) (rise
 
   -- ---- the region of a try item
 
-  module _ (place from left : ℕ) (t : Try) (got : slice_get tries place ≡ Some t) (yes : covers places t ≡ true) (is_from : IsFrom places tries place from) where
-    abbrev item = try_item t.start t.count t.offset
-
+  module _ (place from left : ℕ) (t : Try) (got : slice_get tries place ≡ Some t) (does : covers places t ≡ true) (is_from : IsFrom places tries place from) where
     bad_region : BadRegion places tries place t → Has (code.Region place)
-    bad_region b = wrong (code.Region place) (bad.Lies tries place t has got yes b refl)
+    bad_region b = wrong (code.Region place) (bad.Lies tries place t has got does b refl)
 
-    behind : IsFrom places tries place from → first_of places item < from → Has (code.Region place)
+    behind : IsFrom places tries place from → first_of places (try_item t.start t.count t.offset) < from → Has (code.Region place)
     behind (AtNone e) less = absurd (omega (arith, e, less))
     behind (AtEnd before is e) less = bad_region (bad.Behind before is (below_only t.start (before.start + before.count) places.starts
         (let same : end_position places before ≡ count_below (before.start + before.count) places.starts = sym (below_same (before.start + before.count) places.starts) in omega (arith, less, e, same))))
 
-    lies_wrong : lies_right places item from ≡ false → Has (code.Region place)
-    lies_wrong untrue = by_first (and_none (begins_with (slice_get places.starts (first_of places item)) t.start) (leb (t.start + t.count) (length places.units) && leb from (first_of places item)) untrue)
+    lies_wrong : lies_right places (try_item t.start t.count t.offset) from ≡ false → Has (code.Region place)
+    lies_wrong untrue = by_first (and_none (begins_with (slice_get places.starts (first_of places (try_item t.start t.count t.offset))) t.start) (leb (t.start + t.count) (length places.units) && leb from (first_of places (try_item t.start t.count t.offset))) untrue)
       where
-        by_rest : (leb (t.start + t.count) (length places.units) ≡ false) ⊎ (leb from (first_of places item) ≡ false) → Has (code.Region place)
+        by_rest : (leb (t.start + t.count) (length places.units) ≡ false) ⊎ (leb from (first_of places (try_item t.start t.count t.offset)) ≡ false) → Has (code.Region place)
         by_rest (inl e) = bad_region (bad.Ends (leb-false (t.start + t.count) (length places.units) e))
-        by_rest (inr e) = behind is_from (leb-false from (first_of places item) e)
+        by_rest (inr e) = behind is_from (leb-false from (first_of places (try_item t.start t.count t.offset)) e)
 
-        by_first : (begins_with (slice_get places.starts (first_of places item)) t.start ≡ false) ⊎ ((leb (t.start + t.count) (length places.units) && leb from (first_of places item)) ≡ false) → Has (code.Region place)
+        by_first : (begins_with (slice_get places.starts (first_of places (try_item t.start t.count t.offset))) t.start ≡ false) ⊎ ((leb (t.start + t.count) (length places.units) && leb from (first_of places (try_item t.start t.count t.offset))) ≡ false) → Has (code.Region place)
         by_first (inl e) = bad_region (bad.Begins (none_there t.start 0 places.starts rises e))
-        by_first (inr e) = by_rest (and_none (leb (t.start + t.count) (length places.units)) (leb from (first_of places item)) e)
+        by_first (inr e) = by_rest (and_none (leb (t.start + t.count) (length places.units)) (leb from (first_of places (try_item t.start t.count t.offset))) e)
 
     missing : ((c : Catches) → AreCatchesAt bytes lists t.offset c → ⊥) → Has (code.Handler place)
-    missing none = wrong (code.Handler place) (bad.Missing tries place t has got yes none refl)
+    missing none = wrong (code.Handler place) (bad.Missing tries place t has got does none refl)
 
     unlisted : has_list (drop lists bytes) t.offset ≡ false → Has (code.Handler place)
-    unlisted no = missing (λ c is. let found = is_found bytes lists t.offset c is in none_true (sym found.listed ∙ no))
+    unlisted lacks = missing (λ c is. let found = is_found bytes lists t.offset c is in none_true (sym found.listed ∙ lacks))
       where
         none_true : true ≡ false → ⊥
         none_true e = absurd cc
@@ -276,7 +275,7 @@ module _ (bytes : List ℕ) (at types : ℕ) (f : Frame) (places : Places) (rise
         by_end None e = missing (λ c is. let found = is_found bytes lists t.offset c is in none_some (sym e ∙ list_end_is (drop lists bytes) t.offset c found.end found.is))
         by_end (Some stop) e =
             let c = (sees_end (drop lists bytes) t.offset).found stop e in
-            wrong (code.Handler place) (bad.Catch tries place t c.0 has got yes (catches_there bytes lists t.offset c.0 stop (has_lists (drop lists bytes) t.offset listed) c.1) (caught_wrong (drop lists bytes) places types t.offset c.0 stop c.1 none) refl)
+            wrong (code.Handler place) (bad.Catch tries place t c.0 has got does (catches_there bytes lists t.offset c.0 stop (has_lists (drop lists bytes) t.offset listed) c.1) (caught_wrong (drop lists bytes) places types t.offset c.0 stop c.1 none) refl)
 
     fails_with_handlers : (first end : ℕ) (o : Option (List Handler × Option ℕ)) → has_list (drop lists bytes) t.offset ≡ true → caught_at (drop lists bytes) places.starts types t.offset ≡ o → Fails Has (with_handlers place first end left o)
     fails_with_handlers first end None listed e = fails_with (code.Handler place) (uncaught listed e)
@@ -289,10 +288,10 @@ module _ (bytes : List ℕ) (at types : ℕ) (f : Frame) (places : Places) (rise
       let caught : Result (Option Region) CodeFault = with_handlers place first end left (caught_at (drop lists bytes) places.starts types o) in
       let listed : Result (Option Region) CodeFault = cond (has_list (drop lists bytes) o) caught (Err (code.Handler place)) in
       fails_either {b = ltb first end} {read = cond (lies_right places (try_item s c o) from) listed (Err (code.Region place))} {other = Ok None}
-      (λ some. let yes : covers places (the_try s c o) ≡ true = sym (covers_same places s c o) ∙ some in
-      unless {b = lies_right places (try_item s c o) from} {read = listed} (code.Region place) (λ untrue. lies_wrong place from left (the_try s c o) got yes is_from untrue)
-      (λ _. unless {b = has_list (drop lists bytes) o} {read = caught} (code.Handler place) (λ untrue. unlisted place from left (the_try s c o) got yes is_from untrue)
-      (λ is. fails_with_handlers place from left (the_try s c o) got yes is_from first end (caught_at (drop lists bytes) places.starts types o) is refl)))
+      (λ some. let does : covers places (the_try s c o) ≡ true = sym (covers_same places s c o) ∙ some in
+      unless {b = lies_right places (try_item s c o) from} {read = listed} (code.Region place) (λ untrue. lies_wrong place from left (the_try s c o) got does is_from untrue)
+      (λ _. unless {b = has_list (drop lists bytes) o} {read = caught} (code.Handler place) (λ untrue. unlisted place from left (the_try s c o) got does is_from untrue)
+      (λ is. fails_with_handlers place from left (the_try s c o) got does is_from first end (caught_at (drop lists bytes) places.starts types o) is refl)))
       (λ _. sound None)
 
   fails_region : (place from left : ℕ) → place < f.tries → IsFrom places tries place from → Fails Has (region_at (drop base bytes) (drop lists bytes) types places place from left)
@@ -313,11 +312,12 @@ module _ (bytes : List ℕ) (at types : ℕ) (f : Frame) (places : Places) (rise
   fails_from zero place from left all is_from = sound []
   fails_from (suc n) place from left all is_from =
       let less : place < f.tries = omega (arith, all) in
-      fails_next (fails_region place from left less is_from) (λ kept h. by_kept kept ((founds_region place from left less).found kept h))
+      fails_next (fails_region place from left less is_from) (λ kept h. by_kept kept ((founds_region place from left less).found kept h) (λ f l at. fails_from n (suc place) f l (omega (arith, all)) at))
     where
-      by_kept : (kept : Option Region) → Keeps places (try_of bytes base place) kept → Fails Has (keep kept (λ f l. regions_from (drop base bytes) (drop lists bytes) types places n (suc place) f l) from left)
-      by_kept None no = fails_from n (suc place) from left (omega (arith, all)) (next_same places tries place from (try_of bytes base place) (there place (omega (arith, all))) no is_from)
-      by_kept (Some r) yes = fails_next (fails_from n (suc place) r.end (left - caught_count r.handlers r.rest) (omega (arith, all)) (next_more places tries place r.end (try_of bytes base place) (there place (omega (arith, all))) yes.0 yes.1)) (λ rs _. sound (r ∷ rs))
+      by_kept : (kept : Option Region) → Keeps places (try_of bytes base place) kept → ((f l : ℕ) → IsFrom places tries (suc place) f → Fails Has (regions_from (drop base bytes) (drop lists bytes) types places n (suc place) f l))
+          → Fails Has (keep kept (λ f l. regions_from (drop base bytes) (drop lists bytes) types places n (suc place) f l) from left)
+      by_kept None lacks more = more from left (next_same places tries place from (try_of bytes base place) (there place (omega (arith, all))) lacks is_from)
+      by_kept (Some r) does more = fails_next (more r.end (left - caught_count r.handlers r.rest) (next_more places tries place r.end (try_of bytes base place) (there place (omega (arith, all))) does.0 does.1)) (λ rs _. sound (r ∷ rs))
 
   pub fails_regions : (sizes : Sizes) → sizes.tries ≡ f.tries → sizes.types ≡ types → Fails Has (regions_of (drop base bytes) sizes places)
   unfolding regions_of
@@ -326,4 +326,4 @@ module _ (bytes : List ℕ) (at types : ℕ) (f : Frame) (places : Places) (rise
       subst (λ (ls : List ℕ). Fails Has (regions_from (drop base bytes) ls sizes.types places sizes.tries 0 0 sizes.items)) behind_tries
       (subst (λ (n : ℕ). Fails Has (regions_from (drop base bytes) (drop lists bytes) n places sizes.tries 0 0 sizes.items)) (sym kinds)
       (subst (λ (n : ℕ). Fails Has (regions_from (drop base bytes) (drop lists bytes) types places n 0 0 sizes.items)) (sym many)
-      (fails_from f.tries 0 0 sizes.items refl (AtNone refl))))
+      (fails_from f.tries 0 0 sizes.items (omega arith) (AtNone refl))))

@@ -140,12 +140,12 @@ its_fetches words held good command spelled = subst (λ (c : CommandWords). Good
 
 pub completes : (words : List (List ℕ)) (held : Held) (fetches_old fetches_new puts_old puts_new : Failures) (notes_old notes_new : ℕ) (status : Status)
     → AreGood words held → Caused words true held fetches_old fetches_new puts_old puts_new notes_old notes_new status → EndsGood words held fetches_old fetches_new puts_old puts_new notes_old notes_new status
-completes words held fo fn po pn no nn Done good h = tt
-completes words held fo fn po pn no nn Usage good h = h good.command good.spelled
-completes words held fo fn po pn no nn (BadRules fault) good h = let cause = h.cause in rules_cause held (fetches h.command) (its_fetches words held good h.command h.spelled) fault cause.carried (cause.ruling refl)
-completes words held fo fn po pn no nn (BadDex fault) good h = let cause = h.cause in file_cause held (fetches h.command) (its_fetches words held good h.command h.spelled) fault cause.carried (cause.file refl)
-completes words held fo fn po pn no nn (Limit fault) good h = record { command = h.command; spelled = h.spelled; one = limit_past held (fetches h.command) (its_fetches words held good h.command h.spelled) fault h.cause }
-completes words held fo fn po pn no nn ReadFault good h = h
-completes words held fo fn po pn no nn WriteFault good h = h
-completes words held fo fn po pn no nn NoMemory good h = tt
-completes words held fo fn po pn no nn (BadScript line) good h = none_bad_line held (fetches h.command) (all_of held (fetches h.command) (its_fetches words held good h.command h.spelled)) line (h.bad refl)
+completes words held old_fetches new_fetches old_puts new_puts old_notes new_notes Done good h = tt
+completes words held old_fetches new_fetches old_puts new_puts old_notes new_notes Usage good h = h good.command good.spelled
+completes words held old_fetches new_fetches old_puts new_puts old_notes new_notes (BadRules fault) good h = let cause = h.cause in rules_cause held (fetches h.command) (its_fetches words held good h.command h.spelled) fault cause.carried (cause.ruling refl)
+completes words held old_fetches new_fetches old_puts new_puts old_notes new_notes (BadDex fault) good h = let cause = h.cause in file_cause held (fetches h.command) (its_fetches words held good h.command h.spelled) fault cause.carried (cause.file refl)
+completes words held old_fetches new_fetches old_puts new_puts old_notes new_notes (Limit fault) good h = record { command = h.command; spelled = h.spelled; one = limit_past held (fetches h.command) (its_fetches words held good h.command h.spelled) fault h.cause }
+completes words held old_fetches new_fetches old_puts new_puts old_notes new_notes ReadFault good h = h
+completes words held old_fetches new_fetches old_puts new_puts old_notes new_notes WriteFault good h = h
+completes words held old_fetches new_fetches old_puts new_puts old_notes new_notes NoMemory good h = tt
+completes words held old_fetches new_fetches old_puts new_puts old_notes new_notes (BadScript line) good h = none_bad_line held (fetches h.command) (all_of held (fetches h.command) (its_fetches words held good h.command h.spelled)) line (h.bad refl)

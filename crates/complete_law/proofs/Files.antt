@@ -1,7 +1,8 @@
 -- A good file and a good library are not refused but for a passed limit.
-use Rattle.std.proofs.Common.{◌≡◌, ◌<◌, ℕ, List, Result, Ok, Err, refl}
+use Rattle.std.proofs.Common.{◌≡◌, ◌<◌, ℕ, List, Result, Ok, Err, refl, ap}
 use Rattle.std.specs.Prelude.{slice_index}
 use Rattle.dex_base.specs.Reading.{◌>>=◌}
+use Rattle.dex_base.proofs.Decides.{err_is}
 use Rattle.dex_defs.specs.Parts as parts
 use Rattle.dex_defs.specs.ClassFaults.{HasFault, BadGraph, DefinedTwice, OwnAncestor, Split}
 use Rattle.dex_defs.specs.Spells.{Spells}
@@ -65,7 +66,4 @@ of_library bytes e h = by_read (program_at bytes) h
   where
     by_read : (read : Result Program DexFault) → (read >>= λ p. Ok (library_of p)) ≡ Err e → read ≡ Err e
     by_read (Ok program) h = absurd cc
-    by_read (Err k) h = by_same k e h
-      where
-        by_same : (k e : DexFault) → Err {A = Library} k ≡ Err e → Err {A = Program} k ≡ Err e
-        by_same k e h = cc
+    by_read (Err k) h = ap (λ (x : DexFault). Err x) (err_is {A = Library} k e h)

@@ -5,7 +5,8 @@ ghost use Rattle.redex_outside.specs.Held.{Held};
 ghost use Rattle.redex_cli.specs.Ends.{Caused};
 ghost use Rattle.redex_cli.specs.Fetching.{Failures};
 ghost use Rattle.redex_cli.specs.declared.status.Status.{Status};
-ghost use Rattle.complete_law.specs.Complete.{AreGood, EndsGood};
+ghost use Rattle.dex_defs.specs.Examples.{empty_file};
+ghost use Rattle.complete_law.specs.Complete.{AreGood, EndsGood, IsGoodFile};
 
 /// Words that spell a command which has something fetched, rules without a fault, files without one whose programs are typed,
 /// a library without one, a good script, each within its limit of bytes, and no count that rose, end a run as `Done`, for want of
@@ -15,4 +16,9 @@ pub fn complete()
     ensures { (words : List (List ℕ)) (held : Held) (fetches_old fetches_new puts_old puts_new : Failures) (notes_old notes_new : ℕ) (status : Status)
         → AreGood words held → Caused words true held fetches_old fetches_new puts_old puts_new notes_old notes_new status
         → EndsGood words held fetches_old fetches_new puts_old puts_new notes_old notes_new status }
+{}
+
+/// There are good files: the 140 bytes of the program of nothing are one.
+pub fn a_good_file()
+    ensures { IsGoodFile empty_file }
 {}

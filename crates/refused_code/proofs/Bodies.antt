@@ -1,19 +1,16 @@
 -- A fault of code that is answered stands in the code item.
-use Rattle.std.proofs.Common.{◌≡◌, ◌<◌, ℕ, zero, suc, ◌+◌, ◌-◌, ◌*◌, true, false, cond, ltb, eqb, Bool, List, [], ◌∷◌, length, drop, Option, Some, None, Result, Ok, Err, refl, sym, ap, subst, ◌∙◌, arith, true≢false}
+use Rattle.std.proofs.Common.{◌≡◌, ◌≤◌, ◌<◌, ℕ, zero, suc, ◌+◌, ◌-◌, ◌*◌, true, false, cond, ltb, eqb, Bool, List, [], ◌∷◌, length, drop, Option, Some, None, Result, Ok, Err, refl, sym, ap, subst, ◌∙◌, arith, true≢false}
 use Rattle.std.specs.Prelude.{◌&&◌, slice_get, slice_index, not}
-use Rattle.std.specs.Result.{result_ok}
-use Rattle.dex_base.specs.Word.{u16_at, u32_at}
 use Rattle.insn_set.specs.declared.form.Insn.{Insn}
-use Rattle.program_model.specs.declared.body.Handler.{Handler}
 use Rattle.program_model.specs.declared.body.Region.{Region}
-use Rattle.program_model.specs.declared.limits.Counted.TheVariants.{Items}
 use Rattle.code_read.specs.declared.fault.CodeFault.{CodeFault}
 use Rattle.code_read.specs.declared.fault.CodeFault.TheVariants as code
 use Rattle.code_read.specs.declared.sizes.Sizes.{Sizes}
 use Rattle.code_read.specs.Code.{check_last, first_gap, first_outside, first_astray, placed, body, body_at, code_of}
-use Rattle.code_read.specs.Fault.{passed, refuse}
-use Rattle.code_read.specs.Handlers.{◌>?=◌, caught_at, has_list}
-use Rattle.code_read.specs.Regions.{with_handlers, region, region_of, region_at, try_at, try_item, first_of, end_of, lies_right, keep, regions_from, regions_of}
+use Rattle.code_read.specs.Fault.{refuse}
+use Rattle.code_read.specs.Marks.{is_handler}
+use Rattle.code_read.specs.Positions.{nowhere}
+use Rattle.code_read.specs.Regions.{regions_of}
 use Rattle.code_read.specs.Sweep.{sweep_of}
 use Rattle.code_read.specs.Decoded.{opcode_at, payload_of, entries_at, checked_at, fields_at}
 use Rattle.code_read.specs.Code.{size_at}
@@ -25,16 +22,19 @@ use Rattle.std.proofs.lemmas.Option.{get_or_from_slice_get, slice_get-get_or}
 use Rattle.std.proofs.lemmas.Bool.{eq-eqb}
 use Rattle.dex_defs.specs.Instructions.{opcode}
 use Rattle.dex_defs.specs.Sweep.{starts_of, Piece, Places, instructions, places_of}
-use Rattle.dex_defs.specs.CodeItems.{Frame}
-use Rattle.dex_defs.specs.CodeFaults.{HasUnits, BadSweep, BadInsn, BadCode}
+use Rattle.dex_defs.specs.CodeItems.{Frame, tries_at}
+use Rattle.dex_defs.specs.CodeFaults.{HasUnits, BadSweep, BadInsn, BadTry, IsHandlerAt, BadCode}
 use Rattle.dex_defs.specs.CodeFaults as bad
 use Rattle.code_laws.specs.Founds.{Founds}
 use Rattle.code_laws.proofs.Founding.{weaker, done, next}
-use Rattle.code_laws.proofs.Sweeping.{Swept, Instructed, founds_swept, are_instructed}
+use Rattle.code_laws.proofs.Sweeping.{Swept, Instructed, founds_swept, are_instructed, fewer}
 use Rattle.refused_law.proofs.Failing.{Fails, sound, fails_with, unless, fails_either, fails_next, fails_more}
 use Rattle.refused_code.proofs.Sweeping.{fails_pieces}
 use Rattle.refused_code.proofs.Flowing.{none_begins, are_apart, Sized, are_sized, continuing, gap_there}
 use Rattle.refused_code.proofs.Targeting.{bad_target}
+use Rattle.refused_code.proofs.Trying.{RisesFrom, they_rise, fails_regions}
+use Rattle.refused_code.proofs.Moving.{astray}
+use Rattle.refused_code.proofs.Handling.{is_handled, none_handled}
 use Rattle.code_laws.proofs.Decoding.{founds_right}
 use Rattle.code_read.specs.Checks.{targets_inside}
 use Rattle.code_read.specs.Payloads.{has_payload, is_right}
@@ -43,7 +43,7 @@ use Rattle.insn_set.specs.declared.form.Insn.TheVariants.{Nop}
 use Rattle.std.specs.List.{AllByRecursion}
 use Rattle.refused_code.proofs.Reading.{AreRead, founds_insns, read_kind, fails_entries_at, fails_checked, fails_payloads, fails_insns, one_of}
 
--- The fault stands in the code item, unless it is that of a limit or one that is open.
+-- The fault stands in the code item, unless it is that of a limit.
 abbrev pub IsJustCode : List ℕ → Sizes → ℕ → CodeFault → Type 0
 IsJustCode bytes sizes at code.NoMemory = ⊥
 IsJustCode bytes sizes at (code.Opcode unit) = BadCode bytes sizes at (code.Opcode unit)
@@ -51,10 +51,10 @@ IsJustCode bytes sizes at (code.Cut unit) = BadCode bytes sizes at (code.Cut uni
 IsJustCode bytes sizes at (code.Target unit) = BadCode bytes sizes at (code.Target unit)
 IsJustCode bytes sizes at (code.Payload unit) = BadCode bytes sizes at (code.Payload unit)
 IsJustCode bytes sizes at (code.Operand unit) = BadCode bytes sizes at (code.Operand unit)
-IsJustCode bytes sizes at (code.Region place) = Unit {0}
-IsJustCode bytes sizes at (code.Handler place) = Unit {0}
+IsJustCode bytes sizes at (code.Region place) = BadCode bytes sizes at (code.Region place)
+IsJustCode bytes sizes at (code.Handler place) = BadCode bytes sizes at (code.Handler place)
 IsJustCode bytes sizes at (code.FallsOff unit) = BadCode bytes sizes at (code.FallsOff unit)
-IsJustCode bytes sizes at (code.Misplaced unit) = Unit {0}
+IsJustCode bytes sizes at (code.Misplaced unit) = BadCode bytes sizes at (code.Misplaced unit)
 IsJustCode bytes sizes at (code.Limit limit) = Unit {0}
 
 none_some : {X : Type 0} {x : X} → None ≡ Some x → ⊥
@@ -77,7 +77,7 @@ fails_sweep : (units : List ℕ) → Fails (BadSweep units) (sweep_of units)
 unfolding sweep_of
 fails_sweep units = fails_next (fails_pieces units) (λ ps _. sound (places_of units ps))
 
-module _ (bytes : List ℕ) (at : ℕ) (f : Frame) (units : List ℕ) (has : HasUnits bytes at f units) (sizes : Sizes) where
+module _ (bytes : List ℕ) (at : ℕ) (f : Frame) (units : List ℕ) (has : HasUnits bytes at f units) (few : length units ≤ nowhere) (room : tries_at at f + 8 * f.tries ≤ length bytes) (sizes : Sizes) (many : sizes.tries ≡ f.tries) where
   abbrev Just : CodeFault → Type 0
   Just = IsJustCode bytes sizes at
 
@@ -85,52 +85,6 @@ module _ (bytes : List ℕ) (at : ℕ) (f : Frame) (units : List ℕ) (has : Has
   of_sweep e (bad.Opcode unit comes kind none is) = subst Just (sym is) (bad.InSweep f units has (bad.Opcode unit comes kind none refl))
   of_sweep e (bad.Cut unit size comes is cut same) = subst Just (sym same) (bad.InSweep f units has (bad.Cut unit size comes is cut refl))
   of_sweep e (bad.CutSize unit comes kind none is) = subst Just (sym is) (bad.InSweep f units has (bad.CutSize unit comes kind none refl))
-
-  -- ---- regions
-
-  fails_with_handlers : (place first end left : ℕ) (o : Option (List Handler × Option ℕ)) → Fails Just (with_handlers place first end left o)
-  fails_with_handlers place first end left None = fails_with (code.Handler place) tt
-  fails_with_handlers place first end left (Some caught) = unless (passed Items) (λ _. tt) (λ _. sound (Some (region first end caught.0 caught.1)))
-
-  fails_item : (lists : List ℕ) (types : ℕ) (places : Places) (place from left s c o : ℕ) → Fails Just (region_of lists types places place from left (Some (try_item s c o)))
-  fails_item lists types places place from left s c o =
-      let first : ℕ = first_of places (try_item s c o) in
-      let end : ℕ = end_of places (try_item s c o) in
-      let caught : Result (Option Region) CodeFault = with_handlers place first end left (caught_at lists places.starts types o) in
-      let listed : Result (Option Region) CodeFault = cond (has_list lists o) caught (Err (code.Handler place)) in
-      fails_either {b = ltb first end} {read = cond (lies_right places (try_item s c o) from) listed (Err (code.Region place))} {other = Ok None}
-      (λ _. unless {b = lies_right places (try_item s c o) from} {read = listed} (code.Region place) (λ _. tt)
-      (λ _. unless {b = has_list lists o} {read = caught} (code.Handler place) (λ _. tt) (λ _. fails_with_handlers place first end left (caught_at lists places.starts types o))))
-      (λ _. sound None)
-
-  fails_tried : (lists : List ℕ) (types : ℕ) (places : Places) (place from left : ℕ) (a b c : Option ℕ) → Fails Just (region_of lists types places place from left (a >?= λ start. b >?= λ count. c >?= λ offset. Some (try_item start count offset)))
-  fails_tried lists types places place from left None b c = fails_with (code.Region place) tt
-  fails_tried lists types places place from left (Some start) None c = fails_with (code.Region place) tt
-  fails_tried lists types places place from left (Some start) (Some count) None = fails_with (code.Region place) tt
-  fails_tried lists types places place from left (Some start) (Some count) (Some offset) = fails_item lists types places place from left start count offset
-
-  fails_region : (tries lists : List ℕ) (types : ℕ) (places : Places) (place from left : ℕ) → Fails Just (region_at tries lists types places place from left)
-  unfolding region_at try_at
-  fails_region tries lists types places place from left = fails_tried lists types places place from left (result_ok (u32_at tries (8 * place))) (result_ok (u16_at tries (8 * place + 4))) (result_ok (u16_at tries (8 * place + 6)))
-
-  fails_keep : (kept : Option Region) (more : ℕ → ℕ → Result (List Region) CodeFault) (from left : ℕ) → ((f l : ℕ) → Fails Just (more f l)) → Fails Just (keep kept more from left)
-  fails_keep None more from left h = h from left
-  fails_keep (Some r) more from left h = fails_next (h r.end _) (λ rs _. sound (r ∷ rs))
-
-  fails_regions_from : (tries lists : List ℕ) (types : ℕ) (places : Places) (n place from left : ℕ) → Fails Just (regions_from tries lists types places n place from left)
-  fails_regions_from tries lists types places zero place from left = sound []
-  fails_regions_from tries lists types places (suc n) place from left = fails_next (fails_region tries lists types places place from left)
-      (λ kept _. fails_keep kept (λ f l. regions_from tries lists types places n (suc place) f l) from left (λ f l. fails_regions_from tries lists types places n (suc place) f l))
-
-  fails_regions : (tries : List ℕ) (places : Places) → Fails Just (regions_of tries sizes places)
-  unfolding regions_of
-  fails_regions tries places = fails_regions_from tries (drop (8 * sizes.tries) tries) sizes.types places sizes.tries 0 0 sizes.items
-
-  -- ---- the body
-
-  fails_placed : (starts : List ℕ) (insns : List Insn) (read : Result (List Region) CodeFault) → Fails Just read → Fails Just (placed starts insns read)
-  fails_placed starts insns (Ok regions) h = fails_next (fails_refuse (λ k. code.Misplaced (slice_index starts k)) (first_astray insns regions true) (λ k _. tt)) (λ _ _. sound regions)
-  fails_placed starts insns (Err e) h = fails_next (fails_refuse (λ k. code.Misplaced (slice_index starts k)) (first_astray insns [] false) (λ k _. tt)) (λ _ _. fails_with e (h.fault e refl))
 
   module _ (ps : List Piece) (swept : Swept units 0 ps (length units)) where
     abbrev places : Places
@@ -149,6 +103,11 @@ module _ (bytes : List ℕ) (at : ℕ) (f : Frame) (units : List ℕ) (has : Has
     fails_operand : (k : ℕ) (p : Piece) → slice_get (instructions ps) k ≡ Some p → Fails Just (checked_at places sizes p.start)
     fails_operand k p there = let i = instructed_at k p there in fails_more (λ e h. subst Just (sym h.1)
         (of_insn (code.Operand p.start) (bad.Operand k p (fields_at units p.start) (record { is = there; fields = i.fields_are }) h.0 refl))) (fails_checked places p i sizes)
+
+    of_try : (e : CodeFault) → BadTry bytes at sizes.types f places e → Just e
+    of_try e (bad.Lies tries place t listed there covers wrong is) = subst Just (sym is) (bad.InTries f units ps has swept.to (bad.Lies tries place t listed there covers wrong refl))
+    of_try e (bad.Missing tries place t listed there covers none is) = subst Just (sym is) (bad.InTries f units ps has swept.to (bad.Missing tries place t listed there covers none refl))
+    of_try e (bad.Catch tries place t c listed there covers are wrong is) = subst Just (sym is) (bad.InTries f units ps has swept.to (bad.Catch tries place t c listed there covers are wrong refl))
 
     -- ---- what continues into none
 
@@ -173,16 +132,17 @@ module _ (bytes : List ℕ) (at : ℕ) (f : Frame) (units : List ℕ) (has : Has
       abbrev Right : Piece → Type 0
       Right p = has_payload (opcode_at units p.start) ≡ true → is_right (opcode_at units p.start) (payload_of places p.start (fields_at units p.start)) ≡ true
 
+      right_at : AllByRecursion Right insns_are → (k : ℕ) (p : Piece) → slice_get insns_are k ≡ Some p → has_payload (opcode p) ≡ true → is_right (opcode p) (payload_of places p.start (fields_at units p.start)) ≡ true
+      right_at right k p there = subst (λ (op : ℕ). has_payload op ≡ true → is_right op (payload_of places p.start (fields_at units p.start)) ≡ true) (instructed_at k p there).opcode_is (one_of Right insns_are k p right there)
+
       outside_at : AllByRecursion Right insns_are → (k : ℕ) (insn : Insn) → slice_get insns k ≡ Some insn → targets_inside (length insns) insn ≡ false → Just (code.Target (slice_index places.starts k))
       outside_at right k insn there untrue =
           let x = read.each k insn there in
           let p : Piece = x.0 in
           let i = instructed_at k p x.1 in
           let kind = read_kind places sizes p i insn x.2 in
-          let own : has_payload (opcode p) ≡ true → is_right (opcode p) (payload_of places p.start (fields_at units p.start)) ≡ true
-          = subst (λ (op : ℕ). has_payload op ≡ true → is_right op (payload_of places p.start (fields_at units p.start)) ≡ true) i.opcode_is (one_of Right insns_are k p right x.1) in
           let many : length insns ≡ length places.starts = read.many ∙ sym (map_long (λ (q : Piece). q.start) insns_are) in
-          let wrong = bad_target places p (fields_at units p.start) insn kind own (subst (λ (n : ℕ). targets_inside n insn ≡ false) many untrue) in
+          let wrong = bad_target places p (fields_at units p.start) insn kind (right_at right k p x.1) (subst (λ (n : ℕ). targets_inside n insn ≡ false) many untrue) in
           subst (λ (n : ℕ). BadCode bytes sizes at (code.Target n)) (sym (start_at k p x.1)) (of_insn (code.Target p.start) (bad.Target k p (fields_at units p.start) (record { is = x.1; fields = i.fields_are }) wrong refl))
 
       outside : AllByRecursion Right insns_are → (k : ℕ) → first_outside insns ≡ Some k → Just (code.Target (slice_index places.starts k))
@@ -223,18 +183,58 @@ module _ (bytes : List ℕ) (at : ℕ) (f : Frame) (units : List ℕ) (has : Has
       fails_last : Fails Just (check_last places.starts insns)
       fails_last = unless {b = ends (slice_get insns (length insns - 1))} (code.FallsOff (slice_index places.starts (length insns - 1))) (last (slice_get insns (length insns - 1)) refl) (λ _. sound tt)
 
-    fails_body : (tries : List ℕ) → Fails Just (body_at tries sizes places)
+      -- ---- regions and moves
+
+      rises : RisesFrom 0 places.starts
+      rises = they_rise 0 insns_are (are_apart units 0 ps (length units) swept.to)
+
+      abbrev all_regions : Result (List Region) CodeFault
+      all_regions = regions_of (drop (tries_at at f) bytes) sizes places
+
+      fails_tries : Fails Just all_regions
+      fails_tries = fails_regions bytes at sizes.types f places rises room Just of_try tt sizes many refl
+
+      long : length places.starts ≡ length insns_are
+      long = map_long (λ (q : Piece). q.start) insns_are
+
+      short : length places.starts ≤ nowhere
+      short = omega (arith, long, fewer ps, swept.few, few)
+
+      begins_at : (k : ℕ) (p : Piece) → slice_get insns_are k ≡ Some p → slice_get places.starts k ≡ Some p.start
+      begins_at k p there = got_map (λ (q : Piece). q.start) insns_are k p there
+
+      abbrev AreHere : List Region → Type 0
+      AreHere regions = (k : ℕ) (p : Piece) → slice_get insns_are k ≡ Some p → (is_handler regions k ≡ true → IsHandlerAt bytes at f places p.start) × (is_handler regions k ≡ false → IsHandlerAt bytes at f places p.start → ⊥)
+
+      misplaced : AllByRecursion Right insns_are → (regions : List Region) (known : Bool) → (known ≡ true → AreHere regions) → (k : ℕ) → first_astray insns regions known ≡ Some k → Just (code.Misplaced (slice_index places.starts k))
+      misplaced right regions known handled k g =
+          let a = astray bytes at f units ps short sizes insns read (read.many ∙ sym long) instructed_at (right_at right) regions known handled k g in
+          subst (λ (n : ℕ). BadCode bytes sizes at (code.Misplaced n)) (sym (start_at k a.0 a.1)) (bad.AtMove f units ps k a.0 has swept.to a.1 a.2 refl)
+
+      fails_placed : AllByRecursion Right insns_are → (result : Result (List Region) CodeFault) → all_regions ≡ result → Fails Just result → Fails Just (placed places.starts insns result)
+      fails_placed right (Ok regions) e h = fails_next (fails_refuse (λ k. code.Misplaced (slice_index places.starts k)) (first_astray insns regions true)
+          (misplaced right regions true (λ _ k p there. (is_handled bytes at f places rises sizes many regions e k p.start (begins_at k p there), none_handled bytes at f places rises sizes many regions e k p.start (begins_at k p there)))))
+          (λ _ _. sound regions)
+      fails_placed right (Err fault) e h = fails_next (fails_refuse (λ k. code.Misplaced (slice_index places.starts k)) (first_astray insns [] false) (misplaced right [] false (λ is. absurd (true≢false (sym is))))) (λ _ _. fails_with fault (h.fault fault refl))
+
+    abbrev tries : List ℕ
+    tries = drop (tries_at at f) bytes
+
+    fails_body : Fails Just (body_at tries sizes places)
     unfolding body_at
-    fails_body tries =
+    fails_body =
         fails_next (fails_payloads places tt 67108864 (instructions ps) fails_entry) (λ checked g. let right = (founds_right places 67108864 (instructions ps)).found checked g in
         fails_next (fails_insns places sizes (instructions ps) fails_operand) (λ insns h. let read = (founds_insns places sizes (instructions ps)).found insns h in
         fails_next (fails_refuse (λ k. code.Target (slice_index places.starts k)) (first_outside insns) (outside insns read right)) (λ inside _.
         fails_next (fails_next (fails_refuse (λ k. code.FallsOff (slice_index places.starts k)) (first_gap units places.starts insns) (gap insns read)) (λ _ _. fails_last insns read)) (λ flows _.
-        fails_next (fails_placed places.starts insns (regions_of tries sizes places) (fails_regions tries places)) (λ regions _. sound (body sizes insns regions))))))
+        fails_next (fails_placed insns read right (regions_of tries sizes places) refl (fails_tries insns read)) (λ regions _. sound (body sizes insns regions))))))
 
-  fails_body_at : (tries : List ℕ) (q : Places) → IsSweep units q → Fails Just (body_at tries sizes q)
-  fails_body_at tries q is = subst (λ (q : Places). Fails Just (body_at tries sizes q)) (sym is.is) (fails_body is.pieces is.swept tries)
+  abbrev pub its_tries : List ℕ
+  its_tries = drop (tries_at at f) bytes
 
-  pub fails_code : (tries : List ℕ) → Fails (IsJustCode bytes sizes at) (code_of units tries sizes)
+  fails_body_at : (q : Places) → IsSweep units q → Fails Just (body_at its_tries sizes q)
+  fails_body_at q is = subst (λ (q : Places). Fails Just (body_at its_tries sizes q)) (sym is.is) (fails_body is.pieces is.swept)
+
+  pub fails_code : Fails (IsJustCode bytes sizes at) (code_of units (drop (tries_at at f) bytes) sizes)
   unfolding code_of
-  fails_code tries = fails_next (fails_more of_sweep (fails_sweep units)) (λ places h. fails_next (fails_body_at tries places ((founds_sweep units).found places h)) (λ b _. sound (b, places.starts)))
+  fails_code = fails_next (fails_more of_sweep (fails_sweep units)) (λ places h. fails_next (fails_body_at places ((founds_sweep units).found places h)) (λ b _. sound (b, places.starts)))

@@ -27,7 +27,7 @@ use Rattle.code_laws.proofs.Insns.{IsKind, ACall, ABranch, ATable, APlain}
 use Rattle.spelled_law.proofs.Starts.{some_piece}
 use Rattle.refused_code.proofs.Reading.{either_true}
 
-unequal : (a b : ℕ) → (a ≡ b → ⊥) → eqb a b ≡ false
+pub unequal : (a b : ℕ) → (a ≡ b → ⊥) → eqb a b ≡ false
 unequal a b h = by_test (eqb a b) refl
   where
     by_test : (t : Bool) → eqb a b ≡ t → t ≡ false
@@ -174,7 +174,7 @@ module _ (places : Places) (start : ℕ) (f : Fields) (insn : Insn) where
 
 -- ---- places in lists
 
-numbered : (from : ℕ) (insns : List Insn) (k : ℕ) (x : ℕ × Insn) → slice_get (enumerate_from from insns) k ≡ Some x → (x.0 ≡ from + k) × (slice_get insns k ≡ Some x.1)
+pub numbered : (from : ℕ) (insns : List Insn) (k : ℕ) (x : ℕ × Insn) → slice_get (enumerate_from from insns) k ≡ Some x → (x.0 ≡ from + k) × (slice_get insns k ≡ Some x.1)
 numbered from [] k x h = absurd cc
 numbered from (i ∷ is) zero x h = let same : (from, i) ≡ x = some_same (from, i) x h in let on : from ≡ from + 0 = omega arith in (ap (λ (y : ℕ × Insn). y.0) (sym same) ∙ on, ap (λ (y : ℕ × Insn). Some y.1) same)
 numbered from (i ∷ is) (suc k) x h = let rest = numbered (from + 1) is k x h in let on : from + 1 + k ≡ from + suc k = omega arith in (rest.0 ∙ on, rest.1)

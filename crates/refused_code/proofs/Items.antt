@@ -1,5 +1,5 @@
 -- A fault of a method's code that is answered stands in the file.
-use Rattle.std.proofs.Common.{◌≡◌, ◌≤◌, ◌<◌, ℕ, zero, suc, ◌+◌, ◌-◌, ◌*◌, false, leb, eqb, List, [], length, take, drop, Result, Some, None, Option, Ok, refl, sym, subst, ◌∙◌, arith}
+use Rattle.std.proofs.Common.{◌≡◌, ◌≤◌, ◌<◌, ℕ, zero, suc, ◌+◌, ◌-◌, ◌*◌, ◌^◌, false, leb, eqb, List, [], length, take, drop, Result, Some, None, Option, Ok, refl, sym, subst, ◌∙◌, arith}
 use Rattle.std.specs.Int.{w16, from_le_bytes}
 use Rattle.dex_base.specs.Decides.{Each}
 use Rattle.dex_base.specs.Word.{Is16}
@@ -11,8 +11,10 @@ use Rattle.program_model.specs.declared.limits.Counted.TheVariants.{Cells, Items
 use Rattle.program_model.specs.declared.program.Program.{Program}
 use Rattle.code_read.specs.declared.fault.CodeFault.{CodeFault}
 use Rattle.code_read.specs.declared.fault.CodeFault.TheVariants as code
+use Rattle.code_read.specs.Code.{code_of}
+use Rattle.code_read.specs.Positions.{nowhere}
 use Rattle.dex_defs.specs.ClassFaults.{HasFault, AreSizes, BadCode, InBody}
-use Rattle.dex_defs.specs.CodeItems.{Frame, IsFrame}
+use Rattle.dex_defs.specs.CodeItems.{Frame, IsFrame, tries_at}
 use Rattle.dex_defs.specs.CodeFaults.{HasUnits, BadCode as BadItem}
 use Rattle.dex_defs.specs.Parts as parts
 use Rattle.dex_defs.specs.Places.{HasEntry, HasFrame, Leads}
@@ -38,15 +40,7 @@ use Rattle.refused_law.specs.Just.{IsJust}
 use Rattle.refused_law.proofs.Failing.{Fails, sound, stands, unless, fails_either, fails_next, fails_lifted, fails_more, fails_each}
 use Rattle.refused_law.proofs.Headers.{fails_word, fails_need}
 use Rattle.refused_law.proofs.ValueFaults as values
-use Rattle.refused_code.specs.Just.{is_open}
 use Rattle.refused_code.proofs.Bodies.{IsJustCode, fails_code}
-
--- the fault stands there, unless it is one that is open
-abbrev pub IsJustBut : List ℕ → DexFault → Type 0
-IsJustBut bytes e = is_open e ≡ false → IsJust bytes e
-
-pub closed : {Y : Type 0} {bytes : List ℕ} {read : Result Y DexFault} → Fails (IsJust bytes) read → Fails (IsJustBut bytes) read
-closed d = fails_more (λ e h _. h) d
 
 -- a frame that isn't that of its method stands so
 abbrev pub Frames : List ℕ → Program → ℕ → Listed → Type 0
@@ -60,7 +54,12 @@ positive (suc n) e = omega arith
 fails_half : (bytes : List ℕ) (at : ℕ) → at + 2 ≤ length bytes → {Has : DexFault → Type 0} → Fails Has (half_at bytes at)
 fails_half bytes at inside = stands (half_at bytes at) (finds_half bytes at) (from_le_bytes w16 (take 2 (drop at bytes))) (record { inside = inside; spelled = refl })
 
-founds_room : (bytes : List ℕ) (at : ℕ) → Founds (λ item. item.units_at + 2 * item.size ≤ length bytes) (item_at bytes at)
+-- the units and the try items lie in the file
+record HasRoom (bytes : List ℕ) (item : CodeItem) : Type 0 where
+  units : item.units_at + 2 * item.size ≤ length bytes
+  tries : item.tries_at + 8 * item.tries ≤ length bytes
+
+founds_room : (bytes : List ℕ) (at : ℕ) → Founds (HasRoom bytes) (item_at bytes at)
 unfolding item_at
 founds_room bytes at = weaker (item_at bytes at)
     (next (whatever (need_at bytes at 16)) (λ begins _.
@@ -70,13 +69,16 @@ founds_room bytes at = weaker (item_at bytes at)
     next (whatever (word_at bytes (at + 8))) (λ debug _.
     next (whatever (word_at bytes (at + 12))) (λ size _.
     next (known (finds_need bytes at _)) (λ whole _. done _))))))))
-    (λ y q. let size = q.2.2.2.2.2 in let whole = size.2 in
-    subst (λ (item : CodeItem). item.units_at + 2 * item.size ≤ length bytes) (sym whole.2) (inside at size.0 _ _ (length bytes) whole.1))
+    (λ y q. let tries = q.2.2.2 in let size = tries.2.2 in let whole = size.2 in
+    subst (HasRoom bytes) (sym whole.2) (record { units = units_inside at size.0 _ tries.0 (length bytes) whole.1; tries = tries_inside at size.0 _ tries.0 (length bytes) whole.1 }))
   where
-    inside : (at size gap tries all : ℕ) → at + (16 + 2 * size + gap + 8 * tries) ≤ all → at + 16 + 2 * size ≤ all
-    inside at size gap tries all h = omega (arith, h)
+    units_inside : (at size skip tries all : ℕ) → at + (16 + 2 * size + skip + 8 * tries) ≤ all → at + 16 + 2 * size ≤ all
+    units_inside at size skip tries all h = omega (arith, h)
 
-module _ (bytes : List ℕ) (p : Program) (are : values.AreSizes bytes (sizes_in p)) (class which place : ℕ) (method : 2 ≤ which) (e : Listed) (has : HasEntry bytes class which place (entry_of e)) (some : 0 < e.code) (frames : Frames bytes p class e) where
+    tries_inside : (at size skip tries all : ℕ) → at + (16 + 2 * size + skip + 8 * tries) ≤ all → at + (16 + 2 * size + skip) + 8 * tries ≤ all
+    tries_inside at size skip tries all h = omega (arith, h)
+
+module _ (bytes : List ℕ) (few : length bytes < 2 ^ 32) (p : Program) (are : values.AreSizes bytes (sizes_in p)) (class which place : ℕ) (method : 2 ≤ which) (e : Listed) (has : HasEntry bytes class which place (entry_of e)) (some : 0 < e.code) (frames : Frames bytes p class e) where
   leads : Leads (entry_of e).code e.code
   leads = (some, refl)
 
@@ -122,8 +124,8 @@ module _ (bytes : List ℕ) (p : Program) (are : values.AreSizes bytes (sizes_in
         tries_at = e.code + (16 + 2 * size + gap tries size);
       }))))))))
 
-  -- the units stand there
-  room : (item : CodeItem) → item_at bytes e.code ≡ Ok item → item.units_at + 2 * item.size ≤ length bytes
+  -- the units and the try items stand there
+  room : (item : CodeItem) → item_at bytes e.code ≡ Ok item → HasRoom bytes item
   room item h = (founds_room bytes e.code).found item h
 
   fails_units : (item : CodeItem) → item.units_at + 2 * item.size ≤ length bytes → {Has : DexFault → Type 0} → Fails Has (units_at bytes item.units_at item.size)
@@ -143,51 +145,63 @@ module _ (bytes : List ℕ) (p : Program) (are : values.AreSizes bytes (sizes_in
     stands_so : (fault : CodeFault) → BadItem bytes (sizes_for p item left) e.code fault → HasFault bytes (parts.Code e.number fault)
     stands_so fault h = BadCode (InBody class e.code (entry_of e) is.frame (sizes_for p item left) fault (has_frame is.frame is.is) sizes_stand h refl)
 
-    of_code_just : (fault : CodeFault) → IsJustCode bytes (sizes_for p item left) e.code fault → IsJustBut bytes (of_code e.number fault)
+    of_code_just : (fault : CodeFault) → IsJustCode bytes (sizes_for p item left) e.code fault → IsJust bytes (of_code e.number fault)
     of_code_just code.NoMemory h = absurd h
-    of_code_just (code.Opcode unit) h = λ _. stands_so (code.Opcode unit) h
-    of_code_just (code.Cut unit) h = λ _. stands_so (code.Cut unit) h
-    of_code_just (code.Target unit) h = λ _. stands_so (code.Target unit) h
-    of_code_just (code.Payload unit) h = λ _. stands_so (code.Payload unit) h
-    of_code_just (code.Operand unit) h = λ _. stands_so (code.Operand unit) h
-    of_code_just (code.Region unit) h = λ opened. absurd cc
-    of_code_just (code.Handler unit) h = λ opened. absurd cc
-    of_code_just (code.FallsOff unit) h = λ _. stands_so (code.FallsOff unit) h
-    of_code_just (code.Misplaced unit) h = λ opened. absurd cc
-    of_code_just (code.Limit limit) h = λ _. tt
+    of_code_just (code.Opcode unit) h = stands_so (code.Opcode unit) h
+    of_code_just (code.Cut unit) h = stands_so (code.Cut unit) h
+    of_code_just (code.Target unit) h = stands_so (code.Target unit) h
+    of_code_just (code.Payload unit) h = stands_so (code.Payload unit) h
+    of_code_just (code.Operand unit) h = stands_so (code.Operand unit) h
+    of_code_just (code.Region place) h = stands_so (code.Region place) h
+    of_code_just (code.Handler place) h = stands_so (code.Handler place) h
+    of_code_just (code.FallsOff unit) h = stands_so (code.FallsOff unit) h
+    of_code_just (code.Misplaced unit) h = stands_so (code.Misplaced unit) h
+    of_code_just (code.Limit limit) h = tt
 
     has_units : (units : List ℕ) → (length units ≡ item.size) × Each (λ i unit. Is16 bytes (item.units_at + 2 * i) unit) 0 units → HasUnits bytes e.code is.frame units
     has_units units h = record { frame = is.is; many = h.0 ∙ is.size; are = subst (λ n. Each (λ i unit. Is16 bytes (n + 2 * i) unit) 0 units) is.units_at h.1 }
 
-    fails_body : item.units_at + 2 * item.size ≤ length bytes → Fails (IsJustBut bytes) (body_at bytes p e.number item left)
+    -- its try items, as the definition places them
+    tries_there : HasRoom bytes item → tries_at e.code is.frame + 8 * is.frame.tries ≤ length bytes
+    tries_there h = let inside = h.tries in omega (arith, inside, is.tries_begin, is.tries)
+
+    fails_units_code : HasRoom bytes item → (units : List ℕ) → (length units ≡ item.size) × Each (λ i unit. Is16 bytes (item.units_at + 2 * i) unit) 0 units
+        → Fails (IsJustCode bytes (sizes_for p item left) e.code) (code_of units (drop item.tries_at bytes) (sizes_for p item left))
+    fails_units_code h units g =
+        let inside = h.units in
+        let short : length units ≤ nowhere = omega (arith, g.0, inside, few) in
+        subst (λ (n : ℕ). Fails (IsJustCode bytes (sizes_for p item left) e.code) (code_of units (drop n bytes) (sizes_for p item left))) (sym is.tries_begin)
+        (fails_code bytes e.code is.frame units (has_units units g) short (tries_there h) (sizes_for p item left) is.tries)
+
+    fails_body : HasRoom bytes item → Fails (IsJust bytes) (body_at bytes p e.number item left)
     unfolding body_at
-    fails_body inside = fails_next (fails_units item inside) (λ units h. fails_lifted (of_code e.number) (fails_more of_code_just
-        (fails_code bytes e.code is.frame units (has_units units ((founds_units item.units_at item.size).found units h)) (sizes_for p item left) (drop item.tries_at bytes))))
+    fails_body h = fails_next (fails_units item h.units) (λ units g. fails_lifted (of_code e.number) (fails_more of_code_just
+        (fails_units_code h units ((founds_units item.units_at item.size).found units g))))
 
   -- ---- the method
 
-  fails_counted : (left : ℕ) (read : Option (List ℕ) × ℕ) → Fails (IsJustBut bytes) (counted_lines left read)
-  fails_counted left read = unless {b = leb read.1 left} (past Items) (λ _ _. tt) (λ _. sound (kept_lines read.0, left - read.1))
+  fails_counted : (left : ℕ) (read : Option (List ℕ) × ℕ) → Fails (IsJust bytes) (counted_lines left read)
+  fails_counted left read = unless {b = leb read.1 left} (past Items) (λ _. tt) (λ _. sound (kept_lines read.0, left - read.1))
 
-  fails_lined : (debug : ℕ) (starts : List ℕ) (left : ℕ) → Fails (IsJustBut bytes) (lined_at bytes debug starts left)
+  fails_lined : (debug : ℕ) (starts : List ℕ) (left : ℕ) → Fails (IsJust bytes) (lined_at bytes debug starts left)
   unfolding lined_at
   fails_lined debug starts left = fails_either {b = eqb debug 0} {other = counted_lines left (lines_at bytes debug starts left)} (λ _. sound ([], left)) (λ _. fails_counted left (lines_at bytes debug starts left))
 
-  fails_cells : (body : Body) (cells : ℕ) → Fails (IsJustBut bytes) (cells_with body cells)
+  fails_cells : (body : Body) (cells : ℕ) → Fails (IsJust bytes) (cells_with body cells)
   unfolding cells_with
-  fails_cells body cells = unless (past Cells) (λ _ _. tt) (λ _. sound (cells + body_cells body))
+  fails_cells body cells = unless (past Cells) (λ _. tt) (λ _. sound (cells + body_cells body))
 
-  fails_frame : (item : CodeItem) → IsReadItem bytes e.code item → Fails (IsJustBut bytes) (frame_at p e item)
-  fails_frame item is = closed (frames item is.frame (has_frame is.frame is.is) is.registers is.ins)
+  fails_frame : (item : CodeItem) → IsReadItem bytes e.code item → Fails (IsJust bytes) (frame_at p e item)
+  fails_frame item is = frames item is.frame (has_frame is.frame is.is) is.registers is.ins
 
-  fails_coded : (left : Budget) → Fails (IsJustBut bytes) (coded_at bytes p e left)
+  fails_coded : (left : Budget) → Fails (IsJust bytes) (coded_at bytes p e left)
   unfolding coded_at
   fails_coded left =
-      fails_next (closed fails_item) (λ item h. let is = (founds_frame bytes e.code).found item h in
+      fails_next fails_item (λ item h. let is = (founds_frame bytes e.code).found item h in
       fails_next (fails_frame item is) (λ frame _.
       fails_next (fails_body item is left.items (room item h)) (λ body _.
       fails_next (fails_lined item.debug body.1 (left.items - body_items (Some body.0))) (λ lines _.
       fails_next (fails_cells body.0 left.cells) (λ cells _. sound (method_with e (Some body.0) lines.0, record { items = lines.1; cells = cells }))))))
 
-pub fails_method : (bytes : List ℕ) (p : Program) (are : values.AreSizes bytes (sizes_in p)) (class which place : ℕ) (method : 2 ≤ which) (e : Listed) (has : HasEntry bytes class which place (entry_of e)) (frames : Frames bytes p class e) (left : Budget) → Fails (IsJustBut bytes) (method_at bytes p e left)
-fails_method bytes p are class which place method e has frames left = fails_either (λ _. sound (method_with e None [], left)) (λ some. fails_coded bytes p are class which place method e has (positive e.code some) frames left)
+pub fails_method : (bytes : List ℕ) (few : length bytes < 2 ^ 32) (p : Program) (are : values.AreSizes bytes (sizes_in p)) (class which place : ℕ) (method : 2 ≤ which) (e : Listed) (has : HasEntry bytes class which place (entry_of e)) (frames : Frames bytes p class e) (left : Budget) → Fails (IsJust bytes) (method_at bytes p e left)
+fails_method bytes few p are class which place method e has frames left = fails_either (λ _. sound (method_with e None [], left)) (λ some. fails_coded bytes few p are class which place method e has (positive e.code some) frames left)

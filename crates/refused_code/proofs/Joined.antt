@@ -48,7 +48,7 @@ use Rattle.refused_law.proofs.ReadFirsts.{fails_its_firsts}
 use Rattle.refused_law.proofs.Whole.{fails_head}
 use Rattle.refused_law.specs.Just.{IsJust}
 use Rattle.refused_code.proofs.Frames.{fails_frame_at}
-use Rattle.refused_code.proofs.Items.{IsJustBut, Frames, closed, fails_method}
+use Rattle.refused_code.proofs.Items.{Frames, fails_method}
 
 positive : (n : ℕ) → eqb n 0 ≡ false → 0 < n
 positive zero e = absurd cc
@@ -99,8 +99,8 @@ module _ (bytes : List ℕ) (are : AreBytes bytes) (p : Program) (left : ℕ) (h
     abbrev owner : Owner
     owner = record { place = place; kind = d.class }
 
-    fails_listed : Fails (IsJustBut bytes) (classes.listed_at bytes p owner d.data_at)
-    fails_listed = fails_either (λ _. sound no_members) (λ some. closed (fails_its_members bytes are p left head table stands place less d h (positive d.data_at some)))
+    fails_listed : Fails (IsJust bytes) (classes.listed_at bytes p owner d.data_at)
+    fails_listed = fails_either (λ _. sound no_members) (λ some. fails_its_members bytes are p left head table stands place less d h (positive d.data_at some))
 
     module _ (m : Members) (g : classes.listed_at bytes p owner d.data_at ≡ Ok m) where
       listed : AreListed bytes p owner d.data_at m
@@ -162,14 +162,14 @@ module _ (bytes : List ℕ) (are : AreBytes bytes) (p : Program) (left : ℕ) (h
           let own : e.number < length t.pools.methods = subst (λ (x : Program). e.number < length x.methods) t.is less in
           subst (λ (x : Program). Fails (IsJust bytes) (frame_at x e item)) (sym t.is) (fails_frame_at bytes version t.pools t.spelled place e item f is registers ins own)
 
-      fails_methods : (budget : Budget) → Fails (IsJustBut bytes) (methods_of bytes p m budget)
+      fails_methods : (budget : Budget) → Fails (IsJust bytes) (methods_of bytes p m budget)
       unfolding methods_of
       fails_methods budget = fails_for_each (method_at bytes p) (m.directs ++ m.virtuals) budget (λ k e b there. let x = by_data d.data_at refl listed.data_is k e there in
-          fails_method bytes p (sizes_are bytes are p left head) place x.0 x.1 x.2 e x.4 (frames e x.3) b)
+          fails_method bytes few p (sizes_are bytes are p left head) place x.0 x.1 x.2 e x.4 (frames e x.3) b)
 
-      fails_marked : (fields : List Field) (methods : List Method) (behind : ℕ) → Fails (IsJustBut bytes) (marked_at bytes p place m d.annotations fields methods behind)
+      fails_marked : (fields : List Field) (methods : List Method) (behind : ℕ) → Fails (IsJust bytes) (marked_at bytes p place m d.annotations fields methods behind)
       unfolding marked_at
-      fails_marked fields methods behind = fails_either (λ _. sound (record { marks = []; fields = fields; methods = methods; left = behind })) (λ some. closed (fails_its_directory bytes are p left head table stands place less d h m g (positive d.annotations some) fields methods behind))
+      fails_marked fields methods behind = fails_either (λ _. sound (record { marks = []; fields = fields; methods = methods; left = behind })) (λ some. fails_its_directory bytes are p left head table stands place less d h m g (positive d.annotations some) fields methods behind)
 
       abbrev plain : List Field
       plain = map field_with (m.statics ++ m.instances)
@@ -182,31 +182,31 @@ module _ (bytes : List ℕ) (are : AreBytes bytes) (p : Program) (left : ℕ) (h
           = (founds_marked bytes p place m plain methods.0 (map_long field_with (m.statics ++ m.instances)) (along_beside (IsMade bytes p) (m.directs ++ m.virtuals) methods.0 made) listed.fields_differ listed.methods_differ d.annotations methods.1.items).found marked h6 in
           names_kept bytes p is.directory.fields (m.statics ++ m.instances) marked.fields is.fields_are
 
-  fails_class : (budget : Budget) → Fails (IsJustBut bytes) (class_at bytes p at place budget)
+  fails_class : (budget : Budget) → Fails (IsJust bytes) (class_at bytes p at place budget)
   unfolding class_at
   fails_class budget =
-      fails_next (closed (fails_class_def bytes are p left head table stands place less)) (λ d h.
-      fails_next (closed (fails_its_interfaces bytes are p left head table stands place less d budget.items h)) (λ interfaces h2.
-      fails_next (closed (fails_its_root bytes are p left head table stands place less d interfaces.0 budget.items interfaces.1 h h2)) (λ root _.
+      fails_next (fails_class_def bytes are p left head table stands place less) (λ d h.
+      fails_next (fails_its_interfaces bytes are p left head table stands place less d budget.items h) (λ interfaces h2.
+      fails_next (fails_its_root bytes are p left head table stands place less d interfaces.0 budget.items interfaces.1 h h2) (λ root _.
       fails_next (fails_listed d h) (λ m g.
       fails_next (fails_methods d h m g (record { items = interfaces.1; cells = budget.cells })) (λ methods h5.
       fails_next (fails_marked d h m g (plain d h m g) methods.0 methods.1.items) (λ marked h6.
-      fails_next (closed (fails_its_firsts bytes are p left head table stands place less d h m g marked.fields marked.left (named d h m g (record { items = interfaces.1; cells = budget.cells }) methods h5 marked h6))) (λ fields _.
+      fails_next (fails_its_firsts bytes are p left head table stands place less d h m g marked.fields marked.left (named d h m g (record { items = interfaces.1; cells = budget.cells }) methods h5 marked h6)) (λ fields _.
       sound (class_with d interfaces.0 marked fields.0, record { items = fields.1; cells = methods.1.cells }))))))))
 
 -- ---- the file
 
 module _ (bytes : List ℕ) (are : AreBytes bytes) where
   module _ (p : Program) (left : ℕ) (head : head_at bytes ≡ Ok (p, left)) where
-    fails_table : (count offset : ℕ) → Is32 bytes 96 count → Is32 bytes 100 offset → (budget : Budget) → Fails (IsJustBut bytes) (table_at bytes p count offset budget)
+    fails_table : (count offset : ℕ) → Is32 bytes 96 count → Is32 bytes 100 offset → (budget : Budget) → Fails (IsJust bytes) (table_at bytes p count offset budget)
     unfolding table_at
     fails_table count offset size begins budget = fails_either (λ _. sound ([], budget)) (λ some.
-        fails_next (closed (fails_class_table bytes count offset size begins (positive count some))) (λ u h.
+        fails_next (fails_class_table bytes count offset size begins (positive count some)) (λ u h.
         let inside : offset + 32 * count ≤ length bytes = (finds_need bytes offset (32 * count)).found u h in
         let table : Extent = record { size = count; offset = offset } in
         fails_run (class_in bytes p offset) 0 count budget (λ i b less. fails_class bytes are p left head table (record { size = size; offset = begins; inside = λ _. inside }) i (let low : i < count = omega (arith, less) in low) b)))
 
-    fails_classes : (budget : Budget) → Fails (IsJustBut bytes) (classes_at bytes p budget)
+    fails_classes : (budget : Budget) → Fails (IsJust bytes) (classes_at bytes p budget)
     unfolding classes_at
     fails_classes budget =
         let whole : 112 ≤ length bytes = ((finds_head bytes).found (p, left) head).header.header.whole in
@@ -214,9 +214,9 @@ module _ (bytes : List ℕ) (are : AreBytes bytes) where
         fails_next (fails_word bytes 100 (omega (arith, whole))) (λ offset h1.
         fails_next (fails_table count offset ((finds_word bytes 96).found count h0) ((finds_word bytes 100).found offset h1) budget) (λ classes _. sound classes.0)))
 
-  pub fails_program : Fails (IsJustBut bytes) (program_at bytes)
+  pub fails_program : Fails (IsJust bytes) (program_at bytes)
   unfolding program_at
   fails_program =
-      fails_next (closed (fails_head bytes)) (λ tables h.
+      fails_next (fails_head bytes) (λ tables h.
       fails_next (fails_classes tables.0 tables.1 h (record { items = tables.1; cells = 0 })) (λ classes g.
-      fails_next (closed (fails_stands bytes are tables.0 tables.1 h classes (record { items = tables.1; cells = 0 }) g)) (λ stands _. sound (record tables.0 { classes = classes }))))
+      fails_next (fails_stands bytes are tables.0 tables.1 h classes (record { items = tables.1; cells = 0 }) g) (λ stands _. sound (record tables.0 { classes = classes }))))

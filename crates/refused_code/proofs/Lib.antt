@@ -2,7 +2,12 @@ pub mod Sweeping
 pub mod Reading
 pub mod Flowing
 pub mod Targeting
+pub mod Caught
+pub mod Trying
+pub mod Moving
+pub mod Handling
 pub mod Bodies
 pub mod Frames
 pub mod Items
 pub mod Joined
+pub mod Faultless

@@ -235,7 +235,7 @@ founds_insns places sizes (p ∷ ps) = weaker (insns_from places sizes (starts_o
     (next (exact (checked_at places sizes p.start)) (λ insn _. next (founds_insns places sizes ps) (λ insns _. done (insn ∷ insns))))
     (λ y q. subst (AreRead places sizes (p ∷ ps)) (sym q.2.2) (more_read places sizes p ps q.0 q.2.0 q.1 q.2.1))
 
-founds_checked : (places : Places) (sizes : Sizes) (p : Piece) → Founds (λ insn. insn_at places p.start ≡ Ok insn) (checked_at places sizes p.start)
+pub founds_checked : (places : Places) (sizes : Sizes) (p : Piece) → Founds (λ insn. insn_at places p.start ≡ Ok insn) (checked_at places sizes p.start)
 unfolding checked_at
 founds_checked places sizes p = weaker (checked_at places sizes p.start) (next (exact (insn_at places p.start)) (λ insn _. when (code.Operand p.start) (done insn)))
     (λ y q. subst (λ (i : Insn). insn_at places p.start ≡ Ok i) (sym q.2.1) q.1)

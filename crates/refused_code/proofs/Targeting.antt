@@ -31,7 +31,7 @@ use Rattle.refused_code.proofs.Reading.{IsTable, is_table}
 
 -- ---- a unit at which a position begins is found
 
-found_first : (p : ℕ → Bool) (xs : List ℕ) (k x : ℕ) → slice_get xs k ≡ Some x → p x ≡ true → prefix_len (λ y. not (p y)) xs < length xs
+pub found_first : (p : ℕ → Bool) (xs : List ℕ) (k x : ℕ) → slice_get xs k ≡ Some x → p x ≡ true → prefix_len (λ y. not (p y)) xs < length xs
 found_first p [] k x there h = absurd cc
 found_first p (y ∷ ys) zero x there h =
     let here : p y ≡ true = ap p (some_same y x there) ∙ h in
@@ -80,12 +80,12 @@ field_none op f = two (from_to op 0x52 0x58) _ _ refl (two (from_to op 0x59 0x5f
 operation_none : (op : ℕ) (f : Fields) → targets_of (operation_form op f) ≡ []
 operation_none op f = two (from_to op 0x7b 0x8f) _ _ refl (two (from_to op 0x90 0xaf) _ _ refl (two (from_to op 0xb0 0xcf) _ _ refl (two (from_to op 0xd0 0xd7) _ _ refl refl)))
 
-plain_none : (op : ℕ) (f : Fields) → targets_of (plain op f) ≡ []
+pub plain_none : (op : ℕ) (f : Fields) → targets_of (plain op f) ≡ []
 unfolding plain
 plain_none op f = two (ltb op 0x12) _ _ (move_none op f) (two (ltb op 0x16) _ _ (const_none op f) (two (ltb op 0x1a) _ _ (wide_none op f) (two (ltb op 0x28) _ _ (object_none op f)
     (two (ltb op 0x52) _ _ (array_none op f) (two (ltb op 0x6e) _ _ (field_none op f) (operation_none op f))))))
 
-call_none : (op : ℕ) (f : Fields) → targets_of (c.call_form op f) ≡ []
+pub call_none : (op : ℕ) (f : Fields) → targets_of (c.call_form op f) ≡ []
 call_none op f = two (from_to op 0x24 0x25) _ _ refl (two (c.is_range op) _ _ refl refl)
 
 none_outside : {A : Type 0} (n : ℕ) (insn : Insn) → targets_of insn ≡ [] → targets_inside n insn ≡ false → A
@@ -114,28 +114,30 @@ module _ (places : Places) (p : Piece) (f : Fields) where
   abbrev n : ℕ
   n = length places.starts
 
-  abbrev payload : List ℕ
+  abbrev pub payload : List ℕ
   payload = payload_of places p.start f
 
-  abbrev goal : ℤ → ℕ
+  abbrev pub goal : ℤ → ℕ
   goal z = target_from places.starts p.start z
 
-  size_there : (h : Found places p.start f payload) → slice_index payload 1 ≡ slice_index places.units (h.unit + 1)
+  pub size_there : (h : Found places p.start f payload) → slice_index payload 1 ≡ slice_index places.units (h.unit + 1)
   size_there h = ap (λ (us : List ℕ). slice_index us 1) h.units ∙ at_drop places.units h.unit 1
+
+  pub offset_is : (h : Found places p.start f payload) (skip : ℕ) → h.unit + skip ≡ offsets_at places p h.unit → (i : ℕ) → signed_in (drop (2 * i) (drop skip payload)) ≡ d.signed_at places.units (offsets_at places p h.unit + 2 * i)
+  offset_is h skip same i = ap (λ (us : List ℕ). signed_in (drop (2 * i) us)) (ap (λ (us : List ℕ). drop skip us) h.units ∙ drop-drop skip h.unit places.units ∙ ap (λ (j : ℕ). drop j places.units) same)
+      ∙ ap (λ (us : List ℕ). signed_in us) (drop-drop (2 * i) (offsets_at places p h.unit) places.units) ∙ signed_there places.units (offsets_at places p h.unit + 2 * i)
 
   switch : (h : Found places p.start f payload) → d.IsPayloadOf places p.start f (bad.kind_for (d.opcode p)) h.unit → from_to (d.opcode p) 0x2b 0x2c ≡ true → (skip : ℕ) → h.unit + skip ≡ offsets_at places p h.unit
       → list_all (λ t. ltb t n) (targets_in goal (slice_index payload 1) (drop skip payload)) ≡ false → BadTarget places p f
   switch h is op skip same fails =
       let t = targets_fail goal n (slice_index payload 1) (drop skip payload) fails in
-      let offset : signed_in (drop (2 * t.k) (drop skip payload)) ≡ d.signed_at places.units (offsets_at places p h.unit + 2 * t.k)
-      = ap (λ (us : List ℕ). signed_in (drop (2 * t.k) us)) (ap (λ (us : List ℕ). drop skip us) h.units ∙ drop-drop skip h.unit places.units ∙ ap (λ (j : ℕ). drop j places.units) same)
-      ∙ ap (λ (us : List ℕ). signed_in us) (drop-drop (2 * t.k) (offsets_at places p h.unit) places.units) ∙ signed_there places.units (offsets_at places p h.unit + 2 * t.k) in
+      let offset = offset_is h skip same t.k in
       bad.Switch h.unit t.k op is (subst (λ (j : ℕ). t.k < j) (size_there h) t.inside) (not_there places p.start (d.signed_at places.units (offsets_at places p h.unit + 2 * t.k)) (ap (λ (z : ℤ). ltb (goal z) n) (sym offset) ∙ t.fails))
 
-  offset_packed : d.opcode p ≡ 0x2b → (unit : ℕ) → unit + 4 ≡ offsets_at places p unit
+  pub offset_packed : d.opcode p ≡ 0x2b → (unit : ℕ) → unit + 4 ≡ offsets_at places p unit
   offset_packed op unit = subst (λ (o : ℕ). unit + 4 ≡ (elim (eqb o 0x2b) [ true ↦ unit + 4 | false ↦ unit + 2 + 2 * slice_index places.units (unit + 1) ])) (sym op) refl
 
-  offset_sparse : d.opcode p ≡ 0x2c → (unit : ℕ) → unit + 2 + 2 * slice_index places.units (unit + 1) ≡ offsets_at places p unit
+  pub offset_sparse : d.opcode p ≡ 0x2c → (unit : ℕ) → unit + 2 + 2 * slice_index places.units (unit + 1) ≡ offsets_at places p unit
   offset_sparse op unit = subst (λ (o : ℕ). unit + 2 + 2 * slice_index places.units (unit + 1) ≡ (elim (eqb o 0x2b) [ true ↦ unit + 4 | false ↦ unit + 2 + 2 * slice_index places.units (unit + 1) ])) (sym op) refl
 
   by_table : IsTable (d.opcode p) → is_right (d.opcode p) payload ≡ true → targets_inside n (table_form (d.opcode p) f.a goal payload) ≡ false → BadTarget places p f

@@ -1,1 +1,1 @@
-pub mod Just
+pub mod Faultless

@@ -21,13 +21,18 @@ IsJustPool bytes (pool.Deep at) = HasFault bytes (Deep at)
 IsJustPool bytes (pool.Shorty at) = HasFault bytes (Shorty at)
 IsJustPool bytes (pool.Limit limit) = Unit {0}
 
+-- the same of one that is handed on as a fault of a part, which that of a limit never is
+abbrev pub IsJustPart : List ℕ → PoolFault → Type 0
+IsJustPart bytes (pool.Limit limit) = ⊥
+IsJustPart bytes fault = IsJustPool bytes fault
+
 abbrev pub IsJust : List ℕ → DexFault → Type 0
 IsJust bytes dex.NoMemory = ⊥
 IsJust bytes (dex.Short at) = HasFault bytes (Short at)
 IsJust bytes dex.Magic = HasFault bytes Magic
 IsJust bytes (dex.Header at) = HasFault bytes (Header at)
 IsJust bytes (dex.Checksum stored computed) = HasFault bytes (Checksum stored computed)
-IsJust bytes (dex.Pool fault) = IsJustPool bytes fault
+IsJust bytes (dex.Pool fault) = IsJustPart bytes fault
 IsJust bytes (dex.Code method fault) = HasFault bytes (Code method fault)
 IsJust bytes (dex.Member class place) = HasFault bytes (Member class place)
 IsJust bytes (dex.Root class) = HasFault bytes (Root class)

@@ -267,7 +267,7 @@ rest_at_once bytes (negsuc n) at at' r s stop end same a b = a.2 ∙ ap (λ (n :
 abbrev catches_made : List (ℕ × ℕ) → Option ℕ → Catches
 catches_made pairs rest = record { pairs = pairs; rest = rest }
 
-catches_once : (bytes : List ℕ) (at : ℕ) (c d : Catches) (stop end : ℕ) → AreCatches bytes at (c, stop) → AreCatches bytes at (d, end) → c ≡ d
+pub catches_once : (bytes : List ℕ) (at : ℕ) (c d : Catches) (stop end : ℕ) → AreCatches bytes at (c, stop) → AreCatches bytes at (d, end) → c ≡ d
 catches_once bytes at c d stop end a b =
     let size : with a.size a.begin ≡ with b.size b.begin = once_sleb bytes at (a.size, a.begin) (b.size, b.begin) a.is_size b.is_size in
     let same : a.size ≡ b.size = ap (λ (r : ℤ × ℕ). r.0) size in
@@ -289,7 +289,7 @@ regions_once bytes places up lists types (t ∷ ts) (x ∷ xs) (y ∷ ys) a b =
 abbrev try_made : ℕ → ℕ → ℕ → Try
 try_made start count offset = record { start = start; count = count; offset = offset }
 
-try_once : (bytes : List ℕ) (at : ℕ) (t u : Try) → IsTry bytes at t → IsTry bytes at u → t ≡ u
+pub try_once : (bytes : List ℕ) (at : ℕ) (t u : Try) → IsTry bytes at t → IsTry bytes at u → t ≡ u
 try_once bytes at t u a b =
     three try_made (once_32 bytes at t.start u.start a.start b.start) (once_16 bytes (at + 4) t.count u.count a.count b.count) (once_16 bytes (at + 6) t.offset u.offset a.offset b.offset)
 

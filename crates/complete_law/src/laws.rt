@@ -1,0 +1,24 @@
+//! Completeness.
+
+ghost use Rattle.std.specs.Prelude.{ℕ, List, true};
+ghost use Rattle.redex_outside.specs.Held.{Held};
+ghost use Rattle.redex_cli.specs.Ends.{Caused};
+ghost use Rattle.redex_cli.specs.Fetching.{Failures};
+ghost use Rattle.redex_cli.specs.declared.status.Status.{Status};
+ghost use Rattle.dex_defs.specs.Examples.{empty_file};
+ghost use Rattle.complete_law.specs.Complete.{AreGood, EndsGood, IsGoodFile};
+
+/// Words that spell a command which has something fetched, rules without a fault, files without one whose programs are typed,
+/// a library without one, a good script, each within its limit of bytes, and no count that rose, end a run as `Done`, for want of
+/// memory, or where the bytes of a file or of the library pass a limit inside. The premise is what `run` says of its status
+/// (`cause` of its contract), of a shelf that tells what it holds.
+pub fn complete()
+    ensures { (words : List (List ℕ)) (held : Held) (fetches_old fetches_new puts_old puts_new : Failures) (notes_old notes_new : ℕ) (status : Status)
+        → AreGood words held → Caused words true held fetches_old fetches_new puts_old puts_new notes_old notes_new status
+        → EndsGood words held fetches_old fetches_new puts_old puts_new notes_old notes_new status }
+{}
+
+/// There are good files: the 140 bytes of the program of nothing are one.
+pub fn a_good_file()
+    ensures { IsGoodFile empty_file }
+{}

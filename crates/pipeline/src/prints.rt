@@ -5,7 +5,7 @@
 //! before. That is told by a print of each body, a sum of 64 bits, in which a get of a static field also tells whether it initialises the
 //! field's class. Two bodies may have the same print: then the second one is looked at in the last round, which looks at all.
 
-ghost use Rattle.std.specs.Prelude.{◌≡◌, true, IfOk, slice_index_or, slice_set};
+ghost use Rattle.std.specs.Prelude.{◌≡◌, true, false, IfOk, slice_index_or, slice_set};
 ghost use Rattle.pipeline.specs.Passes.{AreWithin};
 
 use hierarchy::Hierarchy;
@@ -203,8 +203,9 @@ fn is_admitted(admitted: &[bool], method: u32) -> bool
 fn mark(marks: &mut [bool], method: u32)
     ensures { marks.new ≡ slice_set marks.old method true }
 {
-    if let Some(mark) = marks.get_mut(method as usize) {
-        *mark = true;
+    let at = method as usize;
+    if at < marks.len() {
+        marks[at] = true;
     }
 }
 

@@ -8,4 +8,4 @@ pub returns-clause-formed : goal.returns-clause-formed
 returns-clause-formed c = sym c.well_formed-formed.ensures ∙ c.if-not-formed.false
 
 pub returns-clause-known : goal.returns-clause-known
-returns-clause-known c = λ own plain formed resolved. record { certified = c.in_ok-facts.ensures formed resolved; words = c.numbers_have_bits-_bits.ensures.all; makers = own; plain = plain }
+returns-clause-known c = λ own plain formed resolved. record { certified = c.in_ok-facts.ensures formed resolved; words = c.numbers_have_bits-bits.ensures.all; makers = own; plain = plain }

@@ -13,12 +13,9 @@ use insn_set::Insn;
 use program_model::{Admitted, Body, Class, Method, Program, Region};
 use std::alloc::{AllocError, Global};
 
-/// An odd number whose bits are as those of the golden ratio.
-const FACTOR: u64 = 0x9e37_79b9_7f4a_7c15;
-
-/// A print with one more number.
+/// A print with one more number. The factor is odd, and its bits are those of the golden ratio.
 fn mixed(print: u64, number: u64) -> u64 {
-    (print ^ number).wrapping_mul(FACTOR)
+    (print ^ number).wrapping_mul(0x9e37_79b9_7f4a_7c15)
 }
 
 /// A print with a register and a number.

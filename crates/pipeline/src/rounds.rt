@@ -1,6 +1,6 @@
 //! The asks and the rounds.
 
-ghost use Rattle.std.specs.Prelude.{◌≡◌, ◌≤◌, ◌-◌, ◌+◌, ◌∷◌, [], min, length, map, true, vec_len, IfOk, OnErr};
+ghost use Rattle.std.specs.Prelude.{◌≡◌, ◌≤◌, ◌-◌, ◌+◌, ◌∷◌, [], min, length, map, true, false, vec_len, IfOk, OnErr};
 ghost use Rattle.program_model.specs.Cells.{capped};
 ghost use Rattle.program_model.specs.ProgramRules.{is_well_formed};
 ghost use Rattle.pipeline.specs.Advised.{verdict, AreMarks};

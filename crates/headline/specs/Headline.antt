@@ -62,16 +62,16 @@ pub record AreAdmitted (voices : List Voice) (given : List Bool) (program : Prog
 -- script and float table that fit, and is well-formed and typed and lays out; no class of it is there twice or above itself. Advisers who
 -- reply so were asked which methods may be rewritten: these are admitted. Facts that are certified of what is left leave nothing to write
 -- in their bodies (`NoneLeft` of const_prop), where the superclass of no interface is a class of the program that is none, no call to name
--- another method (`NoneLeft` of devirt), no method that
--- could be static (`NoneLeft` of staticise), and no call and no division that does nothing (`NoneIdle` of quiet_code), or none were
--- asked for, since no method is admitted, a kept constructor is none of its class or a list of interfaces names another class
--- (`KeepsForms` of pipeline). In their bodies, whose positions and regions 32 bits number, every position is reached, is no goto to the next one and no nop, but where the
--- branch behind it goes to it, and none computes what nobody reads; and unless the program names a method of a wide type, no read of a copy
--- could be one of the original (`IsStale` of pass_defs; 16 bits number the body's registers), and no register could have a lower number
--- (`IsPacked`). Unless the rules forbid removal, every class, method and field that is left follows from what the outside keeps, by what is
--- left (`NoneUnreached`), and every one is one that the program has, by its number; a method that isn't admitted keeps its code, and no
--- body has more registers. A method that had a receiver may become static: then its number names it with its class as the first parameter,
--- and all else of it stays (`StaysAlong`). Where calls are inlined, a body has no more registers, or at most 16 (`StaysAlongInlined`).
+-- another method (`NoneLeft` of devirt), no method that could be static (`NoneLeft` of staticise), and no call and no division that does
+-- nothing (`NoneIdle` of quiet_code), or none were asked for, since no method is admitted, a kept constructor is none of its class or a
+-- list of interfaces names another class (`KeepsForms` of pipeline). In their bodies, whose positions and regions 32 bits number, every
+-- position is reached, is no goto to the next one and no nop, but where the branch behind it goes to it, and none computes what nobody
+-- reads; and unless the program names a method of a wide type, no read of a copy could be one of the original (`IsStale` of pass_defs; 16
+-- bits number the body's registers), and no register could have a lower number (`IsPacked`). Unless the rules forbid removal, every class,
+-- method and field that is left follows from what the outside keeps, by what is left (`NoneUnreached`), and every one is one that the
+-- program has, by its number; a method that isn't admitted keeps its code, and no body has more registers. A method that had a receiver
+-- may become static: then its number names it with its class as the first parameter, and all else of it stays (`StaysAlong`). Where calls
+-- are inlined, a body has no more registers, or at most 16 (`StaysAlongInlined`).
 pub record KeepsMeaning (inline : Bool) (voices : List Voice) (given : List Bool) (program : Program) (outside : Outside) (left : Program) : Type 0 where
   pub admitted : List Bool
   pub advised : AreAdmitted voices given program outside admitted

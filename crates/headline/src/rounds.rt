@@ -46,10 +46,10 @@ pub fn optimised_law()
 /// Where the rounds end in a sound program, as they do where they began with one, each class and member follows from what the outside
 /// keeps, unless the rules forbid removal; facts that are known leave nothing to write in an admitted method, no call in one to name
 /// another method, no method to be static, and no call and no division in one that does nothing, or there is a reason why none was written
-/// (no method is admitted, a kept constructor is none of its class, or a list of interfaces names another class); no position of an admitted method is left
-/// that a squeeze takes out, and none that is dead; and unless some method of a wide type is named, no read of it is stale, and its
-/// registers have the least numbers that they can have. (`NothingLeft` and `NoneDead` speak of bodies whose positions and regions 32 bits
-/// number, `AllFresh` of those whose registers 16 bits number.)
+/// (no method is admitted, a kept constructor is none of its class, or a list of interfaces names another class); no position of an
+/// admitted method is left that a squeeze takes out, and none that is dead; and unless some method of a wide type is named, no read of
+/// it is stale, and its registers have the least numbers that they can have. (`NothingLeft` and `NoneDead` speak of bodies whose
+/// positions and regions 32 bits number, `AllFresh` of those whose registers 16 bits number.)
 pub fn settled_law()
     ensures reached { (o : Outside) (admitted : List Bool) (p : Program) (t : Traced) (count : ℕ) → HaveRun o admitted p t count → IsSound t.program → o.shrink ≡ true
         → NoneUnreached o t.program }

@@ -3,3 +3,4 @@ pub mod Registers
 pub mod Flow
 pub mod Formats
 pub mod Spelling
+pub mod Copies

@@ -38,6 +38,28 @@ reads_of (Binary op to a b) r = in_operand (binary_is_wide op) a r || in_operand
 reads_of (Literal op to a value) r = nat_eq r a
 reads_of insn r = false
 
+-- the same by groups of forms, each of which hands all other forms on: operations on numbers
+abbrev pub number_reads : Insn → ℕ → Bool
+number_reads (Cmp op to a b) r = in_operand (compares_wide op) a r || in_operand (compares_wide op) b r
+number_reads (If test a b target) r = nat_eq r a || nat_eq r b
+number_reads (IfZero test a target) r = nat_eq r a
+number_reads (Unary op to from) r = in_operand (unary_reads_wide op) from r
+number_reads (Binary op to a b) r = in_operand (binary_is_wide op) a r || in_operand (second_is_wide op) b r
+number_reads (Literal op to a value) r = nat_eq r a
+number_reads insn r = false
+
+-- arrays and fields
+abbrev pub memory_reads : Insn → ℕ → Bool
+memory_reads (ArrayLength to from) r = nat_eq r from
+memory_reads (NewArray to size kind) r = nat_eq r size
+memory_reads (FillArray on width items) r = nat_eq r on
+memory_reads (ArrayGet item to array index) r = nat_eq r array || nat_eq r index
+memory_reads (ArrayPut item from array index) r = in_operand (is_wide_item item) from r || nat_eq r array || nat_eq r index
+memory_reads (InstanceGet item to on field) r = nat_eq r on
+memory_reads (InstancePut item from on field) r = in_operand (is_wide_item item) from r || nat_eq r on
+memory_reads (StaticPut item from field) r = in_operand (is_wide_item item) from r
+memory_reads insn r = number_reads insn r
+
 abbrev pub writes_of : Insn → ℕ → Bool
 writes_of (Move slot to from) r = in_operand (is_wide_slot slot) to r
 writes_of (MoveResult slot to) r = in_operand (is_wide_slot slot) to r

@@ -168,3 +168,26 @@ is_encodable (Invoke kind method args) = fit_call args
 is_encodable (Unary op to from) = nat_lt to 16 && nat_lt from 16
 is_encodable (Binary op to a b) = nat_lt to 256 && (nat_lt a 256 && nat_lt b 256)
 is_encodable (Literal op to a value) = (nat_lt to 256 && (nat_lt a 256 && fits_byte value)) || (nat_lt to 16 && (nat_lt a 16 && takes_short op))
+
+-- the same by groups of forms, each of which hands all other forms on: operations on numbers
+abbrev pub number_encodable : Insn → Bool
+number_encodable (Cmp op to a b) = nat_lt to 256 && (nat_lt a 256 && nat_lt b 256)
+number_encodable (If test a b target) = nat_lt a 16 && nat_lt b 16
+number_encodable (IfZero test a target) = nat_lt a 256
+number_encodable (Unary op to from) = nat_lt to 16 && nat_lt from 16
+number_encodable (Binary op to a b) = nat_lt to 256 && (nat_lt a 256 && nat_lt b 256)
+number_encodable (Literal op to a value) = (nat_lt to 256 && (nat_lt a 256 && fits_byte value)) || (nat_lt to 16 && (nat_lt a 16 && takes_short op))
+number_encodable insn = true
+
+-- arrays and fields
+abbrev pub memory_encodable : Insn → Bool
+memory_encodable (ArrayLength to from) = nat_lt to 16 && nat_lt from 16
+memory_encodable (NewArray to size kind) = nat_lt to 16 && nat_lt size 16
+memory_encodable (FillArray on width items) = nat_lt on 256 && (is_width width && (nat_lt (length items) 4294967296 && list_all (λ item. fits_width width item) items))
+memory_encodable (ArrayGet item to array index) = nat_lt to 256 && (nat_lt array 256 && nat_lt index 256)
+memory_encodable (ArrayPut item from array index) = nat_lt from 256 && (nat_lt array 256 && nat_lt index 256)
+memory_encodable (InstanceGet item to on field) = nat_lt to 16 && nat_lt on 16
+memory_encodable (InstancePut item from on field) = nat_lt from 16 && nat_lt on 16
+memory_encodable (StaticGet item to field) = nat_lt to 256
+memory_encodable (StaticPut item from field) = nat_lt from 256
+memory_encodable insn = number_encodable insn

@@ -2,7 +2,7 @@
 
 ghost use Rattle.std.specs.Prelude.{◌≡◌, nat_eq};
 ghost use Rattle.std.specs.List.{list_any};
-ghost use Rattle.insn_set.specs.Registers.{in_operand, reads_of, writes_of};
+ghost use Rattle.insn_set.specs.Registers.{in_operand, number_reads, memory_reads, reads_of, writes_of};
 
 use crate::form::Insn;
 
@@ -25,6 +25,55 @@ fn is_among(words: &[u16], register: u32) -> bool
     words.iter().any(|word| u32::from(*word) == register)
 }
 
+/// Whether a test of numbers or an operation on numbers reads the register.
+fn number_reads(insn: &Insn, register: u32) -> bool
+    ensures { result ≡ number_reads insn.now register }
+{
+    match insn {
+        Insn::Cmp { op, a, b, .. } => {
+            in_operand_at(op.compares_wide(), *a, register)
+                || in_operand_at(op.compares_wide(), *b, register)
+        }
+        Insn::If { a, b, .. } => register == u32::from(*a) || register == u32::from(*b),
+        Insn::IfZero { a, .. } | Insn::Literal { a, .. } => register == u32::from(*a),
+        Insn::Unary { op, from, .. } => in_operand_at(op.reads_wide(), *from, register),
+        Insn::Binary { op, a, b, .. } => {
+            in_operand_at(op.is_wide(), *a, register)
+                || in_operand_at(op.second_is_wide(), *b, register)
+        }
+        _ => false,
+    }
+}
+
+/// Whether an operation on an array, or a get or a put of a field, reads the register, or an operation on numbers does.
+fn memory_reads(insn: &Insn, register: u32) -> bool
+    ensures { result ≡ memory_reads insn.now register }
+{
+    match insn {
+        Insn::ArrayLength { from, .. } => register == u32::from(*from),
+        Insn::NewArray { size, .. } => register == u32::from(*size),
+        Insn::FillArray { on, .. } | Insn::InstanceGet { on, .. } => register == u32::from(*on),
+        Insn::ArrayGet { array, index, .. } => {
+            register == u32::from(*array) || register == u32::from(*index)
+        }
+        Insn::ArrayPut {
+            item,
+            from,
+            array,
+            index,
+        } => {
+            in_operand_at(item.is_wide(), *from, register)
+                || register == u32::from(*array)
+                || register == u32::from(*index)
+        }
+        Insn::InstancePut { item, from, on, .. } => {
+            in_operand_at(item.is_wide(), *from, register) || register == u32::from(*on)
+        }
+        Insn::StaticPut { item, from, .. } => in_operand_at(item.is_wide(), *from, register),
+        _ => number_reads(insn, register),
+    }
+}
+
 impl Insn {
     /// Whether the instruction reads the register. It takes no memory.
     pub fn reads(&self, register: u32) -> bool
@@ -39,48 +88,15 @@ impl Insn {
             Insn::MonitorEnter { on }
             | Insn::MonitorExit { on }
             | Insn::CheckCast { on, .. }
-            | Insn::FillArray { on, .. }
             | Insn::Throw { on }
             | Insn::PackedSwitch { on, .. }
-            | Insn::SparseSwitch { on, .. }
-            | Insn::InstanceGet { on, .. } => register == u32::from(*on),
-            Insn::InstanceOf { from, .. } | Insn::ArrayLength { from, .. } => {
-                register == u32::from(*from)
-            }
-            Insn::NewArray { size, .. } => register == u32::from(*size),
+            | Insn::SparseSwitch { on, .. } => register == u32::from(*on),
+            Insn::InstanceOf { from, .. } => register == u32::from(*from),
             Insn::FilledNewArray { args, .. } | Insn::Invoke { args, .. } => is_among(
                 args.as_slice(),
                 register,
             ),
-            Insn::Cmp { op, a, b, .. } => {
-                in_operand_at(op.compares_wide(), *a, register)
-                    || in_operand_at(op.compares_wide(), *b, register)
-            }
-            Insn::If { a, b, .. } => register == u32::from(*a) || register == u32::from(*b),
-            Insn::IfZero { a, .. } | Insn::Literal { a, .. } => register == u32::from(*a),
-            Insn::ArrayGet { array, index, .. } => {
-                register == u32::from(*array) || register == u32::from(*index)
-            }
-            Insn::ArrayPut {
-                item,
-                from,
-                array,
-                index,
-            } => {
-                in_operand_at(item.is_wide(), *from, register)
-                    || register == u32::from(*array)
-                    || register == u32::from(*index)
-            }
-            Insn::InstancePut { item, from, on, .. } => {
-                in_operand_at(item.is_wide(), *from, register) || register == u32::from(*on)
-            }
-            Insn::StaticPut { item, from, .. } => in_operand_at(item.is_wide(), *from, register),
-            Insn::Unary { op, from, .. } => in_operand_at(op.reads_wide(), *from, register),
-            Insn::Binary { op, a, b, .. } => {
-                in_operand_at(op.is_wide(), *a, register)
-                    || in_operand_at(op.second_is_wide(), *b, register)
-            }
-            _ => false,
+            _ => memory_reads(self, register),
         }
     }
 

@@ -2,7 +2,7 @@
 
 ghost use Rattle.std.specs.Prelude.{◌≡◌, ◌+◌, ◌<◌, ◌&&◌, nat_eq, nat_lt, pos, length, drop, ℤ};
 ghost use Rattle.std.specs.List.{list_all, zip};
-ghost use Rattle.insn_set.specs.Spelling.{within, fits_nibble, fits_byte, fits_short, fits_int, is_multiple, are_adjacent, fit_nibbles, fit_call, takes_short, fits_width, is_width, keys_ascend, shortest_goto, shortest_move, shortest_const, shortest_wide, shortest_string, shortest_call, shortest_binary, shortest_literal, shortest, units_of, is_encodable};
+ghost use Rattle.insn_set.specs.Spelling.{within, fits_nibble, fits_byte, fits_short, fits_int, is_multiple, are_adjacent, fit_nibbles, fit_call, takes_short, fits_width, is_width, keys_ascend, shortest_goto, shortest_move, shortest_const, shortest_wide, shortest_string, shortest_call, shortest_binary, shortest_literal, shortest, units_of, number_encodable, memory_encodable, is_encodable};
 
 use crate::form::Insn;
 use crate::format::Format;
@@ -225,6 +225,53 @@ fn in_sparse(keys: &Seq<i32>, targets: &Seq<u32>) -> bool
     targets.len() < 65536 && (keys.len() == targets.len() && ascend(keys.as_slice()))
 }
 
+/// Whether a test of numbers or an operation on numbers has a spelling. The other forms left, as a goto, have one.
+fn number_encodable(insn: &Insn) -> bool
+    ensures { result ≡ number_encodable insn.now }
+{
+    match insn {
+        Insn::Cmp { to, a, b, .. } | Insn::Binary { to, a, b, .. } => {
+            *to < 256 && (*a < 256 && *b < 256)
+        }
+        Insn::If { a, b, .. } => *a < 16 && *b < 16,
+        Insn::IfZero { a, .. } => *a < 256,
+        Insn::Unary { to, from, .. } => *to < 16 && *from < 16,
+        Insn::Literal { op, to, a, value } => {
+            (*to < 256 && (*a < 256 && is_byte(i64::from(*value))))
+                || (*to < 16 && (*a < 16 && op.takes_short()))
+        }
+        _ => true,
+    }
+}
+
+/// Whether an operation on an array, or a get or a put of a field, has a spelling, or an operation on numbers has.
+fn memory_encodable(insn: &Insn) -> bool
+    ensures { result ≡ memory_encodable insn.now }
+{
+    match insn {
+        Insn::ArrayLength { to, from } => *to < 16 && *from < 16,
+        Insn::NewArray { to, size, .. } => *to < 16 && *size < 16,
+        Insn::FillArray { on, width, items } => *on < 256 && in_array(*width, items.as_slice()),
+        Insn::ArrayGet {
+            to,
+            array,
+            index,
+            ..
+        } => *to < 256 && (*array < 256 && *index < 256),
+        Insn::ArrayPut {
+            from,
+            array,
+            index,
+            ..
+        } => { *from < 256 && (*array < 256 && *index < 256) }
+        Insn::InstanceGet { to, on, .. } => *to < 16 && *on < 16,
+        Insn::InstancePut { from, on, .. } => *from < 16 && *on < 16,
+        Insn::StaticGet { to, .. } => *to < 256,
+        Insn::StaticPut { from, .. } => *from < 256,
+        _ => number_encodable(insn),
+    }
+}
+
 impl Insn {
     /// The format of the shortest spelling that has room for the instruction, where one has. `distance` is how many
     /// units a branch goes, forwards if it is positive, and counts for a goto alone. It takes no memory.
@@ -281,53 +328,25 @@ impl Insn {
         ensures { result ≡ is_encodable self.now }
     {
         match self {
-            Insn::Nop | Insn::Move { .. } | Insn::ReturnVoid | Insn::Goto { .. } => true,
             Insn::MoveResult { to, .. }
             | Insn::MoveException { to }
             | Insn::Const { to, .. }
             | Insn::ConstWide { to, .. }
             | Insn::ConstString { to, .. }
             | Insn::ConstClass { to, .. }
-            | Insn::NewInstance { to, .. }
-            | Insn::StaticGet { to, .. } => *to < 256,
-            Insn::Return { from, .. } | Insn::StaticPut { from, .. } => *from < 256,
+            | Insn::NewInstance { to, .. } => *to < 256,
+            Insn::Return { from, .. } => *from < 256,
             Insn::MonitorEnter { on }
             | Insn::MonitorExit { on }
             | Insn::CheckCast { on, .. }
             | Insn::Throw { on } => *on < 256,
-            Insn::InstanceOf { to, from, .. }
-            | Insn::ArrayLength { to, from }
-            | Insn::Unary { to, from, .. } => *to < 16 && *from < 16,
-            Insn::NewArray { to, size, .. } => *to < 16 && *size < 16,
+            Insn::InstanceOf { to, from, .. } => *to < 16 && *from < 16,
+            Insn::PackedSwitch { on, targets, .. } => *on < 256 && targets.len() < 65536,
+            Insn::SparseSwitch { on, keys, targets } => *on < 256 && in_sparse(keys, targets),
             Insn::FilledNewArray { args, .. } | Insn::Invoke { args, .. } => in_call(
                 args.as_slice(),
             ),
-            Insn::FillArray { on, width, items } => *on < 256 && in_array(*width, items.as_slice()),
-            Insn::PackedSwitch { on, targets, .. } => *on < 256 && targets.len() < 65536,
-            Insn::SparseSwitch { on, keys, targets } => *on < 256 && in_sparse(keys, targets),
-            Insn::Cmp { to, a, b, .. } | Insn::Binary { to, a, b, .. } => {
-                *to < 256 && (*a < 256 && *b < 256)
-            }
-            Insn::If { a, b, .. } => *a < 16 && *b < 16,
-            Insn::IfZero { a, .. } => *a < 256,
-            Insn::ArrayGet {
-                to,
-                array,
-                index,
-                ..
-            } => *to < 256 && (*array < 256 && *index < 256),
-            Insn::ArrayPut {
-                from,
-                array,
-                index,
-                ..
-            } => { *from < 256 && (*array < 256 && *index < 256) }
-            Insn::InstanceGet { to, on, .. } => *to < 16 && *on < 16,
-            Insn::InstancePut { from, on, .. } => *from < 16 && *on < 16,
-            Insn::Literal { op, to, a, value } => {
-                (*to < 256 && (*a < 256 && is_byte(i64::from(*value))))
-                    || (*to < 16 && (*a < 16 && op.takes_short()))
-            }
+            _ => memory_encodable(self),
         }
     }
 }

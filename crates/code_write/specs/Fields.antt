@@ -72,3 +72,41 @@ fields_of (Invoke kind method args) format numbers far = call_fields format (ren
 fields_of (Unary op to from) format numbers far = three to from 0
 fields_of (Binary op to a b) format numbers far = binary_fields format to a b
 fields_of (Literal op to a value) format numbers far = three to a (cast_unsigned w16 value)
+
+-- the same by groups of forms, each of which hands all other forms on: operations on numbers
+abbrev pub number_fields : Insn → Format → ℕ → Fields
+number_fields (Cmp op to a b) format far = three to a b
+number_fields (If test a b target) format far = three a b far
+number_fields (IfZero test a target) format far = three a far 0
+number_fields (Unary op to from) format far = three to from 0
+number_fields (Binary op to a b) format far = binary_fields format to a b
+number_fields (Literal op to a value) format far = three to a (cast_unsigned w16 value)
+number_fields insn format far = three 0 0 0
+
+-- arrays and fields
+abbrev pub memory_fields : Insn → Format → Renumber → ℕ → Fields
+memory_fields (ArrayLength to from) format numbers far = three to from 0
+memory_fields (NewArray to size kind) format numbers far = three to size (renumbered numbers.types.items kind)
+memory_fields (FillArray on width items) format numbers far = three on far 0
+memory_fields (ArrayGet item to array index) format numbers far = three to array index
+memory_fields (ArrayPut item from array index) format numbers far = three from array index
+memory_fields (InstanceGet item to on field) format numbers far = three to on (renumbered numbers.fields.items field)
+memory_fields (InstancePut item from on field) format numbers far = three from on (renumbered numbers.fields.items field)
+memory_fields (StaticGet item to field) format numbers far = three to (renumbered numbers.fields.items field) 0
+memory_fields (StaticPut item from field) format numbers far = three from (renumbered numbers.fields.items field) 0
+memory_fields insn format numbers far = number_fields insn format far
+
+-- objects, calls and switches
+abbrev pub object_fields : Insn → Format → Renumber → ℕ → Fields
+object_fields (MonitorEnter on) format numbers far = three on 0 0
+object_fields (MonitorExit on) format numbers far = three on 0 0
+object_fields (Throw on) format numbers far = three on 0 0
+object_fields (CheckCast on kind) format numbers far = three on (renumbered numbers.types.items kind) 0
+object_fields (InstanceOf to from kind) format numbers far = three to from (renumbered numbers.types.items kind)
+object_fields (NewInstance to kind) format numbers far = three to (renumbered numbers.types.items kind) 0
+object_fields (FilledNewArray kind args) format numbers far = call_fields format (renumbered numbers.types.items kind) args
+object_fields (Invoke kind method args) format numbers far = call_fields format (renumbered numbers.methods.items method) args
+object_fields (Goto target) format numbers far = three far far 0
+object_fields (PackedSwitch on first targets) format numbers far = three on far 0
+object_fields (SparseSwitch on keys targets) format numbers far = three on far 0
+object_fields insn format numbers far = memory_fields insn format numbers far

@@ -2,7 +2,7 @@
 
 ghost use Rattle.std.specs.Prelude.{◌≡◌, ◌%◌, length};
 ghost use Rattle.std.specs.Int.{w16, w32, w64, cast_unsigned};
-ghost use Rattle.code_write.specs.Fields.{word_at, const_field, wide_field, call_fields, binary_fields, fields_of};
+ghost use Rattle.code_write.specs.Fields.{word_at, const_field, wide_field, call_fields, binary_fields, number_fields, memory_fields, object_fields, fields_of};
 
 use insn_set::Format;
 use program_model::{Insn, Renumber};
@@ -106,44 +106,31 @@ fn binary_fields(format: Format, to: u16, a: u16, b: u16) -> Fields
     }
 }
 
-/// The fields of the instruction. `far` is how far the branch goes, or the payload lies, in 32 bits. Numbers are new.
-pub(crate) fn fields_of(insn: &Insn, format: Format, numbers: &Renumber, far: u32) -> Fields
-    ensures { result ≡ fields_of insn.now format numbers.now far }
+/// The fields of a test of numbers or of an operation on numbers. `far` is how far the branch goes, in 32 bits. The other
+/// forms left have none.
+fn number_fields(insn: &Insn, format: Format, far: u32) -> Fields
+    ensures { result ≡ number_fields insn.now format far }
 {
     match insn {
-        Insn::Nop | Insn::ReturnVoid => three(0, 0, 0),
-        Insn::Move { to, from, .. }
-        | Insn::ArrayLength { to, from }
-        | Insn::Unary { to, from, .. } => two(*to, *from, 0),
-        Insn::MoveResult { to, .. } | Insn::MoveException { to } => pair(*to, 0),
-        Insn::Return { from, .. } => pair(*from, 0),
-        Insn::Const { to, value } => pair(*to, const_field(format, *value)),
-        Insn::ConstWide { to, value } => Fields {
-            a: u32::from(*to),
-            b: wide_field(format, *value),
-            c: 0,
-            long: value.cast_unsigned(),
-        },
-        Insn::ConstString { to, string } => pair(*to, new_number(&numbers.strings, *string)),
-        Insn::ConstClass { to, kind } | Insn::NewInstance { to, kind } => {
-            pair(*to, new_number(&numbers.types, *kind))
-        }
-        Insn::CheckCast { on, kind } => pair(*on, new_number(&numbers.types, *kind)),
-        Insn::MonitorEnter { on } | Insn::MonitorExit { on } | Insn::Throw { on } => pair(*on, 0),
-        Insn::InstanceOf { to, from, kind } => {
-            two(*to, *from, new_number(&numbers.types, *kind))
-        }
-        Insn::NewArray { to, size, kind } => two(*to, *size, new_number(&numbers.types, *kind)),
-        Insn::FilledNewArray { kind, args } => {
-            call_fields(format, new_number(&numbers.types, *kind), args.as_slice())
-        }
-        Insn::FillArray { on, .. }
-        | Insn::PackedSwitch { on, .. }
-        | Insn::SparseSwitch { on, .. } => pair(*on, far),
-        Insn::Goto { .. } => three(far, far, 0),
         Insn::Cmp { to, a, b, .. } => two(*to, *a, u32::from(*b)),
         Insn::If { a, b, .. } => two(*a, *b, far),
         Insn::IfZero { a, .. } => pair(*a, far),
+        Insn::Unary { to, from, .. } => two(*to, *from, 0),
+        Insn::Binary { to, a, b, .. } => binary_fields(format, *to, *a, *b),
+        Insn::Literal { to, a, value, .. } => two(*to, *a, u32::from(value.cast_unsigned())),
+        _ => three(0, 0, 0),
+    }
+}
+
+/// The fields of an operation on an array, or of a get or a put of a field, or of an operation on numbers. `far` is how far
+/// the branch goes, or the payload lies, in 32 bits. Numbers are new.
+fn memory_fields(insn: &Insn, format: Format, numbers: &Renumber, far: u32) -> Fields
+    ensures { result ≡ memory_fields insn.now format numbers.now far }
+{
+    match insn {
+        Insn::ArrayLength { to, from } => two(*to, *from, 0),
+        Insn::NewArray { to, size, kind } => two(*to, *size, new_number(&numbers.types, *kind)),
+        Insn::FillArray { on, .. } => pair(*on, far),
         Insn::ArrayGet {
             to,
             array,
@@ -167,6 +154,25 @@ pub(crate) fn fields_of(insn: &Insn, format: Format, numbers: &Renumber, far: u3
         } => two(*from, *on, new_number(&numbers.fields, *field)),
         Insn::StaticGet { to, field, .. } => pair(*to, new_number(&numbers.fields, *field)),
         Insn::StaticPut { from, field, .. } => pair(*from, new_number(&numbers.fields, *field)),
+        _ => number_fields(insn, format, far),
+    }
+}
+
+/// The fields of an operation on an object, of a call or of a switch, or of a form behind these. `far` is how far the branch
+/// goes, or the payload lies, in 32 bits. Numbers are new.
+fn object_fields(insn: &Insn, format: Format, numbers: &Renumber, far: u32) -> Fields
+    ensures { result ≡ object_fields insn.now format numbers.now far }
+{
+    match insn {
+        Insn::MonitorEnter { on } | Insn::MonitorExit { on } | Insn::Throw { on } => pair(*on, 0),
+        Insn::CheckCast { on, kind } => pair(*on, new_number(&numbers.types, *kind)),
+        Insn::InstanceOf { to, from, kind } => {
+            two(*to, *from, new_number(&numbers.types, *kind))
+        }
+        Insn::NewInstance { to, kind } => pair(*to, new_number(&numbers.types, *kind)),
+        Insn::FilledNewArray { kind, args } => {
+            call_fields(format, new_number(&numbers.types, *kind), args.as_slice())
+        }
         Insn::Invoke { method, args, .. } => {
             call_fields(
                 format,
@@ -174,7 +180,29 @@ pub(crate) fn fields_of(insn: &Insn, format: Format, numbers: &Renumber, far: u3
                 args.as_slice(),
             )
         }
-        Insn::Binary { to, a, b, .. } => binary_fields(format, *to, *a, *b),
-        Insn::Literal { to, a, value, .. } => two(*to, *a, u32::from(value.cast_unsigned())),
+        Insn::Goto { .. } => three(far, far, 0),
+        Insn::PackedSwitch { on, .. } | Insn::SparseSwitch { on, .. } => pair(*on, far),
+        _ => memory_fields(insn, format, numbers, far),
+    }
+}
+
+/// The fields of the instruction. `far` is how far the branch goes, or the payload lies, in 32 bits. Numbers are new.
+pub(crate) fn fields_of(insn: &Insn, format: Format, numbers: &Renumber, far: u32) -> Fields
+    ensures { result ≡ fields_of insn.now format numbers.now far }
+{
+    match insn {
+        Insn::Move { to, from, .. } => two(*to, *from, 0),
+        Insn::MoveResult { to, .. } | Insn::MoveException { to } => pair(*to, 0),
+        Insn::Return { from, .. } => pair(*from, 0),
+        Insn::Const { to, value } => pair(*to, const_field(format, *value)),
+        Insn::ConstWide { to, value } => Fields {
+            a: u32::from(*to),
+            b: wide_field(format, *value),
+            c: 0,
+            long: value.cast_unsigned(),
+        },
+        Insn::ConstString { to, string } => pair(*to, new_number(&numbers.strings, *string)),
+        Insn::ConstClass { to, kind } => pair(*to, new_number(&numbers.types, *kind)),
+        _ => object_fields(insn, format, numbers, far),
     }
 }

@@ -181,6 +181,21 @@ module _ {V : Type 0} where
   pub same_halves : (bit block : ℕ) (low low' high high' n : Node V) → low' ≡ low → high' ≡ high → IsBranch bit block low' high' n → IsBranch bit block low high n
   same_halves bit block low low' high high' n i j e = subst (λ l. IsBranch bit block l high n) i (subst (λ h. IsBranch bit block low' h n) j e)
 
+  -- a node over the halves of another one, but for one
+  pub with_low : (a b bit block : ℕ) (l h low high half n m : Node V) → IsBranch a b l h n → IsBranch bit block low high n → IsBranch a b half h m → IsBranch bit block half high m
+  with_low a b bit block l h low high half (Leaf key value) m own is new = absurd own
+  with_low a b bit block l h low high half (Branch' ob oc p ol q oh) m own is new =
+      subst (λ x. IsBranch x block half high m) (sym own.0 ∙ is.0)
+      (subst (λ x. IsBranch a x half high m) (sym own.1 ∙ is.1)
+      (subst (λ x. IsBranch a b half x m) (sym own.3 ∙ is.3) new))
+
+  pub with_high : (a b bit block : ℕ) (l h low high half n m : Node V) → IsBranch a b l h n → IsBranch bit block low high n → IsBranch a b l half m → IsBranch bit block low half m
+  with_high a b bit block l h low high half (Leaf key value) m own is new = absurd own
+  with_high a b bit block l h low high half (Branch' ob oc p ol q oh) m own is new =
+      subst (λ x. IsBranch x block low half m) (sym own.0 ∙ is.0)
+      (subst (λ x. IsBranch a x low half m) (sym own.1 ∙ is.1)
+      (subst (λ x. IsBranch a b x half m) (sym own.2 ∙ is.2) new))
+
   -- a leaf beside a tree without its key
   pub sets_apart : (s a key : ℕ) (v : V) (x t : Node V) → Inside s a x → (key / 2 ^ s ≡ a → ⊥) → ((k : ℕ) → at t k ≡ one_of (at x k) (at (Leaf key v) k)) → Sets key v x t
   sets_apart s a key v x t hx ne h k = h k ∙ same_or_not k key

@@ -2,7 +2,7 @@
 
 ghost use Rattle.std.specs.Prelude.{◌≡◌, ◌==◌, ◌+◌, ◌/◌, ◌%◌, ◌^◌, ◌<◌, ◌≤◌, ◌↔◌, ℕ, Some, IfOk, IsTrue};
 ghost use Rattle.std.specs.Option.{option_copied};
-ghost use Rattle.pat_map.specs.declared.nodes.Node.{Leaf};
+ghost use Rattle.pat_map.specs.declared.nodes.Node.{Leaf, Node};
 ghost use Rattle.pat_map.specs.Trees.{at, Inside, Fits, IsTree, IsBranch, BelowAt, one_of, with_other, with_newer};
 ghost use Rattle.pat_map.specs.Placings.{IsPlaced};
 ghost use Rattle.pat_map.specs.TreeLaws.{Sets, Joins, Below};
@@ -243,6 +243,44 @@ fn place_blocks(bit: u32, block: u32, other_bit: u32, other_block: u32) -> Placi
     }
 }
 
+/// A branch with another lower half. A leaf has none.
+fn with_low<V: Drop>(
+    alloc: Global,
+    tree: &Rc<Node<V>>,
+    half: Rc<Node<V>>,
+) -> Result<Rc<Node<V>>, AllocError>
+    ensures { (bit : ℕ) (block : ℕ) (low : Node V) (high : Node V) → IsBranch bit block low high tree.now.value → IfOk result (λ t. IsBranch bit block half.value high t.value) }
+{
+    match &**tree {
+        Node::Branch {
+            bit,
+            block,
+            high,
+            ..
+        } => branch(alloc, *bit, *block, half, high.clone()?),
+        Node::Leaf { .. } => Ok(half),
+    }
+}
+
+/// A branch with another upper half. A leaf has none.
+fn with_high<V: Drop>(
+    alloc: Global,
+    tree: &Rc<Node<V>>,
+    half: Rc<Node<V>>,
+) -> Result<Rc<Node<V>>, AllocError>
+    ensures { (bit : ℕ) (block : ℕ) (low : Node V) (high : Node V) → IsBranch bit block low high tree.now.value → IfOk result (λ t. IsBranch bit block low half.value t.value) }
+{
+    match &**tree {
+        Node::Branch {
+            bit,
+            block,
+            low,
+            ..
+        } => branch(alloc, *bit, *block, low.clone()?, half),
+        Node::Leaf { .. } => Ok(half),
+    }
+}
+
 /// A tree with the keys of both, with the join of both values at a key of both. Halves of the one that the other has no
 /// key of are shared.
 pub(crate) fn join_all<V: Lattice>(
@@ -281,22 +319,10 @@ pub(crate) fn join_all<V: Lattice>(
                     let upper = join_all(alloc, high, other_high)?;
                     branch(alloc, *bit, *block, lower, upper)
                 }
-                Placing::Low => {
-                    let half = join_all(alloc, low, other)?;
-                    branch(alloc, *bit, *block, half, high.clone()?)
-                }
-                Placing::High => {
-                    let half = join_all(alloc, high, other)?;
-                    branch(alloc, *bit, *block, low.clone()?, half)
-                }
-                Placing::UnderLow => {
-                    let half = join_all(alloc, tree, other_low)?;
-                    branch(alloc, *other_bit, *other_block, half, other_high.clone()?)
-                }
-                Placing::UnderHigh => {
-                    let half = join_all(alloc, tree, other_high)?;
-                    branch(alloc, *other_bit, *other_block, other_low.clone()?, half)
-                }
+                Placing::Low => with_low(alloc, tree, join_all(alloc, low, other)?),
+                Placing::High => with_high(alloc, tree, join_all(alloc, high, other)?),
+                Placing::UnderLow => with_low(alloc, other, join_all(alloc, tree, other_low)?),
+                Placing::UnderHigh => with_high(alloc, other, join_all(alloc, tree, other_high)?),
                 Placing::Apart { size, own, theirs } => {
                     link(alloc, tree.clone()?, other.clone()?, size, own, theirs)
                 }

@@ -1,81 +1,73 @@
 use Rattle.std.proofs.Common.{◌≡◌, ◌+◌, ◌*◌, ℕ, arith, subst, refl}
 use Rattle.std.proofs.lemmas.Grind.{common_steps}
 use Rattle.pat_map.specs.Trees.{at, one_of, Inside, IsTree, IsBranch}
-use Rattle.pat_map.specs.TreeLaws.{Joins, block_of_branch, parts_of, same_halves, ok_so}
+use Rattle.pat_map.specs.TreeLaws.{Joins, block_of_branch, parts_of, ok_so}
 use Rattle.pat_map.specs.UnionLaws.{lies_fits, inside_in, joins_low, joins_high, joins_under_low, joins_under_high, joins_apart}
 use Rattle.pat_map.proofs.nodes.+join_all.Goals as goal
 
-pub returns-in_ok-clone-in-Low-clause-tree : goal.returns-in_ok-clone-in-Low-clause-tree
-returns-in_ok-clone-in-Low-clause-tree g t c =
+pub returns-in_ok-join_all-in-Low-clause-tree : goal.returns-in_ok-join_all-in-Low-clause-tree
+returns-in_ok-join_all-in-Low-clause-tree g t c =
     let et : IsBranch c.in-Branch-deref.bit c.in-Branch-deref.block c.in-Branch-deref.low.value c.in-Branch-deref.high.value c.args.tree.now.value = subst (IsBranch c.in-Branch-deref.bit c.in-Branch-deref.block c.in-Branch-deref.low.value c.in-Branch-deref.high.value) c.deref-in-Branch.ensures (rw c.in-Branch-deref.is (refl, refl, refl, refl)) in
     let eo : IsBranch c.in-Branch.other_bit c.in-Branch.other_block c.in-Branch.other_low.value c.in-Branch.other_high.value c.args.other.now.value = subst (IsBranch c.in-Branch.other_bit c.in-Branch.other_block c.in-Branch.other_low.value c.in-Branch.other_high.value) c.deref.ensures (rw c.in-Branch.is (refl, refl, refl, refl)) in
     let ix : Inside c.in-Branch-deref.bit (2 * c.in-Branch-deref.block) c.args.other.now.value = inside_in c.in-Branch-deref.bit (2 * c.in-Branch-deref.block) (c.in-Branch.other_bit + 1) c.in-Branch.other_block c.args.other.now.value c.in-Low.ensures (block_of_branch c.in-Branch.other_bit c.in-Branch.other_block c.in-Branch.other_low.value c.in-Branch.other_high.value c.args.other.now.value c.args.other.now.value eo c.requires.other refl) in
-    let e : c.in_ok-clone-in-Low.field-0.value ≡ c.in-Branch-deref.high.value = grind (arith, common_steps) in
-    ok_so c.branch-half-in-Low.result (λ t. IsBranch c.in-Branch-deref.bit c.in-Branch-deref.block c.in_ok-half-in-Low.half.value c.in_ok-clone-in-Low.field-0.value t.value) (λ t. IsTree t.value) c.branch-half-in-Low.ensures
-    (λ t m. (joins_low g.V.Lattice.joined c.in-Branch-deref.bit c.in-Branch-deref.block c.in-Branch-deref.low.value c.in-Branch-deref.high.value c.in_ok-half-in-Low.half.value c.args.tree.now.value c.args.other.now.value t.value et (same_halves c.in-Branch-deref.bit c.in-Branch-deref.block c.in_ok-half-in-Low.half.value c.in_ok-half-in-Low.half.value c.in-Branch-deref.high.value c.in_ok-clone-in-Low.field-0.value t.value refl e m) c.requires.tree ix c.in_ok-half-in-Low.ensures.tree c.in_ok-half-in-Low.ensures.joins).0)
+    ok_so c.with_low.result (λ t. IsBranch c.in-Branch-deref.bit c.in-Branch-deref.block c.in_ok-join_all-in-Low.field-0.value c.in-Branch-deref.high.value t.value) (λ t. IsTree t.value) (c.with_low.ensures c.in-Branch-deref.bit c.in-Branch-deref.block c.in-Branch-deref.low.value c.in-Branch-deref.high.value et)
+    (λ t m. (joins_low g.V.Lattice.joined c.in-Branch-deref.bit c.in-Branch-deref.block c.in-Branch-deref.low.value c.in-Branch-deref.high.value c.in_ok-join_all-in-Low.field-0.value c.args.tree.now.value c.args.other.now.value t.value et m c.requires.tree ix c.in_ok-join_all-in-Low.ensures.tree c.in_ok-join_all-in-Low.ensures.joins).0)
 
-pub returns-in_ok-clone-in-Low-clause-joins : goal.returns-in_ok-clone-in-Low-clause-joins
-returns-in_ok-clone-in-Low-clause-joins g t c =
+pub returns-in_ok-join_all-in-Low-clause-joins : goal.returns-in_ok-join_all-in-Low-clause-joins
+returns-in_ok-join_all-in-Low-clause-joins g t c =
     let et : IsBranch c.in-Branch-deref.bit c.in-Branch-deref.block c.in-Branch-deref.low.value c.in-Branch-deref.high.value c.args.tree.now.value = subst (IsBranch c.in-Branch-deref.bit c.in-Branch-deref.block c.in-Branch-deref.low.value c.in-Branch-deref.high.value) c.deref-in-Branch.ensures (rw c.in-Branch-deref.is (refl, refl, refl, refl)) in
     let eo : IsBranch c.in-Branch.other_bit c.in-Branch.other_block c.in-Branch.other_low.value c.in-Branch.other_high.value c.args.other.now.value = subst (IsBranch c.in-Branch.other_bit c.in-Branch.other_block c.in-Branch.other_low.value c.in-Branch.other_high.value) c.deref.ensures (rw c.in-Branch.is (refl, refl, refl, refl)) in
     let ix : Inside c.in-Branch-deref.bit (2 * c.in-Branch-deref.block) c.args.other.now.value = inside_in c.in-Branch-deref.bit (2 * c.in-Branch-deref.block) (c.in-Branch.other_bit + 1) c.in-Branch.other_block c.args.other.now.value c.in-Low.ensures (block_of_branch c.in-Branch.other_bit c.in-Branch.other_block c.in-Branch.other_low.value c.in-Branch.other_high.value c.args.other.now.value c.args.other.now.value eo c.requires.other refl) in
-    let e : c.in_ok-clone-in-Low.field-0.value ≡ c.in-Branch-deref.high.value = grind (arith, common_steps) in
-    ok_so c.branch-half-in-Low.result (λ t. IsBranch c.in-Branch-deref.bit c.in-Branch-deref.block c.in_ok-half-in-Low.half.value c.in_ok-clone-in-Low.field-0.value t.value) (λ t. Joins g.V.Lattice.joined c.args.tree.now.value c.args.other.now.value t.value) c.branch-half-in-Low.ensures
-    (λ t m. (joins_low g.V.Lattice.joined c.in-Branch-deref.bit c.in-Branch-deref.block c.in-Branch-deref.low.value c.in-Branch-deref.high.value c.in_ok-half-in-Low.half.value c.args.tree.now.value c.args.other.now.value t.value et (same_halves c.in-Branch-deref.bit c.in-Branch-deref.block c.in_ok-half-in-Low.half.value c.in_ok-half-in-Low.half.value c.in-Branch-deref.high.value c.in_ok-clone-in-Low.field-0.value t.value refl e m) c.requires.tree ix c.in_ok-half-in-Low.ensures.tree c.in_ok-half-in-Low.ensures.joins).1)
+    ok_so c.with_low.result (λ t. IsBranch c.in-Branch-deref.bit c.in-Branch-deref.block c.in_ok-join_all-in-Low.field-0.value c.in-Branch-deref.high.value t.value) (λ t. Joins g.V.Lattice.joined c.args.tree.now.value c.args.other.now.value t.value) (c.with_low.ensures c.in-Branch-deref.bit c.in-Branch-deref.block c.in-Branch-deref.low.value c.in-Branch-deref.high.value et)
+    (λ t m. (joins_low g.V.Lattice.joined c.in-Branch-deref.bit c.in-Branch-deref.block c.in-Branch-deref.low.value c.in-Branch-deref.high.value c.in_ok-join_all-in-Low.field-0.value c.args.tree.now.value c.args.other.now.value t.value et m c.requires.tree ix c.in_ok-join_all-in-Low.ensures.tree c.in_ok-join_all-in-Low.ensures.joins).1)
 
-pub returns-in_ok-clone-in-High-clause-tree : goal.returns-in_ok-clone-in-High-clause-tree
-returns-in_ok-clone-in-High-clause-tree g t c =
+pub returns-in_ok-join_all-in-High-clause-tree : goal.returns-in_ok-join_all-in-High-clause-tree
+returns-in_ok-join_all-in-High-clause-tree g t c =
     let et : IsBranch c.in-Branch-deref.bit c.in-Branch-deref.block c.in-Branch-deref.low.value c.in-Branch-deref.high.value c.args.tree.now.value = subst (IsBranch c.in-Branch-deref.bit c.in-Branch-deref.block c.in-Branch-deref.low.value c.in-Branch-deref.high.value) c.deref-in-Branch.ensures (rw c.in-Branch-deref.is (refl, refl, refl, refl)) in
     let eo : IsBranch c.in-Branch.other_bit c.in-Branch.other_block c.in-Branch.other_low.value c.in-Branch.other_high.value c.args.other.now.value = subst (IsBranch c.in-Branch.other_bit c.in-Branch.other_block c.in-Branch.other_low.value c.in-Branch.other_high.value) c.deref.ensures (rw c.in-Branch.is (refl, refl, refl, refl)) in
     let ix : Inside c.in-Branch-deref.bit (2 * c.in-Branch-deref.block + 1) c.args.other.now.value = inside_in c.in-Branch-deref.bit (2 * c.in-Branch-deref.block + 1) (c.in-Branch.other_bit + 1) c.in-Branch.other_block c.args.other.now.value c.in-High.ensures (block_of_branch c.in-Branch.other_bit c.in-Branch.other_block c.in-Branch.other_low.value c.in-Branch.other_high.value c.args.other.now.value c.args.other.now.value eo c.requires.other refl) in
-    let e : c.in_ok-clone-in-High.field-0.value ≡ c.in-Branch-deref.low.value = grind (arith, common_steps) in
-    ok_so c.branch-branch.result (λ t. IsBranch c.in-Branch-deref.bit c.in-Branch-deref.block c.in_ok-clone-in-High.field-0.value c.in_ok-half-in-High.half.value t.value) (λ t. IsTree t.value) c.branch-branch.ensures
-    (λ t m. (joins_high g.V.Lattice.joined c.in-Branch-deref.bit c.in-Branch-deref.block c.in-Branch-deref.low.value c.in-Branch-deref.high.value c.in_ok-half-in-High.half.value c.args.tree.now.value c.args.other.now.value t.value et (same_halves c.in-Branch-deref.bit c.in-Branch-deref.block c.in-Branch-deref.low.value c.in_ok-clone-in-High.field-0.value c.in_ok-half-in-High.half.value c.in_ok-half-in-High.half.value t.value e refl m) c.requires.tree ix c.in_ok-half-in-High.ensures.tree c.in_ok-half-in-High.ensures.joins).0)
+    ok_so c.with_high.result (λ t. IsBranch c.in-Branch-deref.bit c.in-Branch-deref.block c.in-Branch-deref.low.value c.in_ok-join_all-in-High.field-0.value t.value) (λ t. IsTree t.value) (c.with_high.ensures c.in-Branch-deref.bit c.in-Branch-deref.block c.in-Branch-deref.low.value c.in-Branch-deref.high.value et)
+    (λ t m. (joins_high g.V.Lattice.joined c.in-Branch-deref.bit c.in-Branch-deref.block c.in-Branch-deref.low.value c.in-Branch-deref.high.value c.in_ok-join_all-in-High.field-0.value c.args.tree.now.value c.args.other.now.value t.value et m c.requires.tree ix c.in_ok-join_all-in-High.ensures.tree c.in_ok-join_all-in-High.ensures.joins).0)
 
-pub returns-in_ok-clone-in-High-clause-joins : goal.returns-in_ok-clone-in-High-clause-joins
-returns-in_ok-clone-in-High-clause-joins g t c =
+pub returns-in_ok-join_all-in-High-clause-joins : goal.returns-in_ok-join_all-in-High-clause-joins
+returns-in_ok-join_all-in-High-clause-joins g t c =
     let et : IsBranch c.in-Branch-deref.bit c.in-Branch-deref.block c.in-Branch-deref.low.value c.in-Branch-deref.high.value c.args.tree.now.value = subst (IsBranch c.in-Branch-deref.bit c.in-Branch-deref.block c.in-Branch-deref.low.value c.in-Branch-deref.high.value) c.deref-in-Branch.ensures (rw c.in-Branch-deref.is (refl, refl, refl, refl)) in
     let eo : IsBranch c.in-Branch.other_bit c.in-Branch.other_block c.in-Branch.other_low.value c.in-Branch.other_high.value c.args.other.now.value = subst (IsBranch c.in-Branch.other_bit c.in-Branch.other_block c.in-Branch.other_low.value c.in-Branch.other_high.value) c.deref.ensures (rw c.in-Branch.is (refl, refl, refl, refl)) in
     let ix : Inside c.in-Branch-deref.bit (2 * c.in-Branch-deref.block + 1) c.args.other.now.value = inside_in c.in-Branch-deref.bit (2 * c.in-Branch-deref.block + 1) (c.in-Branch.other_bit + 1) c.in-Branch.other_block c.args.other.now.value c.in-High.ensures (block_of_branch c.in-Branch.other_bit c.in-Branch.other_block c.in-Branch.other_low.value c.in-Branch.other_high.value c.args.other.now.value c.args.other.now.value eo c.requires.other refl) in
-    let e : c.in_ok-clone-in-High.field-0.value ≡ c.in-Branch-deref.low.value = grind (arith, common_steps) in
-    ok_so c.branch-branch.result (λ t. IsBranch c.in-Branch-deref.bit c.in-Branch-deref.block c.in_ok-clone-in-High.field-0.value c.in_ok-half-in-High.half.value t.value) (λ t. Joins g.V.Lattice.joined c.args.tree.now.value c.args.other.now.value t.value) c.branch-branch.ensures
-    (λ t m. (joins_high g.V.Lattice.joined c.in-Branch-deref.bit c.in-Branch-deref.block c.in-Branch-deref.low.value c.in-Branch-deref.high.value c.in_ok-half-in-High.half.value c.args.tree.now.value c.args.other.now.value t.value et (same_halves c.in-Branch-deref.bit c.in-Branch-deref.block c.in-Branch-deref.low.value c.in_ok-clone-in-High.field-0.value c.in_ok-half-in-High.half.value c.in_ok-half-in-High.half.value t.value e refl m) c.requires.tree ix c.in_ok-half-in-High.ensures.tree c.in_ok-half-in-High.ensures.joins).1)
+    ok_so c.with_high.result (λ t. IsBranch c.in-Branch-deref.bit c.in-Branch-deref.block c.in-Branch-deref.low.value c.in_ok-join_all-in-High.field-0.value t.value) (λ t. Joins g.V.Lattice.joined c.args.tree.now.value c.args.other.now.value t.value) (c.with_high.ensures c.in-Branch-deref.bit c.in-Branch-deref.block c.in-Branch-deref.low.value c.in-Branch-deref.high.value et)
+    (λ t m. (joins_high g.V.Lattice.joined c.in-Branch-deref.bit c.in-Branch-deref.block c.in-Branch-deref.low.value c.in-Branch-deref.high.value c.in_ok-join_all-in-High.field-0.value c.args.tree.now.value c.args.other.now.value t.value et m c.requires.tree ix c.in_ok-join_all-in-High.ensures.tree c.in_ok-join_all-in-High.ensures.joins).1)
 
-pub returns-in_ok-clone-in-UnderLow-clause-tree : goal.returns-in_ok-clone-in-UnderLow-clause-tree
-returns-in_ok-clone-in-UnderLow-clause-tree g t c =
+pub returns-in_ok-join_all-in-UnderLow-clause-tree : goal.returns-in_ok-join_all-in-UnderLow-clause-tree
+returns-in_ok-join_all-in-UnderLow-clause-tree g t c =
     let et : IsBranch c.in-Branch-deref.bit c.in-Branch-deref.block c.in-Branch-deref.low.value c.in-Branch-deref.high.value c.args.tree.now.value = subst (IsBranch c.in-Branch-deref.bit c.in-Branch-deref.block c.in-Branch-deref.low.value c.in-Branch-deref.high.value) c.deref-in-Branch.ensures (rw c.in-Branch-deref.is (refl, refl, refl, refl)) in
     let eo : IsBranch c.in-Branch.other_bit c.in-Branch.other_block c.in-Branch.other_low.value c.in-Branch.other_high.value c.args.other.now.value = subst (IsBranch c.in-Branch.other_bit c.in-Branch.other_block c.in-Branch.other_low.value c.in-Branch.other_high.value) c.deref.ensures (rw c.in-Branch.is (refl, refl, refl, refl)) in
     let ix : Inside c.in-Branch.other_bit (2 * c.in-Branch.other_block) c.args.tree.now.value = inside_in c.in-Branch.other_bit (2 * c.in-Branch.other_block) (c.in-Branch-deref.bit + 1) c.in-Branch-deref.block c.args.tree.now.value c.in-UnderLow.ensures (block_of_branch c.in-Branch-deref.bit c.in-Branch-deref.block c.in-Branch-deref.low.value c.in-Branch-deref.high.value c.args.tree.now.value c.args.tree.now.value et c.requires.tree refl) in
-    let e : c.in_ok-clone-in-UnderLow.field-0.value ≡ c.in-Branch.other_high.value = grind (arith, common_steps) in
-    ok_so c.branch-half-in-UnderLow-2.result (λ t. IsBranch c.in-Branch.other_bit c.in-Branch.other_block c.in_ok-half-in-UnderLow.half.value c.in_ok-clone-in-UnderLow.field-0.value t.value) (λ t. IsTree t.value) c.branch-half-in-UnderLow-2.ensures
-    (λ t m. (joins_under_low g.V.Lattice.joined c.in-Branch.other_bit c.in-Branch.other_block c.in-Branch.other_low.value c.in-Branch.other_high.value c.in_ok-half-in-UnderLow.half.value c.args.tree.now.value c.args.other.now.value t.value eo (same_halves c.in-Branch.other_bit c.in-Branch.other_block c.in_ok-half-in-UnderLow.half.value c.in_ok-half-in-UnderLow.half.value c.in-Branch.other_high.value c.in_ok-clone-in-UnderLow.field-0.value t.value refl e m) c.requires.other ix c.in_ok-half-in-UnderLow.ensures.tree c.in_ok-half-in-UnderLow.ensures.joins).0)
+    ok_so c.with_low-in-UnderLow.result (λ t. IsBranch c.in-Branch.other_bit c.in-Branch.other_block c.in_ok-join_all-in-UnderLow.field-0.value c.in-Branch.other_high.value t.value) (λ t. IsTree t.value) (c.with_low-in-UnderLow.ensures c.in-Branch.other_bit c.in-Branch.other_block c.in-Branch.other_low.value c.in-Branch.other_high.value eo)
+    (λ t m. (joins_under_low g.V.Lattice.joined c.in-Branch.other_bit c.in-Branch.other_block c.in-Branch.other_low.value c.in-Branch.other_high.value c.in_ok-join_all-in-UnderLow.field-0.value c.args.tree.now.value c.args.other.now.value t.value eo m c.requires.other ix c.in_ok-join_all-in-UnderLow.ensures.tree c.in_ok-join_all-in-UnderLow.ensures.joins).0)
 
-pub returns-in_ok-clone-in-UnderLow-clause-joins : goal.returns-in_ok-clone-in-UnderLow-clause-joins
-returns-in_ok-clone-in-UnderLow-clause-joins g t c =
+pub returns-in_ok-join_all-in-UnderLow-clause-joins : goal.returns-in_ok-join_all-in-UnderLow-clause-joins
+returns-in_ok-join_all-in-UnderLow-clause-joins g t c =
     let et : IsBranch c.in-Branch-deref.bit c.in-Branch-deref.block c.in-Branch-deref.low.value c.in-Branch-deref.high.value c.args.tree.now.value = subst (IsBranch c.in-Branch-deref.bit c.in-Branch-deref.block c.in-Branch-deref.low.value c.in-Branch-deref.high.value) c.deref-in-Branch.ensures (rw c.in-Branch-deref.is (refl, refl, refl, refl)) in
     let eo : IsBranch c.in-Branch.other_bit c.in-Branch.other_block c.in-Branch.other_low.value c.in-Branch.other_high.value c.args.other.now.value = subst (IsBranch c.in-Branch.other_bit c.in-Branch.other_block c.in-Branch.other_low.value c.in-Branch.other_high.value) c.deref.ensures (rw c.in-Branch.is (refl, refl, refl, refl)) in
     let ix : Inside c.in-Branch.other_bit (2 * c.in-Branch.other_block) c.args.tree.now.value = inside_in c.in-Branch.other_bit (2 * c.in-Branch.other_block) (c.in-Branch-deref.bit + 1) c.in-Branch-deref.block c.args.tree.now.value c.in-UnderLow.ensures (block_of_branch c.in-Branch-deref.bit c.in-Branch-deref.block c.in-Branch-deref.low.value c.in-Branch-deref.high.value c.args.tree.now.value c.args.tree.now.value et c.requires.tree refl) in
-    let e : c.in_ok-clone-in-UnderLow.field-0.value ≡ c.in-Branch.other_high.value = grind (arith, common_steps) in
-    ok_so c.branch-half-in-UnderLow-2.result (λ t. IsBranch c.in-Branch.other_bit c.in-Branch.other_block c.in_ok-half-in-UnderLow.half.value c.in_ok-clone-in-UnderLow.field-0.value t.value) (λ t. Joins g.V.Lattice.joined c.args.tree.now.value c.args.other.now.value t.value) c.branch-half-in-UnderLow-2.ensures
-    (λ t m. (joins_under_low g.V.Lattice.joined c.in-Branch.other_bit c.in-Branch.other_block c.in-Branch.other_low.value c.in-Branch.other_high.value c.in_ok-half-in-UnderLow.half.value c.args.tree.now.value c.args.other.now.value t.value eo (same_halves c.in-Branch.other_bit c.in-Branch.other_block c.in_ok-half-in-UnderLow.half.value c.in_ok-half-in-UnderLow.half.value c.in-Branch.other_high.value c.in_ok-clone-in-UnderLow.field-0.value t.value refl e m) c.requires.other ix c.in_ok-half-in-UnderLow.ensures.tree c.in_ok-half-in-UnderLow.ensures.joins).1)
+    ok_so c.with_low-in-UnderLow.result (λ t. IsBranch c.in-Branch.other_bit c.in-Branch.other_block c.in_ok-join_all-in-UnderLow.field-0.value c.in-Branch.other_high.value t.value) (λ t. Joins g.V.Lattice.joined c.args.tree.now.value c.args.other.now.value t.value) (c.with_low-in-UnderLow.ensures c.in-Branch.other_bit c.in-Branch.other_block c.in-Branch.other_low.value c.in-Branch.other_high.value eo)
+    (λ t m. (joins_under_low g.V.Lattice.joined c.in-Branch.other_bit c.in-Branch.other_block c.in-Branch.other_low.value c.in-Branch.other_high.value c.in_ok-join_all-in-UnderLow.field-0.value c.args.tree.now.value c.args.other.now.value t.value eo m c.requires.other ix c.in_ok-join_all-in-UnderLow.ensures.tree c.in_ok-join_all-in-UnderLow.ensures.joins).1)
 
-pub returns-in_ok-clone-in-UnderHigh-clause-tree : goal.returns-in_ok-clone-in-UnderHigh-clause-tree
-returns-in_ok-clone-in-UnderHigh-clause-tree g t c =
+pub returns-in_ok-join_all-in-UnderHigh-clause-tree : goal.returns-in_ok-join_all-in-UnderHigh-clause-tree
+returns-in_ok-join_all-in-UnderHigh-clause-tree g t c =
     let et : IsBranch c.in-Branch-deref.bit c.in-Branch-deref.block c.in-Branch-deref.low.value c.in-Branch-deref.high.value c.args.tree.now.value = subst (IsBranch c.in-Branch-deref.bit c.in-Branch-deref.block c.in-Branch-deref.low.value c.in-Branch-deref.high.value) c.deref-in-Branch.ensures (rw c.in-Branch-deref.is (refl, refl, refl, refl)) in
     let eo : IsBranch c.in-Branch.other_bit c.in-Branch.other_block c.in-Branch.other_low.value c.in-Branch.other_high.value c.args.other.now.value = subst (IsBranch c.in-Branch.other_bit c.in-Branch.other_block c.in-Branch.other_low.value c.in-Branch.other_high.value) c.deref.ensures (rw c.in-Branch.is (refl, refl, refl, refl)) in
     let ix : Inside c.in-Branch.other_bit (2 * c.in-Branch.other_block + 1) c.args.tree.now.value = inside_in c.in-Branch.other_bit (2 * c.in-Branch.other_block + 1) (c.in-Branch-deref.bit + 1) c.in-Branch-deref.block c.args.tree.now.value c.in-UnderHigh.ensures (block_of_branch c.in-Branch-deref.bit c.in-Branch-deref.block c.in-Branch-deref.low.value c.in-Branch-deref.high.value c.args.tree.now.value c.args.tree.now.value et c.requires.tree refl) in
-    let e : c.in_ok-clone-in-UnderHigh.field-0.value ≡ c.in-Branch.other_low.value = grind (arith, common_steps) in
-    ok_so c.branch-branch-in-UnderHigh.result (λ t. IsBranch c.in-Branch.other_bit c.in-Branch.other_block c.in_ok-clone-in-UnderHigh.field-0.value c.in_ok-half-in-UnderHigh.half.value t.value) (λ t. IsTree t.value) c.branch-branch-in-UnderHigh.ensures
-    (λ t m. (joins_under_high g.V.Lattice.joined c.in-Branch.other_bit c.in-Branch.other_block c.in-Branch.other_low.value c.in-Branch.other_high.value c.in_ok-half-in-UnderHigh.half.value c.args.tree.now.value c.args.other.now.value t.value eo (same_halves c.in-Branch.other_bit c.in-Branch.other_block c.in-Branch.other_low.value c.in_ok-clone-in-UnderHigh.field-0.value c.in_ok-half-in-UnderHigh.half.value c.in_ok-half-in-UnderHigh.half.value t.value e refl m) c.requires.other ix c.in_ok-half-in-UnderHigh.ensures.tree c.in_ok-half-in-UnderHigh.ensures.joins).0)
+    ok_so c.with_high-in-UnderHigh.result (λ t. IsBranch c.in-Branch.other_bit c.in-Branch.other_block c.in-Branch.other_low.value c.in_ok-join_all-in-UnderHigh.field-0.value t.value) (λ t. IsTree t.value) (c.with_high-in-UnderHigh.ensures c.in-Branch.other_bit c.in-Branch.other_block c.in-Branch.other_low.value c.in-Branch.other_high.value eo)
+    (λ t m. (joins_under_high g.V.Lattice.joined c.in-Branch.other_bit c.in-Branch.other_block c.in-Branch.other_low.value c.in-Branch.other_high.value c.in_ok-join_all-in-UnderHigh.field-0.value c.args.tree.now.value c.args.other.now.value t.value eo m c.requires.other ix c.in_ok-join_all-in-UnderHigh.ensures.tree c.in_ok-join_all-in-UnderHigh.ensures.joins).0)
 
-pub returns-in_ok-clone-in-UnderHigh-clause-joins : goal.returns-in_ok-clone-in-UnderHigh-clause-joins
-returns-in_ok-clone-in-UnderHigh-clause-joins g t c =
+pub returns-in_ok-join_all-in-UnderHigh-clause-joins : goal.returns-in_ok-join_all-in-UnderHigh-clause-joins
+returns-in_ok-join_all-in-UnderHigh-clause-joins g t c =
     let et : IsBranch c.in-Branch-deref.bit c.in-Branch-deref.block c.in-Branch-deref.low.value c.in-Branch-deref.high.value c.args.tree.now.value = subst (IsBranch c.in-Branch-deref.bit c.in-Branch-deref.block c.in-Branch-deref.low.value c.in-Branch-deref.high.value) c.deref-in-Branch.ensures (rw c.in-Branch-deref.is (refl, refl, refl, refl)) in
     let eo : IsBranch c.in-Branch.other_bit c.in-Branch.other_block c.in-Branch.other_low.value c.in-Branch.other_high.value c.args.other.now.value = subst (IsBranch c.in-Branch.other_bit c.in-Branch.other_block c.in-Branch.other_low.value c.in-Branch.other_high.value) c.deref.ensures (rw c.in-Branch.is (refl, refl, refl, refl)) in
     let ix : Inside c.in-Branch.other_bit (2 * c.in-Branch.other_block + 1) c.args.tree.now.value = inside_in c.in-Branch.other_bit (2 * c.in-Branch.other_block + 1) (c.in-Branch-deref.bit + 1) c.in-Branch-deref.block c.args.tree.now.value c.in-UnderHigh.ensures (block_of_branch c.in-Branch-deref.bit c.in-Branch-deref.block c.in-Branch-deref.low.value c.in-Branch-deref.high.value c.args.tree.now.value c.args.tree.now.value et c.requires.tree refl) in
-    let e : c.in_ok-clone-in-UnderHigh.field-0.value ≡ c.in-Branch.other_low.value = grind (arith, common_steps) in
-    ok_so c.branch-branch-in-UnderHigh.result (λ t. IsBranch c.in-Branch.other_bit c.in-Branch.other_block c.in_ok-clone-in-UnderHigh.field-0.value c.in_ok-half-in-UnderHigh.half.value t.value) (λ t. Joins g.V.Lattice.joined c.args.tree.now.value c.args.other.now.value t.value) c.branch-branch-in-UnderHigh.ensures
-    (λ t m. (joins_under_high g.V.Lattice.joined c.in-Branch.other_bit c.in-Branch.other_block c.in-Branch.other_low.value c.in-Branch.other_high.value c.in_ok-half-in-UnderHigh.half.value c.args.tree.now.value c.args.other.now.value t.value eo (same_halves c.in-Branch.other_bit c.in-Branch.other_block c.in-Branch.other_low.value c.in_ok-clone-in-UnderHigh.field-0.value c.in_ok-half-in-UnderHigh.half.value c.in_ok-half-in-UnderHigh.half.value t.value e refl m) c.requires.other ix c.in_ok-half-in-UnderHigh.ensures.tree c.in_ok-half-in-UnderHigh.ensures.joins).1)
+    ok_so c.with_high-in-UnderHigh.result (λ t. IsBranch c.in-Branch.other_bit c.in-Branch.other_block c.in-Branch.other_low.value c.in_ok-join_all-in-UnderHigh.field-0.value t.value) (λ t. Joins g.V.Lattice.joined c.args.tree.now.value c.args.other.now.value t.value) (c.with_high-in-UnderHigh.ensures c.in-Branch.other_bit c.in-Branch.other_block c.in-Branch.other_low.value c.in-Branch.other_high.value eo)
+    (λ t m. (joins_under_high g.V.Lattice.joined c.in-Branch.other_bit c.in-Branch.other_block c.in-Branch.other_low.value c.in-Branch.other_high.value c.in_ok-join_all-in-UnderHigh.field-0.value c.args.tree.now.value c.args.other.now.value t.value eo m c.requires.other ix c.in_ok-join_all-in-UnderHigh.ensures.tree c.in_ok-join_all-in-UnderHigh.ensures.joins).1)
 
 pub link-requires-clause-a_fits : goal.link-requires-clause-a_fits
 link-requires-clause-a_fits g t c =

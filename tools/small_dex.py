@@ -232,15 +232,18 @@ def code_item(method, pools):
     if not groups:
         return out
     out += b'\0\0' if len(units) % 2 else b''
-    handlers, heads = uleb(len(groups)), b''
-    for first, end, catches in groups:
-        heads += struct.pack('<IHH', first, end - first, len(handlers))
+    lists = {tuple(catches): None for _, _, catches in groups}
+    handlers, heads = uleb(len(lists)), b''
+    for catches in lists:
+        lists[catches] = len(handlers)
         typed = [(k, h) for k, h in catches if k]
         rest = [h for k, h in catches if not k]
         handlers += sleb(-len(typed) if rest else len(typed))
         for kind, handler in typed:
             handlers += uleb(pools.type[kind]) + uleb(handler)
         handlers += uleb(rest[0]) if rest else b''
+    for first, end, catches in groups:
+        heads += struct.pack('<IHH', first, end - first, lists[tuple(catches)])
     return out + heads + handlers
 
 

@@ -1,11 +1,12 @@
 //! Registers, read and written.
 
-ghost use Rattle.std.specs.Prelude.{◌≡◌, ◌+◌, IfOk, Option};
+ghost use Rattle.std.specs.Prelude.{◌≡◌, ◌+◌, IfOk, IsTrue, Option, Some};
+ghost use Rattle.std.specs.FinMap as finite;
 ghost use Rattle.dom_frame.specs.Registers.{Registers, value_at, filled, put, put_wide, put_sized, moved, refined, refined_both, then_put};
 
 use domains::Value;
 use insn_set::Slot;
-use pat_map::PatMap;
+use pat_map::{MapValue, PatMap};
 use std::alloc::{AllocError, Global};
 
 /// The value of a register, that of nothing where it has none.
@@ -91,6 +92,33 @@ pub(crate) fn moved(
     }
 }
 
+/// Whether a register surely has this value.
+fn has(registers: &PatMap<Value>, register: u32, value: &Value) -> bool
+    ensures { IsTrue result → finite.get registers.now register ≡ Some value.now }
+{
+    match registers.get(register) {
+        Some(own) => own.is_same(value),
+        None => false,
+    }
+}
+
+/// The registers with a value in one, which are shared whole where it stands there already.
+#[tactic(auto, using(crate::proofs::Staying::stays))]
+fn put_left(
+    alloc: Global,
+    registers: &PatMap<Value>,
+    to: u16,
+    value: Value,
+) -> Result<PatMap<Value>, AllocError>
+    ensures { IfOk result (λ x. x ≡ put to value registers.now) }
+{
+    if has(registers, u32::from(to), &value) {
+        registers.share()
+    } else {
+        put(alloc, registers, to, value)
+    }
+}
+
 /// The registers with what is left of one, where anything is.
 pub(crate) fn refined(
     alloc: Global,
@@ -101,7 +129,7 @@ pub(crate) fn refined(
     ensures { IfOk result (λ o. o ≡ refined register value registers.now) }
 {
     match value {
-        Some(value) => Ok(Some(put(alloc, registers, register, value)?)),
+        Some(value) => Ok(Some(put_left(alloc, registers, register, value)?)),
         None => Ok(None),
     }
 }
@@ -118,8 +146,8 @@ pub(crate) fn refined_both(
 {
     match values {
         Some((one, other)) => {
-            let left = put(alloc, registers, first, one)?;
-            Ok(Some(put(alloc, &left, second, other)?))
+            let left = put_left(alloc, registers, first, one)?;
+            Ok(Some(put_left(alloc, &left, second, other)?))
         }
         None => Ok(None),
     }

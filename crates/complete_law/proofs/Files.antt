@@ -4,7 +4,7 @@ use Rattle.std.specs.Prelude.{slice_index}
 use Rattle.dex_base.specs.Reading.{◌>>=◌}
 use Rattle.dex_base.proofs.Decides.{err_is}
 use Rattle.dex_defs.specs.Parts as parts
-use Rattle.dex_defs.specs.ClassFaults.{HasFault, BadGraph, DefinedTwice, OwnAncestor, Split}
+use Rattle.dex_defs.specs.ClassFaults.{BadGraph, DefinedTwice, OwnAncestor, Split}
 use Rattle.dex_defs.specs.Spells.{Spells}
 use Rattle.dex_read.specs.File.{program_at}
 use Rattle.dex_read.specs.declared.fault.DexFault.{DexFault}
@@ -14,7 +14,7 @@ use Rattle.hierarchy.specs.declared.fault.HierarchyFault.{HierarchyFault}
 use Rattle.hierarchy.specs.declared.fault.HierarchyFault.TheVariants as classes
 use Rattle.program_model.specs.declared.program.Program.{Program}
 use Rattle.redex_cli.specs.Accepted.{IsTypeCause}
-use Rattle.redex_cli.specs.Files.{HasGraphFault, HasTypeFault, FileRefused, LibraryRefused}
+use Rattle.redex_cli.specs.Files.{FileRefused}
 use Rattle.redex_cli.specs.Refusals.{IsDexFault, IsHierarchyFault, IsTypeFault, IsInputFault}
 use Rattle.redex_cli.specs.declared.status.InputFault.{InputFault}
 use Rattle.redex_cli.specs.declared.status.InputFault.TheVariants as input
@@ -27,7 +27,7 @@ use Rattle.stub_library.specs.Stubs.{library_of, library_at}
 use Rattle.stub_library.specs.declared.library.Library.{Library}
 use Rattle.verify.specs.declared.fault.TypeFault.{TypeFault}
 use Rattle.verify.specs.declared.fault.TypeFault.TheVariants as typing
-use Rattle.complete_law.specs.Complete.{IsGoodFile, IsGoodLibrary}
+use Rattle.complete_law.specs.Complete.{IsGoodFile}
 
 not_limit : (e : DexFault) → IsLimit e → IsDexFault e → ⊥
 not_limit (dex.Limit limit) h g = g

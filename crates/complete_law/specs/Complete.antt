@@ -19,7 +19,7 @@ use Rattle.redex_cli.specs.Refusals.{IsRuleFault, CouldNotFetch, CouldNotPut}
 use Rattle.redex_cli.specs.declared.fetching.Kind.{Kind}
 use Rattle.redex_cli.specs.declared.fetching.Kind.TheVariants as kind
 use Rattle.redex_cli.specs.declared.status.Status.{Status}
-use Rattle.redex_cli.specs.declared.status.Status.TheVariants.{Done, Usage, BadRules, BadDex, Limit, ReadFault, WriteFault, NoMemory, BadScript}
+use Rattle.redex_cli.specs.declared.status.Status.TheVariants.{Done, Limit, ReadFault, WriteFault, NoMemory}
 use Rattle.redex_outside.specs.Counts.{Rose}
 use Rattle.redex_outside.specs.Held.{Held}
 use Rattle.refused_code.specs.Faultless.{IsFaultless}

@@ -1,5 +1,5 @@
 -- A fault of code that is answered stands in the code item.
-use Rattle.std.proofs.Common.{◌≡◌, ◌≤◌, ◌<◌, ℕ, zero, suc, ◌+◌, ◌-◌, ◌*◌, true, false, cond, ltb, eqb, Bool, List, [], ◌∷◌, length, drop, Option, Some, None, Result, Ok, Err, refl, sym, ap, subst, ◌∙◌, arith, true≢false}
+use Rattle.std.proofs.Common.{◌≡◌, ◌≤◌, ◌<◌, ℕ, zero, suc, ◌+◌, ◌-◌, ◌*◌, true, false, ltb, eqb, Bool, List, [], ◌∷◌, length, drop, Option, Some, None, Result, Ok, Err, refl, sym, ap, subst, ◌∙◌, arith, true≢false}
 use Rattle.std.specs.Prelude.{◌&&◌, slice_get, slice_index, not}
 use Rattle.insn_set.specs.declared.form.Insn.{Insn}
 use Rattle.program_model.specs.declared.body.Region.{Region}
@@ -28,7 +28,7 @@ use Rattle.dex_defs.specs.CodeFaults as bad
 use Rattle.code_laws.specs.Founds.{Founds}
 use Rattle.code_laws.proofs.Founding.{weaker, done, next}
 use Rattle.code_laws.proofs.Sweeping.{Swept, Instructed, founds_swept, are_instructed, fewer}
-use Rattle.refused_law.proofs.Failing.{Fails, sound, fails_with, unless, fails_either, fails_next, fails_more}
+use Rattle.refused_law.proofs.Failing.{Fails, sound, fails_with, unless, fails_next, fails_more}
 use Rattle.refused_code.proofs.Sweeping.{fails_pieces}
 use Rattle.refused_code.proofs.Flowing.{none_begins, are_apart, Sized, are_sized, continuing, gap_there}
 use Rattle.refused_code.proofs.Targeting.{bad_target}

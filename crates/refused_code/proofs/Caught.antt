@@ -1,6 +1,6 @@
 -- A handler list that stands is found, and what is not read of one is wrong.
 use Rattle.std.proofs.Common.{◌≡◌, ◌≤◌, ◌<◌, ◌⊎◌, inl, inr, ℕ, zero, suc, ◌+◌, ◌*◌, Bool, true, false, cond, ltb, eqb, List, [], ◌∷◌, length, take, drop, Option, Some, None, Result, refl, sym, ap, subst, ◌∙◌, arith}
-use Rattle.std.specs.Prelude.{◌||◌, ℤ, pos, negsuc, unsigned_abs, slice_get}
+use Rattle.std.specs.Prelude.{ℤ, pos, negsuc, unsigned_abs, slice_get}
 use Rattle.std.specs.List.{list_any, position_or_len}
 use Rattle.std.specs.Result.{result_ok}
 use Rattle.std.proofs.lemmas.Bool.{ltb-false, lt-ltb, eq-eqb}

@@ -1,5 +1,5 @@
 -- A file without a fault is read, or passes a limit.
-use Rattle.std.proofs.Common.{◌≡◌, ◌<◌, ℕ, true, false, List, Result, Ok, Err, refl, sym, subst, ◌∙◌, true≢false}
+use Rattle.std.proofs.Common.{◌≡◌, ◌<◌, ℕ, true, false, List, Result, Ok, Err, refl, sym, ◌∙◌, true≢false}
 use Rattle.std.specs.Prelude.{slice_index}
 use Rattle.dex_base.specs.Reading.{Gives}
 use Rattle.program_model.specs.declared.program.Program.{Program}

@@ -1,6 +1,6 @@
 -- Where the handlers of regions that are read begin, handlers begin, and nowhere else.
-use Rattle.std.proofs.Common.{◌≡◌, ◌≤◌, ◌<◌, ◌⊎◌, inl, inr, ℕ, zero, suc, ◌+◌, ◌*◌, Bool, true, false, cond, eqb, List, [], ◌∷◌, length, drop, Option, Some, None, Ok, refl, sym, ap, subst, ◌∙◌, arith, true≢false}
-use Rattle.std.specs.Prelude.{◌||◌, slice_get}
+use Rattle.std.proofs.Common.{◌≡◌, ◌≤◌, ◌⊎◌, inl, inr, ℕ, zero, suc, ◌+◌, ◌*◌, Bool, true, false, cond, eqb, List, [], ◌∷◌, drop, Option, Some, None, Ok, refl, sym, ap, subst, ◌∙◌, arith, true≢false}
+use Rattle.std.specs.Prelude.{slice_get}
 use Rattle.std.specs.List.{list_any}
 use Rattle.std.proofs.lemmas.Bool.{eqb-true, eq-eqb}
 use Rattle.lemmas.proofs.Bools.{or_left, or_right, or_cases}
@@ -13,7 +13,7 @@ use Rattle.code_read.specs.declared.sizes.Sizes.{Sizes}
 use Rattle.code_read.specs.Marks.{is_rest, catches_at, is_handler}
 use Rattle.code_read.specs.Regions.{regions_of}
 use Rattle.dex_defs.specs.Sweep.{Places}
-use Rattle.dex_defs.specs.Handlers.{Try, IsTry, Catches, AreCatchesAt, covers, covering, IsHandler, AreHandlers, IsRest, IsRegion, AreRegions}
+use Rattle.dex_defs.specs.Handlers.{Try, IsTry, Catches, covers, covering, IsHandler, AreHandlers, IsRest, IsRegion, AreRegions}
 use Rattle.dex_defs.specs.CodeItems.{Frame, tries_at, lists_at}
 use Rattle.dex_defs.specs.CodeFaults.{HasTries, HasCatches, IsHandlerAt}
 use Rattle.dex_defs.specs.CodeFaults as bad

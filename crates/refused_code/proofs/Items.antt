@@ -1,5 +1,5 @@
 -- A fault of a method's code that is answered stands in the file.
-use Rattle.std.proofs.Common.{◌≡◌, ◌≤◌, ◌<◌, ℕ, zero, suc, ◌+◌, ◌-◌, ◌*◌, ◌^◌, false, leb, eqb, List, [], length, take, drop, Result, Some, None, Option, Ok, refl, sym, subst, ◌∙◌, arith}
+use Rattle.std.proofs.Common.{◌≡◌, ◌≤◌, ◌<◌, ℕ, zero, suc, ◌+◌, ◌-◌, ◌*◌, ◌^◌, false, leb, eqb, List, [], length, take, drop, Some, None, Option, Ok, refl, sym, subst, ◌∙◌, arith}
 use Rattle.std.specs.Int.{w16, from_le_bytes}
 use Rattle.dex_base.specs.Decides.{Each}
 use Rattle.dex_base.specs.Word.{Is16}

@@ -19,7 +19,7 @@ use Rattle.dex_read.specs.declared.class_data.Members.{Members}
 use Rattle.dex_read.specs.declared.class_defs.ClassDef.{ClassDef}
 use Rattle.dex_read.specs.declared.members.Budget.{Budget}
 use Rattle.dex_read.specs.declared.members.Owner.{Owner}
-use Rattle.dex_read.specs.Classes.{def_at, interfaces_at, root_at, field_with, no_members, methods_of, marked_at, begun_at, class_with, class_at}
+use Rattle.dex_read.specs.Classes.{def_at, field_with, no_members, methods_of, marked_at, class_with, class_at}
 use Rattle.dex_read.specs.Classes as classes
 use Rattle.dex_read.specs.Code.{frame_at, method_at}
 use Rattle.dex_read.specs.Directory.{Marked, with_marks}

@@ -1,5 +1,5 @@
 -- A move of a result or of a caught object that is found misplaced stands where it may not.
-use Rattle.std.proofs.Common.{◌≡◌, ◌≤◌, ◌<◌, ◌⊎◌, inl, inr, ℕ, zero, suc, ◌+◌, ◌-◌, ◌*◌, Bool, true, false, cond, eqb, ltb, List, [], ◌∷◌, length, drop, Option, Some, None, Ok, refl, sym, ap, subst, ◌∙◌, arith, true≢false}
+use Rattle.std.proofs.Common.{◌≡◌, ◌≤◌, ◌<◌, ◌⊎◌, inl, inr, ℕ, zero, suc, ◌+◌, ◌-◌, ◌*◌, Bool, true, false, cond, eqb, ltb, List, [], ◌∷◌, length, drop, Some, Ok, refl, sym, ap, subst, ◌∙◌, arith, true≢false}
 use Rattle.std.specs.Prelude.{◌&&◌, ◌||◌, not, ℤ, pos, replicate, slice_get, slice_index}
 use Rattle.std.specs.Ordering.{int_eq}
 use Rattle.std.specs.List.{list_any, enumerate_from}
@@ -18,7 +18,7 @@ use Rattle.code_read.specs.declared.fields.Fields.{Fields}
 use Rattle.code_read.specs.declared.sizes.Sizes.{Sizes}
 use Rattle.code_read.specs.Branches as c
 use Rattle.code_read.specs.Code.{first_astray}
-use Rattle.code_read.specs.Decoded.{opcode_at, fields_at, payload_of, call_at, branch_at, insn_of, insn_at, checked_at}
+use Rattle.code_read.specs.Decoded.{fields_at, payload_of, call_at, branch_at, insn_of, insn_at, checked_at}
 use Rattle.code_read.specs.Forms.{plain, move_form, const_form, wide_form, object_form, array_form, field_form, operation_form}
 use Rattle.code_read.specs.Marks.{set_targets, set_regions, is_marked, goes_to, is_target, is_handler}
 use Rattle.code_read.specs.Opcodes.{from_to, test_at}
@@ -29,7 +29,7 @@ use Rattle.code_read.proofs.MarkLaws.{targets_say, handlers_say}
 use Rattle.dex_defs.specs.Sweep.{Piece, Places, instructions, places_of, starts_of}
 use Rattle.dex_defs.specs.Instructions as d
 use Rattle.dex_defs.specs.CodeItems.{Frame}
-use Rattle.dex_defs.specs.CodeFaults.{HasInsn, IsGoneTo, IsHandlerAt, BadMove, moves_result, moves_caught, continues, offsets_at, kind_for}
+use Rattle.dex_defs.specs.CodeFaults.{HasInsn, IsGoneTo, IsHandlerAt, BadMove, moves_result, moves_caught, offsets_at, kind_for}
 use Rattle.dex_defs.specs.CodeFaults as bad
 use Rattle.code_laws.specs.Founds.{Founds}
 use Rattle.code_laws.proofs.Founding.{weaker, done, when}

@@ -4,13 +4,13 @@ use Rattle.std.specs.Prelude.{◌&&◌, ◌||◌, slice_get}
 use Rattle.std.specs.Int.{w16, w32, from_le_bytes}
 use Rattle.std.specs.List.{list_any}
 use Rattle.std.specs.Result.{result_ok}
-use Rattle.std.proofs.lemmas.Bool.{ltb-true, ltb-false, leb-false, cases_lt, lt-ltb, le-ltb}
+use Rattle.std.proofs.lemmas.Bool.{ltb-true, ltb-false, leb-false, cases_lt}
 use Rattle.std.proofs.lemmas.List.{length-drop, drop-drop}
 use Rattle.lemmas.proofs.Options.{some_same}
 use Rattle.dex_base.specs.declared.fault.BaseFault.{BaseFault}
 use Rattle.dex_base.specs.Decides.{Each}
 use Rattle.dex_base.specs.Leb.{IsUlebAt}
-use Rattle.dex_base.specs.Word.{Is16, Is32, u16_at, u32_at}
+use Rattle.dex_base.specs.Word.{u16_at, u32_at}
 use Rattle.dex_base.proofs.Words.{is_16, is_32}
 use Rattle.line_tables.specs.Item as line
 use Rattle.program_model.specs.declared.body.Handler.{Handler}
@@ -27,7 +27,7 @@ use Rattle.code_read.specs.Sweep.{Piece}
 use Rattle.dex_defs.specs.Sweep.{Places, starts_of}
 use Rattle.dex_defs.specs.Handlers.{Try, IsTry, Catches, AreCatches, AreCatchesAt, covers, covering, first_position, end_position}
 use Rattle.dex_defs.specs.CodeItems.{Frame, tries_at, lists_at}
-use Rattle.dex_defs.specs.CodeFaults.{HasTries, NoPosition, IsBefore, BadRegion, BadTry}
+use Rattle.dex_defs.specs.CodeFaults.{HasTries, IsBefore, BadRegion, BadTry}
 use Rattle.dex_defs.specs.CodeFaults as bad
 use Rattle.code_laws.specs.Founds.{Founds}
 use Rattle.code_laws.proofs.Founding.{weaker, done, failed, when, either}

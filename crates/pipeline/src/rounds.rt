@@ -209,10 +209,10 @@ fn body_passes(
 }
 
 /// Whether the same methods are marked.
-fn are_same(marks: &[bool], admitted: &[bool]) -> bool
-    ensures { result ≡ true → marks.now ≡ admitted.now }
+fn are_same(marks: &Admitted, admitted: &Admitted) -> bool
+    ensures { result ≡ true → marks.now.methods.items ≡ admitted.now.methods.items }
 {
-    marks == admitted
+    marks.methods == admitted.methods
 }
 
 /// Whether the admitted methods that aren't marked are still to be looked at: all are to be, nothing changed of those that are marked,
@@ -238,7 +238,7 @@ fn settle_bodies(
 {
     let left = body_passes(alloc, traced, graph, marks)?;
     let none = left.changes.is_none();
-    let same = are_same(marks.methods.as_slice(), admitted.methods.as_slice());
+    let same = are_same(marks, admitted);
     let due = is_due(all, none, same);
     if due {
         let again = body_passes(alloc, left.traced, graph, admitted)?;

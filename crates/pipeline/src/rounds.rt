@@ -1,6 +1,6 @@
 //! The asks and the rounds.
 
-ghost use Rattle.std.specs.Prelude.{◌≡◌, ◌≤◌, ◌-◌, ◌+◌, ◌∷◌, ◌&&◌, not, [], min, length, map, true, false, vec_len, IfOk, OnErr};
+ghost use Rattle.std.specs.Prelude.{◌≡◌, ◌<◌, ◌≤◌, ◌-◌, ◌+◌, ◌∷◌, ◌&&◌, not, [], min, length, map, true, false, vec_len, IfOk, OnErr};
 ghost use Rattle.program_model.specs.Cells.{capped};
 ghost use Rattle.program_model.specs.ProgramRules.{is_well_formed};
 ghost use Rattle.pipeline.specs.Advised.{verdict, AreMarks};
@@ -26,7 +26,7 @@ use crate::passes::{
 };
 use crate::prints::changed_bodies;
 use crate::silent::silence;
-use crate::traces::{Passed, Traced, and_then, unmoved};
+use crate::traces::{Changes, Passed, Traced, and_then, unmoved};
 use call_graph::{LiveSet, live_members};
 use facts::Facts;
 use hierarchy::Hierarchy;
@@ -281,6 +281,13 @@ fn look_again(
     changed_passes(alloc, traced, graph, prints, admitted, false)
 }
 
+/// Whether something was changed.
+fn are_some(changes: &Changes) -> bool
+    ensures { result ≡ true → 0 < total_of changes.now }
+{
+    !changes.is_none()
+}
+
 /// The passes on bodies, again and again over those that changed, until they change nothing.
 fn repeat_passes(
     alloc: Global,
@@ -293,11 +300,11 @@ fn repeat_passes(
     ensures { IsGraph traced.program graph.old → IfOk result (HaveRepeated admitted.now.methods.items all traced) }
 {
     let mut left = changed_passes(alloc, traced, graph, prints, admitted, all)?;
-    let mut changing = !left.changes.is_none();
+    let mut changing = are_some(&left.changes);
     let mut looks: u32 = 1;
     'looks: while changing && looks < MOST_LOOKS {
         let next = look_again(alloc, left.traced, graph, prints, admitted)?;
-        changing = !next.changes.is_none();
+        changing = are_some(&next.changes);
         left = and_then(left.changes, next);
         looks += 1;
     }

@@ -1,4 +1,4 @@
-use Rattle.std.proofs.Common.{[], ◌∷◌, ◌≡◌, ◌∙◌, sym, eqb-true}
+use Rattle.std.proofs.Common.{◌≡◌, ◌∙◌, sym, eqb-true}
 use Rattle.pipeline.specs.Changes.{total_of}
 use Rattle.pipeline.specs.Passes.{bodies}
 use Rattle.pipeline.proofs.Looking.{due_none, not_due}

@@ -60,7 +60,7 @@ due_none false none same e = absurd (true≢false (sym e))
 
 -- where nothing is due of what all is to be looked at, and nothing changed, all was looked at
 pub not_due : (all none same : Bool) → (all && none && not same) ≡ false → all ≡ true → none ≡ true → same ≡ true
-not_due true true true e yes no = refl
-not_due true true false e yes no = absurd (true≢false e)
-not_due true false same e yes no = absurd (true≢false (sym no))
-not_due false none same e yes no = absurd (true≢false (sym yes))
+not_due true true true e all_so none_so = refl
+not_due true true false e all_so none_so = absurd (true≢false e)
+not_due true false same e all_so none_so = absurd (true≢false (sym none_so))
+not_due false none same e all_so none_so = absurd (true≢false (sym all_so))

@@ -82,14 +82,14 @@ module _ (o : Outside) (admitted : List Bool) where
 -- what stays where some of the admitted methods are admitted alone, stays
 module _ (marks admitted : List Bool) (within : AreWithin marks admitted) where
   not_marked : (n : ℕ) → slice_index_or admitted n false ≡ false → slice_index_or marks n false ≡ false
-  not_marked n no = by (slice_index_or marks n false) refl
+  not_marked n out = by (slice_index_or marks n false) refl
     where
       by : (b : Bool) → slice_index_or marks n false ≡ b → b ≡ false
-      by true e = absurd (true≢false (sym (within n e) ∙ no))
+      by true e = absurd (true≢false (sym (within n e) ∙ out))
       by false e = refl
 
   method_wider : (made : ℕ → Bool) (m n : Method) → MethodStaysAlong made marks m n → MethodStaysAlong made admitted m n
-  method_wider made m n x = record { rest = x.rest; plain = x.plain; receiver = x.receiver; turned = x.turned; refused = λ no. x.refused (not_marked m.name no); registers = x.registers }
+  method_wider made m n x = record { rest = x.rest; plain = x.plain; receiver = x.receiver; turned = x.turned; refused = λ out. x.refused (not_marked m.name out); registers = x.registers }
 
   class_wider : (made : ℕ → Bool) (c d : Class) → ClassStaysAlong made marks c d → ClassStaysAlong made admitted c d
   class_wider made c d x = record { rest = x.rest; fields = x.fields; methods = λ n s. let y = x.methods n s in (y.0, (y.1.0, method_wider made y.0 n y.1.1)) }

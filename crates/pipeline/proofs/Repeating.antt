@@ -1,5 +1,6 @@
 -- The passes on bodies, again and again.
-use Rattle.std.proofs.Common.{◌≡◌, ℕ, zero, suc, ◌<◌, ◌+◌, Bool, true, false, List, [], ◌∷◌, ◌++◌, arith}
+use Rattle.std.proofs.Common.{◌≡◌, ℕ, zero, suc, ◌<◌, ◌+◌, Bool, true, false, not, List, [], ◌∷◌, ◌++◌, arith}
+use Rattle.std.specs.Prelude.{nat_eq}
 use Rattle.program_model.specs.declared.pass.Outside.{Outside}
 use Rattle.program_model.specs.declared.program.Program.{Program}
 use Rattle.program_model.specs.Cells.{capped}
@@ -67,3 +68,12 @@ module _ (admitted : List Bool) (all : Bool) (t : Traced) where
 pub some_before : (a b r : Changes) → r.removed ≡ capped (a.removed + b.removed) → r.folded ≡ capped (a.folded + b.folded) → r.rebound ≡ capped (a.rebound + b.rebound) → r.reread ≡ capped (a.reread + b.reread)
     → r.renamed ≡ capped (a.renamed + b.renamed) → 0 < total_of a → 0 < total_of r
 some_before a b r removed folded rebound reread renamed some = omega (arith, removed, folded, rebound, reread, renamed, some)
+
+-- where it isn't so that nothing was changed, something was
+pub some_changes : (c : Changes) (none : Bool) → none ≡ nat_eq (total_of c) 0 → not none ≡ true → 0 < total_of c
+some_changes c none is not_none = by (total_of c) none is not_none
+  where
+    by : (n : ℕ) (b : Bool) → b ≡ nat_eq n 0 → not b ≡ true → 0 < n
+    by zero true e h = cc
+    by zero false e h = cc
+    by (suc n) b e h = omega arith

@@ -1,6 +1,6 @@
 //! The asks and the rounds.
 
-ghost use Rattle.std.specs.Prelude.{◌≡◌, ◌≤◌, ◌-◌, ◌+◌, ◌∷◌, [], min, length, map, true, false, vec_len, IfOk, OnErr};
+ghost use Rattle.std.specs.Prelude.{◌≡◌, ◌<◌, ◌≤◌, ◌-◌, ◌+◌, ◌∷◌, ◌&&◌, not, [], min, length, map, true, false, vec_len, IfOk, OnErr};
 ghost use Rattle.program_model.specs.Cells.{capped};
 ghost use Rattle.program_model.specs.ProgramRules.{is_well_formed};
 ghost use Rattle.pipeline.specs.Advised.{verdict, AreMarks};
@@ -209,18 +209,18 @@ fn body_passes(
 }
 
 /// Whether the same methods are marked.
-fn is_same(marks: &Admitted, admitted: &Admitted) -> bool
+fn are_same(marks: &Admitted, admitted: &Admitted) -> bool
     ensures { result ≡ true → marks.now.methods.items ≡ admitted.now.methods.items }
 {
     marks.methods == admitted.methods
 }
 
-/// Whether the admitted methods that aren't marked are still to be looked at: all are, and nothing changed of those that are marked.
-fn is_due(all: bool, changes: &Changes, marks: &Admitted, admitted: &Admitted) -> bool
-    ensures due { result ≡ true → total_of changes.now ≡ 0 }
-    ensures done { result ≡ false → all ≡ true → total_of changes.now ≡ 0 → marks.now.methods.items ≡ admitted.now.methods.items }
+/// Whether the admitted methods that aren't marked are still to be looked at: all are to be, nothing changed of those that are marked,
+/// and these aren't all.
+fn is_due(all: bool, none: bool, same: bool) -> bool
+    ensures { result ≡ (all && none && not same) }
 {
-    all && changes.is_none() && !is_same(marks, admitted)
+    all && none && !same
 }
 
 /// The passes on bodies over some of the admitted methods. Where nothing was changed before, and they change nothing, they run once more
@@ -237,7 +237,9 @@ fn settle_bodies(
         → IfOk result (λ passed. (outside : Outside) → HaveLooked outside admitted.now.methods.items bodies all traced passed) }
 {
     let left = body_passes(alloc, traced, graph, marks)?;
-    let due = is_due(all, &left.changes, marks, admitted);
+    let none = left.changes.is_none();
+    let same = are_same(marks, admitted);
+    let due = is_due(all, none, same);
     if due {
         let again = body_passes(alloc, left.traced, graph, admitted)?;
         return Ok(again);
@@ -279,6 +281,13 @@ fn look_again(
     changed_passes(alloc, traced, graph, prints, admitted, false)
 }
 
+/// Whether something was changed.
+fn are_some(changes: &Changes) -> bool
+    ensures { result ≡ true → 0 < total_of changes.now }
+{
+    !changes.is_none()
+}
+
 /// The passes on bodies, again and again over those that changed, until they change nothing.
 fn repeat_passes(
     alloc: Global,
@@ -291,11 +300,11 @@ fn repeat_passes(
     ensures { IsGraph traced.program graph.old → IfOk result (HaveRepeated admitted.now.methods.items all traced) }
 {
     let mut left = changed_passes(alloc, traced, graph, prints, admitted, all)?;
-    let mut changing = !left.changes.is_none();
+    let mut changing = are_some(&left.changes);
     let mut looks: u32 = 1;
     'looks: while changing && looks < MOST_LOOKS {
         let next = look_again(alloc, left.traced, graph, prints, admitted)?;
-        changing = !next.changes.is_none();
+        changing = are_some(&next.changes);
         left = and_then(left.changes, next);
         looks += 1;
     }

@@ -1,7 +1,7 @@
 //! What the registers and numbers of an instruction have to be (Dalvik bytecode, "Summary of bytecode set").
 
 ghost use Rattle.std.specs.Prelude.{◌≡◌};
-ghost use Rattle.program_model.specs.OperandRules.{has_room, are_registers, registers_fit, numbers_fit};
+ghost use Rattle.program_model.specs.OperandRules.{has_room, are_registers, number_registers, memory_registers, registers_fit, numbers_fit};
 
 use crate::program::Program;
 use crate::texts::{has_field, has_method, has_string, has_type};
@@ -25,6 +25,62 @@ fn are_registers(words: &[u16], count: u16) -> bool
     words.iter().all(|word| *word < count)
 }
 
+/// Whether each register of a test of numbers or an operation on numbers is below the count. The other forms left have none.
+fn number_registers(insn: &Insn, count: u16) -> bool
+    ensures { result ≡ number_registers insn.now count }
+{
+    match insn {
+        Insn::Cmp { op, to, a, b } => {
+            *to < count
+                && (has_room(op.compares_wide(), *a, count)
+                    && has_room(op.compares_wide(), *b, count))
+        }
+        Insn::If { a, b, .. } => *a < count && *b < count,
+        Insn::IfZero { a, .. } => *a < count,
+        Insn::Unary { op, to, from } => {
+            has_room(op.writes_wide(), *to, count) && has_room(op.reads_wide(), *from, count)
+        }
+        Insn::Binary { op, to, a, b } => {
+            has_room(op.is_wide(), *to, count)
+                && (has_room(op.is_wide(), *a, count) && has_room(op.second_is_wide(), *b, count))
+        }
+        Insn::Literal { to, a, .. } => *to < count && *a < count,
+        _ => true,
+    }
+}
+
+/// Whether each register of an operation on an array, or of a get or a put of a field, is below the count, or those of an
+/// operation on numbers are.
+fn memory_registers(insn: &Insn, count: u16) -> bool
+    ensures { result ≡ memory_registers insn.now count }
+{
+    match insn {
+        Insn::ArrayLength { to, from } => *to < count && *from < count,
+        Insn::NewArray { to, size, .. } => *to < count && *size < count,
+        Insn::FillArray { on, .. } => *on < count,
+        Insn::ArrayGet {
+            item,
+            to,
+            array,
+            index,
+        } => has_room(item.is_wide(), *to, count) && (*array < count && *index < count),
+        Insn::ArrayPut {
+            item,
+            from,
+            array,
+            index,
+        } => has_room(item.is_wide(), *from, count) && (*array < count && *index < count),
+        Insn::InstanceGet { item, to, on, .. } => has_room(item.is_wide(), *to, count)
+            && *on < count,
+        Insn::InstancePut { item, from, on, .. } => {
+            has_room(item.is_wide(), *from, count) && *on < count
+        }
+        Insn::StaticGet { item, to, .. } => has_room(item.is_wide(), *to, count),
+        Insn::StaticPut { item, from, .. } => has_room(item.is_wide(), *from, count),
+        _ => number_registers(insn, count),
+    }
+}
+
 /// Whether each register that an instruction reads or writes is below the count.
 #[tactic(auto, unfolding(crate::specs::OperandRules::registers_fit))]
 pub(crate) fn registers_fit(insn: &Insn, count: u16) -> bool
@@ -45,53 +101,15 @@ pub(crate) fn registers_fit(insn: &Insn, count: u16) -> bool
         Insn::MonitorEnter { on }
         | Insn::MonitorExit { on }
         | Insn::CheckCast { on, .. }
-        | Insn::FillArray { on, .. }
         | Insn::PackedSwitch { on, .. }
         | Insn::SparseSwitch { on, .. }
         | Insn::Throw { on } => *on < count,
-        Insn::InstanceOf { to, from, .. } | Insn::ArrayLength { to, from } => {
-            *to < count && *from < count
-        }
-        Insn::NewArray { to, size, .. } => *to < count && *size < count,
+        Insn::InstanceOf { to, from, .. } => *to < count && *from < count,
         Insn::FilledNewArray { args, .. } | Insn::Invoke { args, .. } => are_registers(
             args.as_slice(),
             count,
         ),
-        Insn::Cmp { op, to, a, b } => {
-            *to < count
-                && (has_room(op.compares_wide(), *a, count)
-                    && has_room(op.compares_wide(), *b, count))
-        }
-        Insn::If { a, b, .. } => *a < count && *b < count,
-        Insn::IfZero { a, .. } => *a < count,
-        Insn::ArrayGet {
-            item,
-            to,
-            array,
-            index,
-        } => has_room(item.is_wide(), *to, count) && (*array < count && *index < count),
-        Insn::ArrayPut {
-            item,
-            from,
-            array,
-            index,
-        } => has_room(item.is_wide(), *from, count) && (*array < count && *index < count),
-        Insn::InstanceGet { item, to, on, .. } => has_room(item.is_wide(), *to, count)
-            && *on < count,
-        Insn::InstancePut { item, from, on, .. } => {
-            has_room(item.is_wide(), *from, count) && *on < count
-        }
-        Insn::StaticGet { item, to, .. } => has_room(item.is_wide(), *to, count),
-        Insn::StaticPut { item, from, .. } => has_room(item.is_wide(), *from, count),
-        Insn::Unary { op, to, from } => {
-            has_room(op.writes_wide(), *to, count) && has_room(op.reads_wide(), *from, count)
-        }
-        Insn::Binary { op, to, a, b } => {
-            has_room(op.is_wide(), *to, count)
-                && (has_room(op.is_wide(), *a, count) && has_room(op.second_is_wide(), *b, count))
-        }
-        Insn::Literal { to, a, .. } => *to < count && *a < count,
-        _ => true,
+        _ => memory_registers(insn, count),
     }
 }
 

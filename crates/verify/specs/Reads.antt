@@ -130,6 +130,13 @@ refused_several s n ks (insn.FilledNewArray type args) = refused_items s ks type
 refused_several s n ks (insn.Invoke k method args) = refused_call s n ks k method args
 refused_several s n ks i = None
 
+-- the same of the forms that name a member or a type
+abbrev pub refused_named : Setting → ℕ → List Kind → Insn → Option ℕ
+refused_named s n ks (insn.InstancePut i from on field) = lower (unless (is_of_type s ks from (field_kind s.program.now field)) from) (unless (is_holder s (kind_at ks on) field) on)
+refused_named s n ks (insn.FilledNewArray type args) = refused_items s ks type args
+refused_named s n ks (insn.Invoke k method args) = refused_call s n ks k method args
+refused_named s n ks i = None
+
 -- for the place of the last result, or that of the caught object, it is the register that the form writes
 abbrev pub refused : Setting → ℕ → Kinds → Insn → Option ℕ
 refused s n a (insn.Move slot to from) = unless (is_movable slot a.registers from) from

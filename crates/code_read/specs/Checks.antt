@@ -52,6 +52,29 @@ registers_inside (Binary op to a b) n = has_room (binary_is_wide op) to n && (ha
 registers_inside (Literal op to a value) n = nat_lt to n && nat_lt a n
 registers_inside insn n = true
 
+-- the same by groups of forms, each of which hands all other forms on: operations on numbers
+abbrev pub number_registers : Insn → ℕ → Bool
+number_registers (Cmp op to a b) n = nat_lt to n && (has_room (compares_wide op) a n && has_room (compares_wide op) b n)
+number_registers (If test a b target) n = nat_lt a n && nat_lt b n
+number_registers (IfZero test a target) n = nat_lt a n
+number_registers (Unary op to from) n = has_room (unary_writes_wide op) to n && has_room (unary_reads_wide op) from n
+number_registers (Binary op to a b) n = has_room (binary_is_wide op) to n && (has_room (binary_is_wide op) a n && has_room (second_is_wide op) b n)
+number_registers (Literal op to a value) n = nat_lt to n && nat_lt a n
+number_registers insn n = true
+
+-- arrays and fields
+abbrev pub memory_registers : Insn → ℕ → Bool
+memory_registers (ArrayLength to from) n = nat_lt to n && nat_lt from n
+memory_registers (NewArray to size kind) n = nat_lt to n && nat_lt size n
+memory_registers (FillArray on width items) n = nat_lt on n
+memory_registers (ArrayGet item to array index) n = has_room (is_wide_item item) to n && (nat_lt array n && nat_lt index n)
+memory_registers (ArrayPut item from array index) n = has_room (is_wide_item item) from n && (nat_lt array n && nat_lt index n)
+memory_registers (InstanceGet item to on field) n = has_room (is_wide_item item) to n && nat_lt on n
+memory_registers (InstancePut item from on field) n = has_room (is_wide_item item) from n && nat_lt on n
+memory_registers (StaticGet item to field) n = has_room (is_wide_item item) to n
+memory_registers (StaticPut item from field) n = has_room (is_wide_item item) from n
+memory_registers insn n = number_registers insn n
+
 -- whether the table that an instruction names an entry of has that entry
 abbrev pub numbers_inside : Insn → Sizes → Bool
 numbers_inside (ConstString to string) s = nat_lt string s.strings

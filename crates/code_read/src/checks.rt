@@ -2,7 +2,7 @@
 
 ghost use Rattle.std.specs.Prelude.{◌≡◌, nat_lt, length, not, position};
 ghost use Rattle.std.specs.List.{list_all};
-ghost use Rattle.code_read.specs.Checks.{has_room, are_registers, registers_inside, numbers_inside, operands_inside, targets_inside};
+ghost use Rattle.code_read.specs.Checks.{has_room, are_registers, number_registers, memory_registers, registers_inside, numbers_inside, operands_inside, targets_inside};
 
 use crate::sizes::Sizes;
 use insn_set::Insn;
@@ -25,6 +25,60 @@ fn all_fit(words: &[u16], count: u16) -> bool
     words.iter().all(|word| *word < count)
 }
 
+/// Whether each register of a test of numbers or an operation on numbers is below the count. The other forms left have none.
+fn number_registers(insn: &Insn, count: u16) -> bool
+    ensures { result ≡ number_registers insn.now count }
+{
+    match insn {
+        Insn::Cmp { op, to, a, b } => {
+            *to < count
+                && (fits(op.compares_wide(), *a, count) && fits(op.compares_wide(), *b, count))
+        }
+        Insn::If { a, b, .. } => *a < count && *b < count,
+        Insn::IfZero { a, .. } => *a < count,
+        Insn::Unary { op, to, from } => {
+            fits(op.writes_wide(), *to, count) && fits(op.reads_wide(), *from, count)
+        }
+        Insn::Binary { op, to, a, b } => {
+            fits(op.is_wide(), *to, count)
+                && (fits(op.is_wide(), *a, count) && fits(op.second_is_wide(), *b, count))
+        }
+        Insn::Literal { to, a, .. } => *to < count && *a < count,
+        _ => true,
+    }
+}
+
+/// Whether each register of an operation on an array, or of a get or a put of a field, is below the count, or those of an
+/// operation on numbers are.
+fn memory_registers(insn: &Insn, count: u16) -> bool
+    ensures { result ≡ memory_registers insn.now count }
+{
+    match insn {
+        Insn::ArrayLength { to, from } => *to < count && *from < count,
+        Insn::NewArray { to, size, .. } => *to < count && *size < count,
+        Insn::FillArray { on, .. } => *on < count,
+        Insn::ArrayGet {
+            item,
+            to,
+            array,
+            index,
+        } => fits(item.is_wide(), *to, count) && (*array < count && *index < count),
+        Insn::ArrayPut {
+            item,
+            from,
+            array,
+            index,
+        } => fits(item.is_wide(), *from, count) && (*array < count && *index < count),
+        Insn::InstanceGet { item, to, on, .. } => fits(item.is_wide(), *to, count) && *on < count,
+        Insn::InstancePut { item, from, on, .. } => {
+            fits(item.is_wide(), *from, count) && *on < count
+        }
+        Insn::StaticGet { item, to, .. } => fits(item.is_wide(), *to, count),
+        Insn::StaticPut { item, from, .. } => fits(item.is_wide(), *from, count),
+        _ => number_registers(insn, count),
+    }
+}
+
 /// Whether each register that an instruction reads or writes is below the count.
 fn has_registers(insn: &Insn, count: u16) -> bool
     ensures { result ≡ registers_inside insn.now count }
@@ -44,51 +98,15 @@ fn has_registers(insn: &Insn, count: u16) -> bool
         Insn::MonitorEnter { on }
         | Insn::MonitorExit { on }
         | Insn::CheckCast { on, .. }
-        | Insn::FillArray { on, .. }
         | Insn::PackedSwitch { on, .. }
         | Insn::SparseSwitch { on, .. }
         | Insn::Throw { on } => *on < count,
-        Insn::InstanceOf { to, from, .. } | Insn::ArrayLength { to, from } => {
-            *to < count && *from < count
-        }
-        Insn::NewArray { to, size, .. } => *to < count && *size < count,
+        Insn::InstanceOf { to, from, .. } => *to < count && *from < count,
         Insn::FilledNewArray { args, .. } | Insn::Invoke { args, .. } => all_fit(
             args.as_slice(),
             count,
         ),
-        Insn::Cmp { op, to, a, b } => {
-            *to < count
-                && (fits(op.compares_wide(), *a, count) && fits(op.compares_wide(), *b, count))
-        }
-        Insn::If { a, b, .. } => *a < count && *b < count,
-        Insn::IfZero { a, .. } => *a < count,
-        Insn::ArrayGet {
-            item,
-            to,
-            array,
-            index,
-        } => fits(item.is_wide(), *to, count) && (*array < count && *index < count),
-        Insn::ArrayPut {
-            item,
-            from,
-            array,
-            index,
-        } => fits(item.is_wide(), *from, count) && (*array < count && *index < count),
-        Insn::InstanceGet { item, to, on, .. } => fits(item.is_wide(), *to, count) && *on < count,
-        Insn::InstancePut { item, from, on, .. } => {
-            fits(item.is_wide(), *from, count) && *on < count
-        }
-        Insn::StaticGet { item, to, .. } => fits(item.is_wide(), *to, count),
-        Insn::StaticPut { item, from, .. } => fits(item.is_wide(), *from, count),
-        Insn::Unary { op, to, from } => {
-            fits(op.writes_wide(), *to, count) && fits(op.reads_wide(), *from, count)
-        }
-        Insn::Binary { op, to, a, b } => {
-            fits(op.is_wide(), *to, count)
-                && (fits(op.is_wide(), *a, count) && fits(op.second_is_wide(), *b, count))
-        }
-        Insn::Literal { to, a, .. } => *to < count && *a < count,
-        _ => true,
+        _ => memory_registers(insn, count),
     }
 }
 

@@ -9,6 +9,7 @@ use Rattle.dex_pools.specs.declared.fault.PoolFault.TheVariants.{Index}
 use Rattle.dex_pools.specs.Marks.{marks_at, parameters_marks_at}
 use Rattle.dex_read.specs.declared.class_data.Listed.{Listed}
 use Rattle.dex_read.specs.declared.class_data.Members.{Members}
+use Rattle.dex_read.specs.declared.directory.MarkCounts.{MarkCounts}
 use Rattle.dex_read.specs.declared.fault.DexFault.{DexFault}
 use Rattle.dex_read.specs.declared.fault.DexFault.TheVariants.{Pool, Member}
 use Rattle.dex_read.specs.ClassData.{ascends_at, place_in}
@@ -83,6 +84,14 @@ pub record Marked : Type 0 where
 
 abbrev pub marked : List Mark → List Field → List Method → ℕ → Marked
 marked marks fields methods left = record { marks = marks; fields = fields; methods = methods; left = left }
+
+-- the members with the annotations of the lists of so many pairs in the directory at this place; those of the class are handed on
+abbrev pub marked_members : List ℕ → Program → ℕ → Members → ℕ → MarkCounts → List Mark × ℕ → List Field → List Method → Result Marked DexFault
+marked_members bytes p class listed at counts marks fields methods = do
+  own_fields ← steps (mark_field bytes p class (listed.statics ++ listed.instances) (at + 16)) 0 counts.fields (fields, (0, marks.1))
+  own ← steps (mark_method bytes p class (listed.directs ++ listed.virtuals) (at + 16 + 8 * counts.fields)) 0 counts.methods (methods, (0, own_fields.1.1))
+  all ← steps (mark_parameters bytes p class (listed.directs ++ listed.virtuals) (at + 16 + 8 * counts.fields + 8 * counts.methods)) 0 counts.parameters (own.0, (0, own.1.1))
+  Ok (marked marks.0 own_fields.0 all.0 all.1.1)
 
 unfoldable pub directory_at : List ℕ → Program → ℕ → Members → ℕ → List Field → List Method → ℕ → Result Marked DexFault
 directory_at bytes p class listed at fields methods left = do

@@ -337,6 +337,26 @@ fn methods_of(
     })
 }
 
+/// The members of four lists.
+fn members_of(
+    statics: MemberList,
+    instances: MemberList,
+    directs: MemberList,
+    virtuals: MemberList,
+) -> Members
+    ensures statics { result.statics ≡ statics.entries.items }
+    ensures instances { result.instances ≡ instances.entries.items }
+    ensures directs { result.directs ≡ directs.entries.items }
+    ensures virtuals { result.virtuals ≡ virtuals.entries.items }
+{
+    Members {
+        statics: Seq::of_vec(statics.entries),
+        instances: Seq::of_vec(instances.entries),
+        directs: Seq::of_vec(directs.entries),
+        virtuals: Seq::of_vec(virtuals.entries),
+    }
+}
+
 /// The members of the class whose class data stands at `at`.
 #[tactic(auto, using(crate::proofs::Rising::fields_ascend, crate::proofs::Rising::methods_ascend, crate::proofs::Rising::none_ascends), unfolding(crate::specs::ClassData::members_at))]
 pub fn read_members(
@@ -382,10 +402,5 @@ pub fn read_members(
         virtual_count,
         directs.next,
     )?;
-    Ok(Members {
-        statics: Seq::of_vec(statics.entries),
-        instances: Seq::of_vec(instances.entries),
-        directs: Seq::of_vec(directs.entries),
-        virtuals: Seq::of_vec(virtuals.entries),
-    })
+    Ok(members_of(statics, instances, directs, virtuals))
 }

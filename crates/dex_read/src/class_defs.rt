@@ -332,6 +332,28 @@ fn source_of(number: u32) -> Option<u32>
     }
 }
 
+/// The class of a class_def with its interfaces, its annotations and its members.
+fn class_with(
+    def: ClassDef,
+    interfaces: Seq<u32>,
+    marks: Seq<Mark>,
+    fields: Vec<Field>,
+    methods: Vec<Method>,
+) -> Class
+    ensures { result ≡ class_with def interfaces (marked marks fields.items methods.items 0) fields.items }
+{
+    Class {
+        name: def.class,
+        flags: Flags(def.flags),
+        superclass: def.superclass,
+        interfaces,
+        source: source_of(def.source),
+        marks,
+        fields: Seq::of_vec(fields),
+        methods: Seq::of_vec(methods),
+    }
+}
+
 /// The class at this place, whose class_def stands at `at`. `units` is a list to work in.
 #[tactic(auto, unfolding(crate::specs::Classes::class_at))]
 pub fn read_class(
@@ -379,14 +401,5 @@ pub fn read_class(
         &mut left,
     )?;
     budget.items = left;
-    Ok(Class {
-        name: def.class,
-        flags: Flags(def.flags),
-        superclass: def.superclass,
-        interfaces,
-        source: source_of(def.source),
-        marks,
-        fields: Seq::of_vec(fields),
-        methods: Seq::of_vec(methods),
-    })
+    Ok(class_with(def, interfaces, marks, fields, methods))
 }

@@ -5,7 +5,7 @@ ghost use Rattle.dex_base.specs.Reading.{Gives};
 ghost use Rattle.dex_read.specs.Counts.{CountsInFile};
 ghost use Rattle.dex_read.specs.Ascending.{AllAscend, Ascends};
 ghost use Rattle.dex_read.specs.ClassData.{place_in};
-ghost use Rattle.dex_read.specs.Directory.{set_at, sets_at, pair_at, found_at, named_at, with_marks, with_own_marks, with_parameter_marks, mark_field, mark_method, mark_parameters, marked, directory_at};
+ghost use Rattle.dex_read.specs.Directory.{set_at, sets_at, pair_at, found_at, named_at, with_marks, with_own_marks, with_parameter_marks, mark_field, mark_method, mark_parameters, marked, marked_members, directory_at};
 ghost use Rattle.dex_read.specs.Faults.{is_free};
 ghost use Rattle.dex_read.specs.Steps.{steps, change_at};
 
@@ -364,6 +364,69 @@ fn mark_all_parameters(
     Ok(before)
 }
 
+/// How many members of each kind have annotations, and how many methods have annotated parameters.
+#[derive(Clone, Copy, Drop)]
+struct MarkCounts {
+    fields: u32,
+    methods: u32,
+    parameters: u32,
+}
+
+/// Sets the annotations of the members, by the lists of so many pairs in the directory at `at`, and answers those of the
+/// class, `marks`.
+fn mark_members(
+    alloc: Global,
+    source: &Source,
+    class: u32,
+    listed: &Members,
+    at: u32,
+    counts: MarkCounts,
+    marks: Seq<Mark>,
+    fields: &mut Vec<Field>,
+    methods: &mut Vec<Method>,
+    left: &mut u32,
+) -> Result<Seq<Mark>, DexFault>
+    requires room { at + (16 + 8 * counts.fields + 8 * counts.methods + 8 * counts.parameters) ≤ length source.now.bytes.now }
+    requires ascend { AllAscend listed.now }
+    ensures gives { Gives is_free (λ all. marked all fields.new.items methods.new.items left.new) result (marked_members source.now.bytes.now source.now.program.now class listed.now at counts (marks, left.old) fields.old.items methods.old.items) }
+    ensures counts { IfErr result CountsInFile }
+{
+    let fields_at = at as usize + 16;
+    mark_fields(
+        alloc,
+        source,
+        class,
+        listed,
+        fields_at,
+        counts.fields,
+        fields,
+        left,
+    )?;
+    let methods_at = fields_at + 8 * counts.fields as usize;
+    mark_methods(
+        alloc,
+        source,
+        class,
+        listed,
+        methods_at,
+        counts.methods,
+        methods,
+        left,
+    )?;
+    let parameters_at = methods_at + 8 * counts.methods as usize;
+    mark_all_parameters(
+        alloc,
+        source,
+        class,
+        listed,
+        parameters_at,
+        counts.parameters,
+        methods,
+        left,
+    )?;
+    Ok(marks)
+}
+
 /// Reads the directory at `at` into the members, and answers the annotations of the class.
 #[tactic(auto, unfolding(crate::specs::Directory::directory_at))]
 pub fn read_directory(
@@ -381,49 +444,27 @@ pub fn read_directory(
     ensures counts { IfErr result CountsInFile }
 {
     let bytes = source.bytes;
-    let at = at as usize;
-    need(bytes, at, 16)?;
-    let set = word_of(bytes, at)?;
-    let field_count = word_of(bytes, at + 4)?;
-    let method_count = word_of(bytes, at + 8)?;
-    let parameter_count = word_of(bytes, at + 12)?;
+    let begin = at as usize;
+    need(bytes, begin, 16)?;
+    let set = word_of(bytes, begin)?;
+    let field_count = word_of(bytes, begin + 4)?;
+    let method_count = word_of(bytes, begin + 8)?;
+    let parameter_count = word_of(bytes, begin + 12)?;
     let fields_size = 8 * field_count as usize;
     let methods_size = 8 * method_count as usize;
     let parameters_size = 8 * parameter_count as usize;
-    need(bytes, at, 16 + fields_size + methods_size + parameters_size)?;
+    need(
+        bytes,
+        begin,
+        16 + fields_size + methods_size + parameters_size,
+    )?;
     let marks = set_of(alloc, source, set, left)?;
-    let fields_at = at + 16;
-    mark_fields(
-        alloc,
-        source,
-        class,
-        listed,
-        fields_at,
-        field_count,
-        fields,
-        left,
-    )?;
-    let methods_at = fields_at + fields_size;
-    mark_methods(
-        alloc,
-        source,
-        class,
-        listed,
-        methods_at,
-        method_count,
-        methods,
-        left,
-    )?;
-    let parameters_at = methods_at + methods_size;
-    mark_all_parameters(
-        alloc,
-        source,
-        class,
-        listed,
-        parameters_at,
-        parameter_count,
-        methods,
-        left,
-    )?;
-    Ok(marks)
+    let counts = MarkCounts {
+        fields: field_count,
+        methods: method_count,
+        parameters: parameter_count,
+    };
+    mark_members(
+        alloc, source, class, listed, at, counts, marks, fields, methods, left,
+    )
 }

@@ -40,6 +40,28 @@ remade r w (Binary op to a b) = Binary op (w to) (r a) (r b)
 remade r w (Literal op to a value) = Literal op (w to) (r a) value
 remade r w insn = insn
 
+-- the same of the registers that are read, by groups of forms, each of which hands all other forms on: operations on numbers
+abbrev pub number_reread : (ℕ → ℕ) → Insn → Insn
+number_reread r (Cmp op to a b) = Cmp op to (r a) (r b)
+number_reread r (If test a b target) = If test (r a) (r b) target
+number_reread r (IfZero test a target) = IfZero test (r a) target
+number_reread r (Unary op to from) = Unary op to (r from)
+number_reread r (Binary op to a b) = Binary op to (r a) (r b)
+number_reread r (Literal op to a value) = Literal op to (r a) value
+number_reread r insn = insn
+
+-- arrays and fields
+abbrev pub memory_reread : (ℕ → ℕ) → Insn → Insn
+memory_reread r (ArrayLength to from) = ArrayLength to (r from)
+memory_reread r (NewArray to size kind) = NewArray to (r size) kind
+memory_reread r (FillArray on width items) = FillArray (r on) width items
+memory_reread r (ArrayGet item to array index) = ArrayGet item to (r array) (r index)
+memory_reread r (ArrayPut item from array index) = ArrayPut item (r from) (r array) (r index)
+memory_reread r (InstanceGet item to on field) = InstanceGet item to (r on) field
+memory_reread r (InstancePut item from on field) = InstancePut item (r from) (r on) field
+memory_reread r (StaticPut item from field) = StaticPut item (r from) field
+memory_reread r insn = number_reread r insn
+
 -- the registers that an instruction reads, of a wide one the first, in the order of its operands
 abbrev pub operands_of : Insn → List ℕ
 operands_of (Move slot to from) = from ∷ []

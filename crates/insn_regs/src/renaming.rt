@@ -1,7 +1,7 @@
 //! Instructions with other registers.
 
 ghost use Rattle.std.specs.Prelude.{◌≡◌, ℕ, map, IfOk, OnOk, OnErr};
-ghost use Rattle.insn_regs.specs.Remade.{operands_of, remade};
+ghost use Rattle.insn_regs.specs.Remade.{memory_reread, number_reread, operands_of, remade};
 
 use insn_set::Insn;
 use seq::Words;
@@ -29,38 +29,11 @@ fn renamed_words<R: Renaming>(
     Words::of_slice(alloc, registers.as_slice())
 }
 
-/// Puts the registers that stand for them in place of those that an instruction reads. The register of a cast counts as
-/// read. Where there is no memory, the instruction stays as it was.
-pub fn rename_reads<R: Renaming>(
-    alloc: Global,
-    insn: &mut Insn,
-    renaming: &R,
-) -> Result<(), AllocError>
-    ensures ok { OnOk result (insn.new ≡ remade (R.renamed renaming.now) (λ r. r) insn.old) }
-    ensures err { OnErr result (insn.new ≡ insn.old) }
+/// Puts the registers that stand for them in place of those that a test of numbers or an operation on numbers reads.
+fn rename_number_reads<R: Renaming>(insn: &mut Insn, renaming: &R)
+    ensures { insn.new ≡ number_reread (R.renamed renaming.now) insn.old }
 {
     match insn {
-        Insn::Move { from, .. } => *from = renaming.at(*from),
-        Insn::Return { from, .. } => *from = renaming.at(*from),
-        Insn::InstanceOf { from, .. } => *from = renaming.at(*from),
-        Insn::ArrayLength { from, .. } => *from = renaming.at(*from),
-        Insn::StaticPut { from, .. } => *from = renaming.at(*from),
-        Insn::Unary { from, .. } => *from = renaming.at(*from),
-        Insn::MonitorEnter { on } => *on = renaming.at(*on),
-        Insn::MonitorExit { on } => *on = renaming.at(*on),
-        Insn::CheckCast { on, .. } => *on = renaming.at(*on),
-        Insn::FillArray { on, .. } => *on = renaming.at(*on),
-        Insn::Throw { on } => *on = renaming.at(*on),
-        Insn::PackedSwitch { on, .. } => *on = renaming.at(*on),
-        Insn::SparseSwitch { on, .. } => *on = renaming.at(*on),
-        Insn::InstanceGet { on, .. } => *on = renaming.at(*on),
-        Insn::NewArray { size, .. } => *size = renaming.at(*size),
-        Insn::FilledNewArray { args, .. } => *args = renamed_words(
-            alloc,
-            args.as_slice(),
-            renaming,
-        )?,
-        Insn::Invoke { args, .. } => *args = renamed_words(alloc, args.as_slice(), renaming)?,
         Insn::Cmp { a, b, .. } => {
             *a = renaming.at(*a);
             *b = renaming.at(*b);
@@ -75,6 +48,20 @@ pub fn rename_reads<R: Renaming>(
         }
         Insn::IfZero { a, .. } => *a = renaming.at(*a),
         Insn::Literal { a, .. } => *a = renaming.at(*a),
+        Insn::Unary { from, .. } => *from = renaming.at(*from),
+        _ => {}
+    }
+}
+
+/// Puts the registers that stand for them in place of those that an operation on an array, or a get or a put of a field,
+/// reads, or an operation on numbers.
+fn rename_memory_reads<R: Renaming>(insn: &mut Insn, renaming: &R)
+    ensures { insn.new ≡ memory_reread (R.renamed renaming.now) insn.old }
+{
+    match insn {
+        Insn::ArrayLength { from, .. } => *from = renaming.at(*from),
+        Insn::NewArray { size, .. } => *size = renaming.at(*size),
+        Insn::FillArray { on, .. } => *on = renaming.at(*on),
         Insn::ArrayGet { array, index, .. } => {
             *array = renaming.at(*array);
             *index = renaming.at(*index);
@@ -89,11 +76,43 @@ pub fn rename_reads<R: Renaming>(
             *array = renaming.at(*array);
             *index = renaming.at(*index);
         }
+        Insn::InstanceGet { on, .. } => *on = renaming.at(*on),
         Insn::InstancePut { from, on, .. } => {
             *from = renaming.at(*from);
             *on = renaming.at(*on);
         }
-        _ => {}
+        Insn::StaticPut { from, .. } => *from = renaming.at(*from),
+        _ => rename_number_reads(insn, renaming),
+    }
+}
+
+/// Puts the registers that stand for them in place of those that an instruction reads. The register of a cast counts as
+/// read. Where there is no memory, the instruction stays as it was.
+pub fn rename_reads<R: Renaming>(
+    alloc: Global,
+    insn: &mut Insn,
+    renaming: &R,
+) -> Result<(), AllocError>
+    ensures ok { OnOk result (insn.new ≡ remade (R.renamed renaming.now) (λ r. r) insn.old) }
+    ensures err { OnErr result (insn.new ≡ insn.old) }
+{
+    match insn {
+        Insn::Move { from, .. } => *from = renaming.at(*from),
+        Insn::Return { from, .. } => *from = renaming.at(*from),
+        Insn::InstanceOf { from, .. } => *from = renaming.at(*from),
+        Insn::MonitorEnter { on } => *on = renaming.at(*on),
+        Insn::MonitorExit { on } => *on = renaming.at(*on),
+        Insn::CheckCast { on, .. } => *on = renaming.at(*on),
+        Insn::Throw { on } => *on = renaming.at(*on),
+        Insn::PackedSwitch { on, .. } => *on = renaming.at(*on),
+        Insn::SparseSwitch { on, .. } => *on = renaming.at(*on),
+        Insn::FilledNewArray { args, .. } => *args = renamed_words(
+            alloc,
+            args.as_slice(),
+            renaming,
+        )?,
+        Insn::Invoke { args, .. } => *args = renamed_words(alloc, args.as_slice(), renaming)?,
+        _ => rename_memory_reads(insn, renaming),
     }
     Ok(())
 }

@@ -1,4 +1,5 @@
 mod Covers
 pub mod Links
+mod Marking
 pub mod Members
 mod Reaching

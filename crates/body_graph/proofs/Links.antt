@@ -24,10 +24,10 @@ rows_all b rows i all most long each n = elim (cases_lt n (length b.insns + i)) 
 
 -- ---- handlers
 
-if_true : {A : Type 0} (t : Bool) (x y : A) → t ≡ true → (if t then x else y) ≡ x
+pub if_true : {A : Type 0} (t : Bool) (x y : A) → t ≡ true → (if t then x else y) ≡ x
 if_true t x y e = rw e refl
 
-if_false : {A : Type 0} (t : Bool) (x y : A) → t ≡ false → (if t then x else y) ≡ y
+pub if_false : {A : Type 0} (t : Bool) (x y : A) → t ≡ false → (if t then x else y) ≡ y
 if_false t x y e = rw e refl
 
 -- the handlers of the first region that covers a position

@@ -8,8 +8,9 @@ use crate::gate::Gate;
 use seq::Seq;
 use std::alloc::{AllocError, Global};
 
-/// Marks a node that isn't marked yet, and lets it wait.
-fn mark(marks: &mut Vec<bool>, waiting: &mut Vec<u32>, node: u32) -> Result<(), AllocError>
+/// Marks a node that isn't marked yet, and lets it wait. A number that is no node counts for nothing. The only error is
+/// want of memory.
+pub fn mark(marks: &mut Vec<bool>, waiting: &mut Vec<u32>, node: u32) -> Result<(), AllocError>
     ensures marks { OnOk result (Marks (λ n. n ≡ node) marks.old.items waiting.old.items marks.new.items waiting.new.items) }
     ensures on { OnOk result (node < length marks.old.items → is_on marks.new.items node ≡ true) }
 {

@@ -15,7 +15,7 @@ use Rattle.live_regs.specs.Liveness.{writes_at}
 use Rattle.live_regs.specs.declared.table.Live.{Live}
 use Rattle.compact.specs.Packed.{Conflict, First, Second, Both, Clobbers, uses, is_used}
 use Rattle.compact.specs.Ties.{AreWriters, write_list_at}
-use Rattle.compact.specs.Clashes.{is_hit, AreUsed, AreNames, hits_of, Meets, IsClash}
+use Rattle.compact.specs.Clashes.{is_hit, AreUsed, AreNames, hits_of, HasHits, Meets, IsClash}
 use Rattle.compact.specs.declared.clash.Clash.{Clash}
 use Rattle.compact.proofs.Writing.{write_tells, writer_goes}
 use Rattle.compact.proofs.Rows.{any_in, any_of, any_at}
@@ -132,11 +132,10 @@ module _ (b : Body) (live : Live) (used : List Bool) (names : List ℕ) (writers
   clash_is = record { live = is_live live; is_live = is_live_at; within = within; sound = sound; all = all }
 
 -- as the calls hand it on
-pub clash_from : (b : Body) (live : Live) (used : List Bool) (names shown : List ℕ) (writers seen : List (List ℕ)) (insns : List Insn) (c : Clash) (given : List (List ℕ)) (count : ℕ) → length b.insns + 1 < 2 ^ 32
-    → ((n r : ℕ) → r < b.registers → (is_live live n r ≡ true) ↔ IsRead b r n) → AreUsed b used → AreNames used names → length writers ≡ b.registers → AreWriters b writers → insns ≡ b.insns → shown ≡ names → seen ≡ writers
-    → length c.rows.items ≡ length seen → ((r : ℕ) → r < length seen → row_of c.rows.items r ≡ hits_of live insns shown (row_of seen r)) → given ≡ c.rows.items → count ≡ length c.rows.items → AreTurned given count c.back.items → IsClash b c
-clash_from b live used names shown writers seen insns c given count few is_live_at are_used are_names writers_long are_writers i s w rows_long are_hits g k turned =
-    clash_is b live used names writers c few is_live_at are_used are_names writers_long are_writers (rows_long ∙ ap length w) hits (subst (λ n. AreTurned c.rows.items n c.back.items) k (subst (λ (l : List (List ℕ)). AreTurned l count c.back.items) g turned))
-  where
-    hits : (r : ℕ) → r < length writers → row_of c.rows.items r ≡ hits_of live b.insns names (row_of writers r)
-    hits r lt = are_hits r (subst (λ (l : List (List ℕ)). r < length l) (sym w) lt) ∙ ap (λ l. hits_of live l shown (row_of seen r)) i ∙ ap (λ l. hits_of live b.insns l (row_of seen r)) s ∙ ap (λ l. hits_of live b.insns names (row_of l r)) w
+pub clash_from : (b : Body) (live : Live) (used : List Bool) (names shown : List ℕ) (c : Clash) (given : List (List ℕ)) (count : ℕ) → length b.insns + 1 < 2 ^ 32
+    → ((n r : ℕ) → r < b.registers → (is_live live n r ≡ true) ↔ IsRead b r n) → AreUsed b used → AreNames used names → shown ≡ names → HasHits b live shown c.rows.items
+    → given ≡ c.rows.items → count ≡ length c.rows.items → AreTurned given count c.back.items → IsClash b c
+clash_from b live used names shown c given count few is_live_at are_used are_names s h g k turned =
+    clash_is b live used names h.writers c few is_live_at are_used are_names h.writers_long h.are_writers (omega (arith, h.long, h.writers_long))
+    (λ r lt. h.hits r (omega (arith, lt, h.writers_long)) ∙ ap (λ (l : List ℕ). hits_of live b.insns l (row_of h.writers r)) s)
+    (subst (λ n. AreTurned c.rows.items n c.back.items) k (subst (λ (l : List (List ℕ)). AreTurned l count c.back.items) g turned))

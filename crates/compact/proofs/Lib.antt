@@ -4,6 +4,7 @@ mod Spelled
 mod Rows
 mod Tying
 mod Naming
+mod Masking
 mod Sets
 mod Clashing
 mod Placing

@@ -9,6 +9,7 @@ use Rattle.live_regs.specs.Live.{is_live}
 use Rattle.live_regs.specs.Liveness.{writes_at}
 use Rattle.live_regs.specs.declared.table.Live.{Live}
 use Rattle.compact.specs.Packed.{Conflict, is_used}
+use Rattle.compact.specs.Ties.{AreWriters}
 use Rattle.compact.specs.declared.clash.Clash.{Clash}
 
 -- whether a register is live behind a position, or written there
@@ -27,6 +28,14 @@ AreNames used names = (r : ℕ) → Contains names r ↔ (is_on used r ≡ true)
 -- those of some registers that are hit at these positions
 abbrev pub hits_of : Live → List Insn → List ℕ → List ℕ → List ℕ
 hits_of live insns names positions = filter (λ s. list_any (is_hit live insns s) positions) names
+
+-- the rows have what is hit where each register is written
+pub record HasHits (b : Body) (live : Live) (names : List ℕ) (rows : List (List ℕ)) : Type 0 where
+  pub writers : List (List ℕ)
+  pub writers_long : length writers ≡ b.registers
+  pub are_writers : AreWriters b writers
+  pub long : length rows ≡ b.registers
+  pub hits : (r : ℕ) → r < b.registers → row_of rows r ≡ hits_of live b.insns names (row_of writers r)
 
 -- two registers meet
 abbrev pub Meets : Clash → ℕ → ℕ → Type 0

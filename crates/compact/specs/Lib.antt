@@ -5,4 +5,5 @@ pub mod Placed
 pub mod Renamed
 pub mod Choosing
 pub mod Narrow
+pub mod Masks
 pub mod Measure

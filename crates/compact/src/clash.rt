@@ -1,14 +1,12 @@
 //! Which registers meet.
 
-ghost use Rattle.std.specs.Prelude.{◌≡◌, ◌↔◌, ◌+◌, ◌<◌, ◌^◌, ℕ, true, length, slice_get, IfOk};
+ghost use Rattle.std.specs.Prelude.{◌≡◌, ◌+◌, ◌<◌, ◌^◌, ℕ, length, slice_get, Contains, IfOk};
 ghost use Rattle.std.specs.List.{list_any};
-ghost use Rattle.body_graph.specs.Walks.{IsRead};
-ghost use Rattle.walk_marks.specs.Walks.{row_of, is_on};
-ghost use Rattle.live_regs.specs.Live.{is_live};
+ghost use Rattle.walk_marks.specs.Walks.{row_of};
 ghost use Rattle.live_regs.specs.Liveness.{writes_at};
-ghost use Rattle.compact.specs.Ties.{AreWriters};
-ghost use Rattle.compact.specs.Clashes.{is_hit, hits_of, AreUsed, IsClash};
+ghost use Rattle.compact.specs.Clashes.{is_hit, hits_of, AreUsed, HasHits, IsClash};
 
+use crate::masks::rows_by_words;
 use crate::used::names_of;
 use crate::writers::writers_of;
 use insn_set::Insn;
@@ -92,6 +90,42 @@ fn hit_rows(
     Ok(rows)
 }
 
+/// What is hit where each register is written, by the positions that write it.
+fn rows_by_writers(
+    alloc: Global,
+    live: &Live,
+    body: &Body,
+    names: &[u16],
+) -> Result<Vec<Seq<u32>>, AllocError>
+    requires { length body.now.insns < 2 ^ 32 }
+    ensures { IfOk result (HasHits body.now live.now names.now) }
+{
+    let writers = writers_of(alloc, body)?;
+    let insns = body.insns.as_slice();
+    let rows = hit_rows(alloc, live, insns, names, writers.as_slice())?;
+    Ok(rows)
+}
+
+/// What is hit where each register is written.
+fn rows_of(
+    alloc: Global,
+    live: &Live,
+    body: &Body,
+    names: &[u16],
+) -> Result<Vec<Seq<u32>>, AllocError>
+    requires few { length body.now.insns < 2 ^ 32 }
+    requires names { (q : ℕ) → Contains names.now q → q < body.now.registers }
+    ensures { IfOk result (HasHits body.now live.now names.now) }
+{
+    if body.registers > 64 {
+        return rows_by_writers(alloc, live, body, names);
+    }
+    match live.words() {
+        Some(words) => rows_by_words(alloc, live, words, body, names),
+        None => rows_by_writers(alloc, live, body, names),
+    }
+}
+
 /// Which registers of a body meet.
 pub(crate) fn clash_of(alloc: Global, body: &Body, used: &[bool]) -> Result<Clash, AllocError>
     requires few { length body.now.insns + 1 < 2 ^ 32 }
@@ -101,10 +135,8 @@ pub(crate) fn clash_of(alloc: Global, body: &Body, used: &[bool]) -> Result<Clas
     ensures { IfOk result (IsClash body.now) }
 {
     let live = live(alloc, body)?;
-    let writers = writers_of(alloc, body)?;
     let names = names_of(alloc, used)?;
-    let insns = body.insns.as_slice();
-    let rows = hit_rows(alloc, &live, insns, names.as_slice(), writers.as_slice())?;
+    let rows = rows_of(alloc, &live, body, names.as_slice())?;
     let back = turned(alloc, &rows, rows.len())?;
     Ok(Clash { rows, back })
 }

@@ -13,6 +13,7 @@
 #![tactic(auto)]
 
 mod clash;
+mod masks;
 mod narrow;
 mod numbers;
 mod pass;

@@ -1,18 +1,21 @@
 //! Which positions are dead.
 
-ghost use Rattle.std.specs.Prelude.{◌≡◌, ◌+◌, ◌<◌, ◌^◌, length, slice_get, IfOk};
+ghost use Rattle.std.specs.Prelude.{◌≡◌, ◌+◌, ◌<◌, ◌^◌, length, map, slice_get, IfOk};
 ghost use Rattle.std.specs.List.{list_any};
+ghost use Rattle.insn_set.specs.Flow.{targets_of};
+ghost use Rattle.flow_cfg.specs.Walks.{handlers_in, handlers_at};
 ghost use Rattle.walk_marks.specs.Walks.{is_on};
+ghost use Rattle.body_graph.specs.Walks.{onward};
+ghost use Rattle.body_graph.specs.Graph.{covering};
 ghost use Rattle.live_regs.specs.Live.{is_live};
-ghost use Rattle.dead_code.specs.Dead.{AreDead, is_live_in, is_live_behind, unread_by, dead_by, dead_at};
+ghost use Rattle.dead_code.specs.Dead.{AreDead, is_live_after, unread_by, dead_by, dead_at};
 
 use crate::quiet::is_pure;
 use crate::written::written;
-use body_graph::rows;
+use body_graph::covers_of;
 use insn_set::Insn;
 use live_regs::{Live, live};
-use program_model::Body;
-use seq::Seq;
+use program_model::{Body, Handler, Region};
 use std::alloc::{AllocError, Global};
 
 /// Whether a register is live at one of some positions.
@@ -24,82 +27,136 @@ fn is_live_at(live: &Live, positions: &[u32], register: u32) -> bool
         .any(|position| live.before(*position, register))
 }
 
-/// Whether a register is live at a position, or at a handler of a region.
-fn is_live_in(live: &Live, rows: &[Seq<u32>], count: usize, register: u32, node: u32) -> bool
-    ensures { result ≡ is_live_in live.now rows.now count register node }
+/// Whether a register is live at a target of a branch.
+fn is_live_beyond(live: &Live, insn: &Insn, register: u32) -> bool
+    ensures { result ≡ list_any (λ n. is_live live.now n register) (targets_of insn.now) }
 {
-    if (node as usize) < count {
-        return live.before(node, register);
-    }
-    match rows.get(node as usize) {
-        Some(row) => is_live_at(live, row.as_slice(), register),
-        None => false,
+    match insn {
+        Insn::Goto { target } | Insn::If { target, .. } | Insn::IfZero { target, .. } => {
+            is_live_at(live, &[*target], register)
+        }
+        Insn::PackedSwitch { targets, .. } | Insn::SparseSwitch { targets, .. } => {
+            is_live_at(live, targets.as_slice(), register)
+        }
+        _ => false,
     }
 }
 
-/// Whether a register is live at one of some positions, or at a handler of one of some regions.
-fn is_live_among(live: &Live, rows: &[Seq<u32>], count: usize, register: u32, nodes: &[u32]) -> bool
-    ensures { result ≡ list_any (λ m. is_live_in live.now rows.now count register m) nodes.now }
+/// Whether a register is live where a walk goes from a position without a throw.
+#[tactic(auto, using(crate::proofs::Dying::onward_next, crate::proofs::Dying::onward_last))]
+fn is_live_onward(live: &Live, insn: &Insn, position: u32, register: u32) -> bool
+    requires { position + 1 < 2 ^ 32 }
+    ensures { result ≡ list_any (λ n. is_live live.now n register) (onward insn.now position) }
 {
-    nodes
+    if insn.continues() {
+        live.before(position + 1, register) || is_live_beyond(live, insn, register)
+    } else {
+        is_live_beyond(live, insn, register)
+    }
+}
+
+/// Whether a register is live at one of some handlers.
+#[tactic(auto, using(crate::proofs::Dying::any_map))]
+fn is_live_handled(live: &Live, handlers: &[Handler], register: u32) -> bool
+    ensures { result ≡ list_any (λ n. is_live live.now n register) (map (λ h. h.position) handlers.now) }
+{
+    handlers
         .iter()
-        .any(|node| is_live_in(live, rows, count, register, *node))
+        .any(|handler| live.before(handler.position, register))
 }
 
-/// Whether a register is live at a position to which a walk goes from the position.
-fn is_live_behind(
+/// Whether a register is live at a handler of a region.
+#[tactic(auto, using(crate::proofs::Dying::handled_rest, crate::proofs::Dying::handled_alone))]
+fn is_live_in(live: &Live, region: &Region, register: u32) -> bool
+    ensures { result ≡ list_any (λ n. is_live live.now n register) (handlers_in region.now) }
+{
+    let handled = is_live_handled(live, region.handlers.as_slice(), register);
+    match region.rest {
+        Some(position) => handled || live.before(position, register),
+        None => handled,
+    }
+}
+
+/// Whether a register is live at a handler of the region that covers a position.
+#[tactic(auto, using(crate::proofs::Dying::covered_at, crate::proofs::Dying::covered_nowhere))]
+fn is_live_caught(
     live: &Live,
-    rows: &[Seq<u32>],
-    count: usize,
+    regions: &[Region],
+    region: u32,
     position: u32,
     register: u32,
 ) -> bool
-    ensures { result ≡ is_live_behind live.now rows.now count position register }
+    requires { region ≡ covering regions.now position }
+    ensures { result ≡ list_any (λ n. is_live live.now n register) (handlers_at regions.now position) }
 {
-    match rows.get(position as usize) {
-        Some(row) => is_live_among(live, rows, count, register, row.as_slice()),
+    match regions.get(region as usize) {
+        Some(one) => is_live_in(live, one, register),
         None => false,
     }
+}
+
+/// Whether a register is live at a position to which a walk goes from the position, also through its handlers.
+fn is_live_after(
+    live: &Live,
+    body: &Body,
+    insn: &Insn,
+    position: u32,
+    region: u32,
+    register: u32,
+) -> bool
+    requires small { position + 1 < 2 ^ 32 }
+    requires region { region ≡ covering body.now.regions position }
+    ensures { result ≡ is_live_after live.now body.now position insn.now register }
+{
+    is_live_onward(live, insn, position, register)
+        || insn.may_throw()
+            && is_live_caught(live, body.regions.as_slice(), region, position, register)
 }
 
 /// Whether a register of the body, and the next one too where the write is wide, is live at no position to which a walk
 /// goes from the position.
 fn is_unread(
     live: &Live,
-    rows: &[Seq<u32>],
     body: &Body,
+    insn: &Insn,
     position: u32,
+    region: u32,
     to: u16,
     wide: bool,
 ) -> bool
-    ensures { result ≡ unread_by (is_live_behind live.now rows.now (length body.now.insns) position) body.now.registers to wide }
+    requires small { position + 1 < 2 ^ 32 }
+    requires region { region ≡ covering body.now.regions position }
+    ensures { result ≡ unread_by (is_live_after live.now body.now position insn.now) body.now.registers to wide }
 {
-    let count = body.insns.len();
     let to = u32::from(to);
     if wide {
         return to + 1 < u32::from(body.registers)
-            && !is_live_behind(live, rows, count, position, to)
-            && !is_live_behind(live, rows, count, position, to + 1);
+            && !is_live_after(live, body, insn, position, region, to)
+            && !is_live_after(live, body, insn, position, region, to + 1);
     }
-    to < u32::from(body.registers) && !is_live_behind(live, rows, count, position, to)
+    to < u32::from(body.registers) && !is_live_after(live, body, insn, position, region, to)
 }
 
 /// Whether a pure form at a position writes a register that nobody reads.
-fn is_dead(live: &Live, rows: &[Seq<u32>], body: &Body, insn: &Insn, position: u32) -> bool
-    ensures { result ≡ dead_by (is_live_behind live.now rows.now (length body.now.insns) position) body.now.registers insn.now }
+fn is_dead(live: &Live, body: &Body, insn: &Insn, position: u32, region: u32) -> bool
+    requires small { position + 1 < 2 ^ 32 }
+    requires region { region ≡ covering body.now.regions position }
+    ensures { result ≡ dead_by (is_live_after live.now body.now position insn.now) body.now.registers insn.now }
 {
     match written(insn) {
-        Some((to, wide)) => is_unread(live, rows, body, position, to, wide),
+        Some((to, wide)) => is_unread(live, body, insn, position, region, to, wide),
         None => false,
     }
 }
 
 /// Whether a position is dead.
-fn is_dead_at(quiet: &[bool], live: &Live, rows: &[Seq<u32>], body: &Body, position: u32) -> bool
-    ensures { result ≡ dead_at (is_on quiet.now) live.now rows.now body.now position (slice_get body.now.insns position) }
+fn is_dead_at(quiet: &[bool], live: &Live, body: &Body, position: u32, region: u32) -> bool
+    requires small { position + 1 < 2 ^ 32 }
+    requires region { region ≡ covering body.now.regions position }
+    ensures { result ≡ dead_at (is_on quiet.now) live.now body.now position (slice_get body.now.insns position) }
 {
     match body.insns.as_slice().get(position as usize) {
-        Some(insn) => is_pure(quiet, insn) && is_dead(live, rows, body, insn, position),
+        Some(insn) => is_pure(quiet, insn) && is_dead(live, body, insn, position, region),
         None => false,
     }
 }
@@ -110,10 +167,11 @@ pub fn dead_positions(alloc: Global, quiet: &[bool], body: &Body) -> Result<Vec<
     ensures { IfOk result (λ v. AreDead (is_on quiet.now) body.now v.items) }
 {
     let live = live(alloc, body)?;
-    let rows = rows(alloc, body)?;
+    let covers = covers_of(alloc, body)?;
     let mut dead = Vec::with_capacity(alloc, body.insns.len())?;
     for position in 0..body.insns.len() {
-        dead.push(is_dead_at(quiet, &live, &rows, body, position as u32))?;
+        let region = covers[position];
+        dead.push(is_dead_at(quiet, &live, body, position as u32, region))?;
     }
     Ok(dead)
 }

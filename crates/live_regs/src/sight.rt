@@ -1,14 +1,15 @@
 //! Which registers are live before each position.
 
-ghost use Rattle.std.specs.Prelude.{◌≡◌, ◌↔◌, ℕ, ◌+◌, ◌<◌, ◌^◌, true, length, IfOk};
+ghost use Rattle.std.specs.Prelude.{◌≡◌, ◌↔◌, ℕ, ◌+◌, ◌<◌, ◌^◌, true, length, IfOk, IfSome};
 ghost use Rattle.body_graph.specs.Walks.{IsRead};
 ghost use Rattle.body_graph.specs.Graph.{node_row};
 ghost use Rattle.walk_marks.specs.Walks.{AreTurned, row_of, is_on};
 ghost use Rattle.live_regs.specs.Liveness.{AreMarks, IsBack, ReadIt};
-ghost use Rattle.live_regs.specs.Live.{is_live};
+ghost use Rattle.live_regs.specs.Live.{is_live, AreLive};
 
 use crate::gate::Unwritten;
 use crate::readers::readers_of;
+use crate::sweeps::words_by_sweeps;
 use crate::table::Live;
 use body_graph::rows;
 use program_model::Body;
@@ -38,10 +39,10 @@ fn live_before(
     Ok(Seq::of_vec(marks))
 }
 
-/// The registers that are live before each position of a body. The only error is want of memory.
-pub fn live(alloc: Global, body: &Body) -> Result<Live, AllocError>
+/// The registers that are live before each position of a body, found for one register after the other.
+fn live_by_walks(alloc: Global, body: &Body) -> Result<Live, AllocError>
     requires { length body.now.insns + length body.now.regions < 2 ^ 32 }
-    ensures { IfOk result (λ live. (n r : ℕ) → r < body.now.registers → (is_live live n r ≡ true) ↔ IsRead body.now r n) }
+    ensures { IfOk result (AreLive body.now) }
 {
     let forth = rows(alloc, body)?;
     let back = turned(alloc, &forth, forth.len())?;
@@ -51,5 +52,36 @@ pub fn live(alloc: Global, body: &Body) -> Result<Live, AllocError>
         let of = readers[register as usize].as_slice();
         marks.push(live_before(alloc, body, &back, of, u32::from(register))?)?;
     }
-    Ok(Live { marks })
+    Ok(Live {
+        words: Vec::new(alloc),
+        marks,
+    })
+}
+
+/// The same where there are no more than 64 registers, and nothing where sweeps don't find it.
+fn live_by_sweeps(alloc: Global, body: &Body) -> Result<Option<Live>, AllocError>
+    requires { length body.now.insns + length body.now.regions < 2 ^ 32 }
+    ensures { IfOk result (λ found. IfSome found (AreLive body.now)) }
+{
+    if body.registers > 64 {
+        return Ok(None);
+    }
+    match words_by_sweeps(alloc, body)? {
+        Some(words) => Ok(Some(Live {
+            words,
+            marks: Vec::new(alloc),
+        })),
+        None => Ok(None),
+    }
+}
+
+/// The registers that are live before each position of a body. The only error is want of memory.
+pub fn live(alloc: Global, body: &Body) -> Result<Live, AllocError>
+    requires { length body.now.insns + length body.now.regions < 2 ^ 32 }
+    ensures { IfOk result (λ live. (n r : ℕ) → r < body.now.registers → (is_live live n r ≡ true) ↔ IsRead body.now r n) }
+{
+    match live_by_sweeps(alloc, body)? {
+        Some(live) => Ok(live),
+        None => live_by_walks(alloc, body),
+    }
 }

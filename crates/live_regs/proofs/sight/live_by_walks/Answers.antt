@@ -1,7 +1,7 @@
 use Rattle.std.proofs.Common.{ℕ, List, sym, ◌∙◌, subst, arith}
 use Rattle.live_regs.specs.Liveness.{IsBack}
 use Rattle.live_regs.proofs.Seen.{marks_none, marks_more, back_is}
-use Rattle.live_regs.proofs.sight.live.Goals as goal
+use Rattle.live_regs.proofs.sight.live_by_walks.Goals as goal
 
 pub loop-register-init : goal.loop-register-init
 loop-register-init c = marks_none c.args.body.now c.in_ok-marks.marks.items c.in_ok-marks.ensures.items

@@ -1,7 +1,7 @@
 -- The table of the Moves by which reads are stale.
 use Rattle.std.proofs.Common.{◌≡◌, ℕ, ◌+◌, ◌<◌, Bool, true, false, List, [], ◌∷◌, ◌++◌, length, Some, None, refl, sym, ap, ◌∙◌, subst, arith, ◌⊎◌, inl, inr}
 use Rattle.std.specs.Prelude.{if◌then◌else◌, slice_index_or, All}
-use Rattle.std.proofs.lemmas.Bool.{cases_eq, both_ways, and_from, not_from_false, le-leb}
+use Rattle.std.proofs.lemmas.Bool.{cases_eq}
 use Rattle.std.proofs.lemmas.List.Elements.{All-same, All-nil, All-push}
 use Rattle.std.proofs.lemmas.Option.{slice_get_within}
 use Rattle.insn_set.specs.declared.ops.Slot.{Slot}
@@ -10,8 +10,8 @@ use Rattle.insn_set.specs.declared.form.Insn.TheVariants.{Move}
 use Rattle.program_model.specs.declared.body.Body.{Body}
 use Rattle.walk_marks.specs.Walks.{is_on}
 use Rattle.body_graph.specs.Walks.{insn_at}
-use Rattle.copy_prop.specs.Stale.{is_cast, StandsFor, IsStaleBy}
-use Rattle.copy_prop.specs.Searches.{AreStaleBy, AreCopies, Adds, IsAmong, IsCopied, NoneReads, IsIdle, AreIdle, IsPlain, can_read}
+use Rattle.copy_prop.specs.Stale.{IsStaleBy}
+use Rattle.copy_prop.specs.Searches.{AreStaleBy, AreCopies, Adds, IsAmong, IsCopied, HasNoCopy, IsPlain}
 use Rattle.copy_prop.specs.declared.copied.Copied.{Copied}
 
 not_nil : {A : Type 0} (xs : List A) (x : A) → xs ++ x ∷ [] ≡ [] → ⊥
@@ -80,58 +80,20 @@ module _ (w : List (List Bool)) (b : Body) where
               found slot to from i plain.apart plain.room
           cases (inr ne) = was.all k slot to from n f (omega arith) plain h by e
 
-  -- no read is stale by what stands there
-  pub copies_idle : (at : ℕ) (table : List (List Copied)) → IsIdle w b at → AreCopies w b at table → AreCopies w b (at + 1) table
-  copies_idle at table idle was = record { long = was.long; sound = was.sound; all = all }
-    where
-      all : (k : ℕ) (slot : Slot) (to from n : ℕ) (f : Insn) → k < at + 1 → IsPlain b k slot to from → insn_at b n ≡ Some f → IsStaleBy w b n f k slot to from → slice_index_or table n [] ≡ [] → ⊥
-      all k slot to from n f lt plain h by e = cases (cases_eq k at)
-        where
-          cases : (k ≡ at) ⊎ (k ≡ at → ⊥) → ⊥
-          cases (inl same) = idle slot to from n f (subst (λ j. IsPlain b j slot to from) same plain) h (subst (λ j. IsStaleBy w b n f j slot to from) same by)
-          cases (inr ne) = was.all k slot to from n f (omega arith) plain h by e
-
-  -- where no read is stale by any Move, the table is empty
-  pub copies_none : (table : List (List Copied)) → length table ≡ length b.insns → ((n : ℕ) → slice_index_or table n [] ≡ []) → AreIdle w b (length b.insns) → AreCopies w b (length b.insns) table
+  -- where no Move can make a read stale, none is
+  pub copies_none : (table : List (List Copied)) → length table ≡ length b.insns → ((n : ℕ) → slice_index_or table n [] ≡ []) → HasNoCopy b (length b.insns) → AreCopies w b (length b.insns) table
   copies_none table long empty none = record {
     long = long;
     sound = λ n f h. All-same (IsAmong w b n f) (slice_index_or table n []) [] (empty n) (All-nil (IsAmong w b n f));
-    all = λ at slot to from n f lt plain h by e. none at lt slot to from n f plain h by;
+    all = λ at slot to from n f lt plain h by e. none at (Move slot to from) lt plain.copy slot to from refl plain.apart plain.room;
   }
 
-  pub none_reads_more : (c : Copied) (k : ℕ) (f : Insn) → insn_at b k ≡ Some f → can_read w c f ≡ false → NoneReads w b c k → NoneReads w b c (k + 1)
-  none_reads_more c k f there no was n g lt h = by (cases_eq n k)
-    where
-      by : (n ≡ k) ⊎ (n ≡ k → ⊥) → can_read w c g ≡ false
-      by (inl e) =
-          let o : Some f ≡ Some g = sym there ∙ ap (λ j. insn_at b j) (sym e) ∙ h in
-          let i : f ≡ g = cc in
-          ap (can_read w c) (sym i) ∙ no
-      by (inr ne) = was n g (omega arith) h
-
-  pub idle_more : (k : ℕ) → IsIdle w b k → AreIdle w b k → AreIdle w b (k + 1)
-  idle_more k idle was at lt = by (cases_eq at k)
-    where
-      by : (at ≡ k) ⊎ (at ≡ k → ⊥) → IsIdle w b at
-      by (inl e) = subst (IsIdle w b) (sym e) idle
-      by (inr ne) = was at (omega arith)
-
-  -- where no Move stands
-  pub idle_elsewhere : (at : ℕ) (insn : Insn) → insn_at b at ≡ Some insn → IsCopied insn at None → IsIdle w b at
-  idle_elsewhere at insn there found slot to from n f plain h by =
-      let o : Some insn ≡ Some (Move slot to from) = sym there ∙ plain.copy in
-      let i : insn ≡ Move slot to from = cc in
-      found slot to from i plain.apart plain.room
-
-  can : (c : Copied) (n : ℕ) (f : Insn) → StandsFor w b c.at c.slot c.to c.from n f → can_read w c f ≡ true
-  can c n f g = and_from _ _ g.read (and_from _ _ (not_from_false (is_cast f) g.plain) (and_from _ _ g.encodable (le-leb _ _ g.short)))
-
-  -- where no instruction can read the original
-  pub idle_unread : (at : ℕ) (insn : Insn) (c : Copied) → insn_at b at ≡ Some insn → IsCopied insn at (Some c) → NoneReads w b c (length b.insns) → IsIdle w b at
-  idle_unread at insn c there found none slot to from n f plain h by =
-      let o : Some (Move slot to from) ≡ Some (Move c.slot c.to c.from) = sym plain.copy ∙ there ∙ ap Some found.1 in
-      let e1 : slot ≡ c.slot = cc in
-      let e2 : to ≡ c.to = cc in
-      let e3 : from ≡ c.from = cc in
-      let g : StandsFor w b c.at c.slot c.to c.from n f = subst (λ j. StandsFor w b j c.slot c.to c.from n f) (sym found.0) (subst (λ x. StandsFor w b at x c.to c.from n f) e1 (subst (λ x. StandsFor w b at slot x c.from n f) e2 (subst (λ x. StandsFor w b at slot to x n f) e3 by.stands))) in
-      both_ways (can_read w c f) (none n f (slice_get_within b.insns n f h) h) (can c n f g)
+pub no_copy_more : (b : Body) (k : ℕ) (f : Insn) → insn_at b k ≡ Some f → IsCopied f k None → HasNoCopy b k → HasNoCopy b (k + 1)
+no_copy_more b k f there found was n g lt h = by (cases_eq n k)
+  where
+    by : (n ≡ k) ⊎ (n ≡ k → ⊥) → IsCopied g n None
+    by (inl e) =
+        let o : Some f ≡ Some g = sym there ∙ ap (λ j. insn_at b j) (sym e) ∙ h in
+        let i : f ≡ g = cc in
+        λ slot to from is. found slot to from (i ∙ is)
+    by (inr ne) = was n g (omega arith) h

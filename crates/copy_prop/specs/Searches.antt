@@ -128,14 +128,6 @@ pub record Adds (c : Copied) (marks : List Bool) (old new : List (List Copied)) 
   pub long : length new ≡ length old
   pub rows : (n : ℕ) → n < length old → slice_index_or new n [] ≡ (if is_on marks n then slice_index_or old n [] ++ c ∷ [] else slice_index_or old n [])
 
--- none of the first instructions can read the original of the copy
-abbrev pub NoneReads : List (List Bool) → Body → Copied → ℕ → Type 0
-NoneReads w b c upto = (n : ℕ) (f : Insn) → n < upto → insn_at b n ≡ Some f → can_read w c f ≡ false
-
--- no read is stale by a Move at the position
-abbrev pub IsIdle : List (List Bool) → Body → ℕ → Type 0
-IsIdle w b at = (slot : Slot) (to from n : ℕ) (f : Insn) → IsPlain b at slot to from → insn_at b n ≡ Some f → IsStaleBy w b n f at slot to from → ⊥
-
--- no read is stale by a Move at the first positions
-abbrev pub AreIdle : List (List Bool) → Body → ℕ → Type 0
-AreIdle w b upto = (at : ℕ) → at < upto → IsIdle w b at
+-- at the first positions stands no Move by which a read can be stale
+abbrev pub HasNoCopy : Body → ℕ → Type 0
+HasNoCopy b upto = (n : ℕ) (f : Insn) → n < upto → insn_at b n ≡ Some f → IsCopied f n None

@@ -4,7 +4,7 @@ ghost use Rattle.std.specs.Prelude.{◌≡◌, ◌↔◌, ◌+◌, ◌<◌, ◌^
 ghost use Rattle.std.specs.List.{list_any};
 ghost use Rattle.walk_marks.specs.Walks.{is_on, row_of};
 ghost use Rattle.copy_prop.specs.Stale.{IsCopy};
-ghost use Rattle.copy_prop.specs.Searches.{AreSteps, AreGood, AllGood, StandsBehind, IsWorth, AreStaleBy, AreCopies, NoneReads, IsIdle, AreIdle, Adds, can_read, writes_in};
+ghost use Rattle.copy_prop.specs.Searches.{AreSteps, AreGood, AllGood, StandsBehind, IsWorth, AreStaleBy, AreCopies, HasNoCopy, Adds, can_read, writes_in};
 
 use crate::copied::Copied;
 use crate::moves::copied_at;
@@ -243,45 +243,8 @@ fn add_copy(table: &mut Vec<Seq<Copied>>, marks: &[bool], copy: &Copied) -> Resu
     Ok(())
 }
 
-/// Whether some instruction of a body can read the original of a copy. The only error is want of memory.
-fn has_reader(
-    alloc: Global,
-    widths: &[Seq<bool>],
-    body: &Body,
-    copy: &Copied,
-) -> Result<bool, AllocError>
-    requires { length body.now.insns < 2 ^ 32 }
-    ensures { IfOk result (λ r. r ≡ false → NoneReads widths.now body.now copy.now (length body.now.insns)) }
-{
-    for position in 0..body.insns.len() as u32 {
-        let can = can_read(alloc, widths, copy, insn_at(body, position))?;
-        if can {
-            return Ok(true);
-        }
-    }
-    Ok(false)
-}
-
-/// Whether a Move stands at a position whose copy some instruction could read from the original. Where none does, no walk
-/// has to be looked at. The only error is want of memory.
-fn has_candidate(
-    alloc: Global,
-    widths: &[Seq<bool>],
-    body: &Body,
-    at: u32,
-) -> Result<bool, AllocError>
-    requires few { length body.now.insns < 2 ^ 32 }
-    requires at { at < length body.now.insns }
-    ensures { IfOk result (λ r. r ≡ false → IsIdle widths.now body.now at) }
-{
-    match copied_at(insn_at(body, at), at) {
-        Some(copy) => has_reader(alloc, widths, body, &copy),
-        None => Ok(false),
-    }
-}
-
 /// Adds the Move that stands at a position to the rows of the reads that are stale by it.
-fn add_candidate(
+fn add_stale(
     alloc: Global,
     widths: &[Seq<bool>],
     body: &Body,
@@ -298,28 +261,6 @@ fn add_candidate(
     if let Some(copy) = copied_at(insn_at(body, at), at) {
         let marks = stale_reads(alloc, widths, body, steps, &copy)?;
         add_copy(table, marks.as_slice(), &copy)?;
-    }
-    Ok(())
-}
-
-/// The same, where some instruction could read the original.
-fn add_stale(
-    alloc: Global,
-    widths: &[Seq<bool>],
-    body: &Body,
-    steps: &Steps,
-    at: u32,
-    table: &mut Vec<Seq<Copied>>,
-) -> Result<(), AllocError>
-    requires steps { AreSteps body.now steps.now }
-    requires few { length body.now.insns < 2 ^ 32 }
-    requires at { at < length body.now.insns }
-    requires copies { AreCopies widths.now body.now at table.old.items }
-    ensures { OnOk result (AreCopies widths.now body.now (at + 1) table.new.items) }
-{
-    let some = has_candidate(alloc, widths, body, at)?;
-    if some {
-        add_candidate(alloc, widths, body, steps, at, table)?;
     }
     Ok(())
 }
@@ -355,18 +296,18 @@ fn add_all_stale(
     Ok(())
 }
 
-/// Whether some Move of a body could make a read stale. The only error is want of memory.
-fn has_candidates(alloc: Global, widths: &[Seq<bool>], body: &Body) -> Result<bool, AllocError>
+/// Whether some Move can make a read stale. It takes no memory.
+fn has_copy(body: &Body) -> bool
     requires { length body.now.insns < 2 ^ 32 }
-    ensures { IfOk result (λ r. r ≡ false → AreIdle widths.now body.now (length body.now.insns)) }
+    ensures { result ≡ false → HasNoCopy body.now (length body.now.insns) }
 {
     for position in 0..body.insns.len() as u32 {
-        let some = has_candidate(alloc, widths, body, position)?;
-        if some {
-            return Ok(true);
+        match copied_at(insn_at(body, position), position) {
+            Some(_) => return true,
+            None => {}
         }
     }
-    Ok(false)
+    false
 }
 
 /// For each position the Moves by which its reads are stale. The only error is want of memory.
@@ -380,7 +321,7 @@ pub(crate) fn stale_copies(
     ensures { IfOk result (λ table. AreCopies widths.now body.now (length body.now.insns) table.items) }
 {
     let mut table = no_copies(alloc, body.insns.len())?;
-    let some = has_candidates(alloc, widths, body)?;
+    let some = has_copy(body);
     if some {
         add_all_stale(alloc, widths, body, &mut table)?;
         Ok(table)

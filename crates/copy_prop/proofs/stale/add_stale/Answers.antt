@@ -1,7 +1,7 @@
 use Rattle.std.proofs.Common.{Bool, List, subst}
 use Rattle.copy_prop.specs.Searches.{Adds}
 use Rattle.copy_prop.proofs.Table.{copies_more}
-use Rattle.copy_prop.proofs.stale.add_candidate.Goals as goal
+use Rattle.copy_prop.proofs.stale.add_stale.Goals as goal
 
 pub returns-in_ok-add_copy : goal.returns-in_ok-add_copy
 returns-in_ok-add_copy c =

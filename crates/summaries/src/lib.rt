@@ -1,13 +1,15 @@
 //! What is known of every run of a program: of each register at each position, and of parameters, results and fields.
 //!
 //! [`analyse`] lets what is known spread from where runs begin until nothing rises any more (`spread.rt`), and has it
-//! checked. A body is walked through with the steps of `dom_frame` from node to node: nodes stand where its branches and
-//! handlers go, and after so many instructions at the latest, and have the registers there (`sites.rt`, `nodes.rt`). What
-//! methods share stands in cells: parameter words, results, fields, and what the calls of each number on objects get back
-//! (`cells.rt`). An instruction on the way raises the cells that it writes, and takes the value of the one that it reads; a
-//! cell that rises lets those nodes wait from which it is read. What calls on objects pass goes through a pool for each
-//! number of them to all that they may find (`pools.rt`), which `call_targets` tells. What the framework may enter, need and
-//! keep begins with anything (`begin.rt`), first what is called or read by others (`order.rt`).
+//! checked. A body is walked through from node to node: nodes stand where its branches and handlers go, and after so many
+//! instructions at the latest, and have the registers there (`sites.rt`, `nodes.rt`). A walk does to its registers what the
+//! steps of `dom_frame` do, but in place (`walks.rt`, `strides.rt`), and compares with what is known at a node only those
+//! that have risen since it last went there. What methods share stands in cells: parameter words, results, fields, and what
+//! the calls of each number on objects get back (`cells.rt`). An instruction on the way raises the cells that it writes, and
+//! takes the value of the one that it reads; a cell that rises lets those nodes wait from which it is read. What calls on
+//! objects pass goes through a pool for each number of them to all that they may find (`pools.rt`), which `call_targets`
+//! tells. What the framework may enter, need and keep begins with anything (`begin.rt`), first what is called or read by
+//! others (`order.rt`).
 //!
 //! Values rise by joins, and are widened after so many of them, or where registers come from further on: so the search ends
 //! soon. The check fills in the frames between nodes, which share all that they have in common.

@@ -2,7 +2,7 @@
 
 use crate::rows::is_on;
 use crate::sites::Node;
-use crate::walks::Walk;
+use crate::walks::{ALL, Walk};
 use domains::Value;
 use lattice_core::{Domain, Lattice};
 use pat_map::PatMap;
@@ -12,11 +12,13 @@ use std::collections::VecDeque;
 /// How often the registers at a node rise by a join before they are widened, unless they come from further on.
 const JOINS: u8 = 63;
 
-/// The registers at a node, none where no run comes, and how often they have risen.
+/// The registers at a node, none where no run comes, and how often they have risen. `fresh` has those that have risen since
+/// a walk last began here.
 #[derive(Drop)]
 struct Place {
     state: Option<PatMap<Value>>,
     rises: u8,
+    fresh: u64,
 }
 
 /// The registers at all nodes. `waiting` says by node, and `queued` by body, what waits; the bodies stand in `queue`.
@@ -36,6 +38,7 @@ fn no_places(alloc: Global, count: usize) -> Result<Vec<Place>, AllocError> {
         places.push(Place {
             state: None,
             rises: 0,
+            fresh: ALL,
         })?;
     }
     Ok(places)
@@ -70,6 +73,7 @@ impl Place {
             }
         };
         self.state = Some(risen);
+        self.fresh = ALL;
         self.rises = self.rises.saturating_add(1);
         Ok(true)
     }
@@ -84,13 +88,14 @@ impl Place {
         widens: bool,
     ) -> Result<bool, AllocError> {
         let risen = match &self.state {
-            None => Some(walk.map(alloc)?),
+            None => Some((walk.map(alloc)?, ALL)),
             Some(known) => walk.raise(alloc, known, widens || self.rises >= JOINS)?,
         };
-        let Some(registers) = risen else {
+        let Some((registers, fresh)) = risen else {
             return Ok(false);
         };
         self.state = Some(registers);
+        self.fresh |= fresh;
         self.rises = self.rises.saturating_add(1);
         Ok(true)
     }
@@ -117,6 +122,25 @@ impl<'a> Nodes<'a> {
         match self.places.as_slice().get(node as usize) {
             Some(place) => place.state.as_ref(),
             None => None,
+        }
+    }
+
+    /// Which registers have risen at a node since a walk last began there.
+    pub(crate) fn take_fresh(&mut self, node: u32) -> u64 {
+        match self.places.get_mut(node as usize) {
+            Some(place) => {
+                let fresh = place.fresh;
+                place.fresh = 0;
+                fresh
+            }
+            None => ALL,
+        }
+    }
+
+    /// Lets all registers count as risen at a node.
+    pub(crate) fn freshen(&mut self, node: u32) {
+        if let Some(place) = self.places.get_mut(node as usize) {
+            place.fresh = ALL;
         }
     }
 

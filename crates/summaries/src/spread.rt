@@ -346,18 +346,24 @@ impl<'a> Spread<'a> {
         target: u32,
         walk: &mut Walk,
     ) -> Result<bool, AllocError> {
-        if let Some(turn) = walk.left_of(insn, true) {
-            let operands = walk.operands(&turn);
-            walk.turn(turn)?;
-            self.come(alloc, code, from, target, walk)?;
-            walk.turn(operands)?;
+        match walk.left_of(insn, true) {
+            Some(turn) => {
+                let operands = walk.operands(&turn);
+                walk.turn(turn)?;
+                self.come(alloc, code, from, target, walk)?;
+                walk.turn(operands)?;
+            }
+            None => walk.halt(),
         }
         match walk.left_of(insn, false) {
             Some(turn) => {
                 walk.turn(turn)?;
                 Ok(true)
             }
-            None => Ok(false),
+            None => {
+                walk.halt();
+                Ok(false)
+            }
         }
     }
 
@@ -470,9 +476,13 @@ impl<'a> Spread<'a> {
             Some(state) => state.share()?,
             None => return Ok(false),
         };
-        walk.begin(state, u32::from(code.body.registers))?;
+        let fresh = self.nodes.take_fresh(node);
+        walk.begin(state, u32::from(code.body.registers), fresh)?;
         if let Some(own) = sites.nodes.as_slice().get(node as usize) {
             self.walk(alloc, place, code, own.position, walk)?;
+        }
+        if walk.is_halted() {
+            self.nodes.freshen(node);
         }
         Ok(true)
     }

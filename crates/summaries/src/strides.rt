@@ -45,7 +45,10 @@ impl Walk {
                 self.put(u32::from(register), value)?;
                 Ok(true)
             }
-            None => Ok(false),
+            None => {
+                self.halt();
+                Ok(false)
+            }
         }
     }
 
@@ -91,7 +94,10 @@ impl Walk {
                         self.put_sized(op.is_wide(), *to, value)?;
                         Ok(true)
                     }
-                    None => Ok(false),
+                    None => {
+                        self.halt();
+                        Ok(false)
+                    }
                 }
             }
             Insn::Literal { op, to, a, value } => {

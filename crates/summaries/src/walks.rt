@@ -10,14 +10,27 @@ use lattice_core::{Domain, Lattice};
 use pat_map::{MapValue, PatMap};
 use std::alloc::{AllocError, Global};
 
+/// All of the first registers, each of which has a bit.
+pub(crate) const ALL: u64 = u64::MAX;
+
+/// The bit of a register: all of them where it is none of the first ones.
+pub(crate) fn bit_of(register: u32) -> u64 {
+    if register < 64 { 1u64 << register } else { ALL }
+}
+
 /// The registers where a walk is, so many as `count`: those of `base`, but for those in `written`, whose values stand in
 /// `values`. All others have none there.
+///
+/// `fresh` has the registers that have risen where the walk began since one last began there and went over all its ways, and
+/// those that it has written: what others have has come wherever it goes. `halted` says that it didn't go over all its ways.
 #[derive(Drop)]
 pub(crate) struct Walk {
     base: PatMap<Value>,
     values: Vec<Option<Value>>,
     written: Vec<u32>,
     count: u32,
+    fresh: u64,
+    halted: bool,
 }
 
 /// The value of a register as it is known at a node, raised by what comes there; none where it doesn't rise.
@@ -83,6 +96,8 @@ impl Walk {
             values: Vec::new(alloc),
             written: Vec::new(alloc),
             count: 0,
+            fresh: ALL,
+            halted: false,
         }
     }
 
@@ -96,18 +111,47 @@ impl Walk {
         self.written.clear();
     }
 
-    /// Lets a walk begin with so many registers of a map.
-    pub(crate) fn begin(&mut self, registers: PatMap<Value>, count: u32) -> Result<(), AllocError> {
+    /// Lets a walk begin with so many registers of a map, of which these have risen.
+    pub(crate) fn begin(
+        &mut self,
+        registers: PatMap<Value>,
+        count: u32,
+        fresh: u64,
+    ) -> Result<(), AllocError> {
         self.clear();
         self.base = registers;
         self.count = count;
+        self.fresh = fresh;
+        self.halted = false;
         widen_to(&mut self.values, count as usize)
+    }
+
+    /// Keeps what is written as a map.
+    fn keep(&mut self, registers: PatMap<Value>) {
+        self.clear();
+        self.base = registers;
     }
 
     /// Lets a walk go on with other registers of the same body.
     pub(crate) fn resume(&mut self, registers: PatMap<Value>) {
-        self.clear();
-        self.base = registers;
+        self.keep(registers);
+        self.fresh = ALL;
+        self.halted = true;
+    }
+
+    /// Notes that the walk doesn't go over all its ways.
+    pub(crate) fn halt(&mut self) {
+        self.halted = true;
+    }
+
+    /// Whether it didn't.
+    pub(crate) fn is_halted(&self) -> bool {
+        self.halted
+    }
+
+    /// Whether what a register has may not have come yet to where the walk goes.
+    fn is_fresh(&self, register: u32) -> bool {
+        self.fresh & bit_of(register) != 0
     }
 
     /// The value of a register, if it has one.
@@ -136,6 +180,7 @@ impl Walk {
 
     /// Puts a value into a register of the body.
     pub(crate) fn put(&mut self, register: u32, value: Value) -> Result<(), AllocError> {
+        self.fresh |= bit_of(register);
         let Some(own) = self.values.get_mut(register as usize) else {
             return Ok(());
         };
@@ -179,24 +224,44 @@ impl Walk {
     pub(crate) fn map(&mut self, alloc: Global) -> Result<PatMap<Value>, AllocError> {
         if !self.written.is_empty() {
             let registers = self.made(alloc)?;
-            self.resume(registers);
+            self.keep(registers);
         }
         self.base.share()
     }
 
-    /// What is known at a node, raised by these registers; none where nothing rises.
+    /// What is known of a register at a node, raised by what the walk has there; none where it doesn't rise.
+    fn raised_at(
+        &self,
+        alloc: Global,
+        known: &PatMap<Value>,
+        register: u32,
+        widens: bool,
+    ) -> Result<Option<Value>, AllocError> {
+        if self.is_fresh(register) {
+            raised(alloc, known.get(register), self.get(register), widens)
+        } else {
+            Ok(None)
+        }
+    }
+
+    /// What is known at a node, raised by these registers, and which of them rise; none where nothing does.
     pub(crate) fn raise(
         &self,
         alloc: Global,
         known: &PatMap<Value>,
         widens: bool,
-    ) -> Result<Option<PatMap<Value>>, AllocError> {
+    ) -> Result<Option<(PatMap<Value>, u64)>, AllocError> {
         let mut risen: Option<PatMap<Value>> = None;
+        let mut fresh = 0u64;
         for register in 0..self.count {
-            if let Some(more) = raised(alloc, known.get(register), self.get(register), widens)? {
+            if let Some(more) = self.raised_at(alloc, known, register, widens)? {
                 set_in(alloc, known, &mut risen, register, more)?;
+                fresh |= bit_of(register);
             }
         }
-        Ok(risen)
+        match risen {
+            Some(registers) => Ok(Some((registers, fresh))),
+            None => Ok(None),
+        }
     }
 }

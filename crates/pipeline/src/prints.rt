@@ -1,9 +1,10 @@
 //! Which bodies changed from one round to the next.
 //!
-//! Where the passes on bodies leave a body as it was, and nothing changes it before they come again, they leave it so once more. So in a
-//! round they look only at the methods whose bodies stand before these passes otherwise than they stood before them in the round
-//! before. That is told by a print of each body, a sum of 64 bits, in which a get of a static field also tells whether it initialises the
-//! field's class. Two bodies may have the same print: then the second one is looked at in the last round, which looks at all.
+//! Where the passes on bodies do no more to a body than give its registers other numbers, and nothing changes it before they come
+//! again, they leave it as it is. So in a round they look only at the other methods. That is told by a print of each body as these passes
+//! left it, a sum of 64 bits, in which a get of a static field also tells whether it initialises the field's class; the print of a body
+//! to which they did more is spoilt, which is 0. Nothing rests on it: two bodies may have the same print, and then the second one is looked at in
+//! the last round, which looks at all.
 
 ghost use Rattle.std.specs.Prelude.{◌≡◌, true, false, IfOk, slice_index_or, slice_set};
 ghost use Rattle.pipeline.specs.Passes.{AreWithin};
@@ -186,6 +187,22 @@ fn is_new(prints: &mut [u64], method: u32, print: u64) -> bool {
     }
 }
 
+/// Spoils the print of a body that isn't as it was.
+fn spoil(prints: &mut [u64], method: u32, print: u64) {
+    if is_new(prints, method, print) {
+        is_new(prints, method, 0);
+    }
+}
+
+/// Notes the print of a body, unless it was spoilt.
+fn renew(prints: &mut [u64], method: u32, print: u64) {
+    if let Some(old) = prints.get_mut(method as usize) {
+        if *old != 0 {
+            *old = print;
+        }
+    }
+}
+
 /// Whether a method may be rewritten.
 fn is_admitted(admitted: &[bool], method: u32) -> bool
     ensures { result ≡ slice_index_or admitted.now method false }
@@ -280,4 +297,61 @@ pub fn changed_bodies(
         );
     }
     Ok(Admitted { methods: marks })
+}
+
+/// Spoils the print of a method at which passes looked and that isn't as it was; where it is so but for its registers, notes it anew.
+fn look_back_at_method(
+    prints: &mut [u64],
+    marks: &[bool],
+    program: &Program,
+    graph: &Option<Hierarchy>,
+    method: &Method,
+    renamed: bool,
+) {
+    if !is_admitted(marks, method.name) {
+        return;
+    }
+    if let Some(body) = &method.body {
+        let print = body_print(program, graph, body);
+        if renamed {
+            renew(prints, method.name, print);
+        } else {
+            spoil(prints, method.name, print);
+        }
+    }
+}
+
+/// The same for the methods of a class.
+fn look_back_at_class(
+    prints: &mut [u64],
+    marks: &[bool],
+    program: &Program,
+    graph: &Option<Hierarchy>,
+    class: &Class,
+    renamed: bool,
+) {
+    for method in class.methods.as_slice() {
+        look_back_at_method(prints, marks, program, graph, method, renamed);
+    }
+}
+
+/// Spoils the prints of the methods at which passes looked and that aren't as they were. Where these passes only gave registers other
+/// numbers, it notes their prints anew, but for those that are spoilt.
+pub fn look_back(
+    prints: &mut [u64],
+    marks: &Admitted,
+    program: &Program,
+    graph: &Option<Hierarchy>,
+    renamed: bool,
+) {
+    for class in program.classes.as_slice() {
+        look_back_at_class(
+            prints,
+            marks.methods.as_slice(),
+            program,
+            graph,
+            class,
+            renamed,
+        );
+    }
 }

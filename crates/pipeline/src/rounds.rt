@@ -24,7 +24,7 @@ use crate::passes::{
     clean_bodies, compact_bodies, facts_of, fold_constants, loosen_methods, propagate_copies,
     quiet_calls, rebind_calls, remove_unreached, squeeze_bodies,
 };
-use crate::prints::changed_bodies;
+use crate::prints::{changed_bodies, look_back};
 use crate::silent::silence;
 use crate::traces::{Changes, Passed, Traced, and_then, unmoved};
 use call_graph::{LiveSet, live_members};
@@ -189,12 +189,14 @@ fn value_passes(
     value_passes_by(alloc, traced, graph, &mut facts, outside, admitted)
 }
 
-/// The passes on bodies that take no facts. Where they change nothing, the graph is that of what is left.
+/// The passes on bodies that take no facts, and the prints of the bodies that they leave. Where they change nothing, the graph is that
+/// of what is left.
 fn body_passes(
     alloc: Global,
     traced: Traced,
     graph: &mut Option<Hierarchy>,
     admitted: &Admitted,
+    prints: &mut [u64],
 ) -> Result<Passed, AllocError>
     ensures passed { IsGraph traced.program graph.old → IfOk result (λ passed. (outside : Outside) → HavePassed outside admitted.now.methods.items (CopyProp ∷ DeadCode ∷ Squeeze ∷ Compact ∷ []) traced passed) }
     ensures graph { IsGraph traced.program graph.old → IfOk result (λ passed. total_of passed.changes ≡ 0 → IsGraph passed.traced.program graph.new) }
@@ -204,7 +206,9 @@ fn body_passes(
     let cleaned = and_then(copied.changes, cleaned);
     let squeezed = squeeze_bodies(alloc, cleaned.traced, admitted)?;
     let squeezed = and_then(cleaned.changes, squeezed);
+    look_back(prints, admitted, &squeezed.traced.program, graph, false);
     let compacted = compact_bodies(alloc, squeezed.traced, admitted)?;
+    look_back(prints, admitted, &compacted.traced.program, graph, true);
     Ok(and_then(squeezed.changes, compacted))
 }
 
@@ -231,22 +235,23 @@ fn settle_bodies(
     graph: &mut Option<Hierarchy>,
     marks: &Admitted,
     admitted: &Admitted,
+    prints: &mut [u64],
     all: bool,
 ) -> Result<Passed, AllocError>
     ensures { AreWithin marks.now.methods.items admitted.now.methods.items → IsGraph traced.program graph.old
         → IfOk result (λ passed. (outside : Outside) → HaveLooked outside admitted.now.methods.items (CopyProp ∷ DeadCode ∷ Squeeze ∷ Compact ∷ []) all traced passed) }
 {
-    let left = body_passes(alloc, traced, graph, marks)?;
+    let left = body_passes(alloc, traced, graph, marks, prints)?;
     let due = is_due(all, &left.changes, marks, admitted);
     if due {
-        let again = body_passes(alloc, left.traced, graph, admitted)?;
+        let again = body_passes(alloc, left.traced, graph, admitted, prints)?;
         return Ok(again);
     }
     Ok(left)
 }
 
-/// The passes on bodies over the methods whose bodies changed since these passes left them as they were, by the prints of bodies in the
-/// round before.
+/// The passes on bodies over the methods whose bodies aren't as these passes left them, or to which they did more than give registers
+/// other numbers, by the prints of bodies in the round before.
 fn changed_passes(
     alloc: Global,
     traced: Traced,
@@ -259,7 +264,7 @@ fn changed_passes(
         → IfOk result (λ passed. (outside : Outside) → HaveLooked outside admitted.now.methods.items (CopyProp ∷ DeadCode ∷ Squeeze ∷ Compact ∷ []) all traced passed) }
 {
     let marks = changed_bodies(alloc, &traced.program, graph, prints, admitted)?;
-    settle_bodies(alloc, traced, graph, &marks, admitted, all)
+    settle_bodies(alloc, traced, graph, &marks, admitted, prints, all)
 }
 
 /// Each pass once, in its order, by the graph of the program as it stands before it.

@@ -83,23 +83,20 @@ pub data ValueBy (bytes : List ℕ) : List ℕ → ℕ → Type 0 where
   InArray : (way : List ℕ) (outer i at : ℕ) → ValueBy bytes way outer → HasTag bytes outer → tag_at bytes outer ≡ 28 → IsItemOf bytes (outer + 1) i at → ValueBy bytes (2 ∷ i ∷ way) at
   InNote : (way : List ℕ) (outer k element name at : ℕ) → ValueBy bytes way outer → HasTag bytes outer → tag_at bytes outer ≡ 29 → ElementStands bytes (outer + 1) k element → IsUlebAt bytes element (name, at) → ValueBy bytes (3 ∷ k ∷ way) at
 
--- an array, and an annotation without its visibility
-pub data ArrayBy (bytes : List ℕ) : List ℕ → ℕ → Type 0 where
-  OfClass : (class array : ℕ) → HasArray bytes class array → ArrayBy bytes (0 ∷ class ∷ []) array
-  OfValue : (way : List ℕ) (at : ℕ) → ValueBy bytes way at → HasTag bytes at → tag_at bytes at ≡ 28 → ArrayBy bytes (1 ∷ way) (at + 1)
-
+-- an annotation without its visibility
 pub data NoteBy (bytes : List ℕ) : List ℕ → ℕ → Type 0 where
   OfSet : (way : List ℕ) (set i mark : ℕ) → SetBy bytes way set → ListedAt bytes set i mark → NoteBy bytes (0 ∷ i ∷ way) (mark + 1)
   OfValue : (way : List ℕ) (at : ℕ) → ValueBy bytes way at → HasTag bytes at → tag_at bytes at ≡ 29 → NoteBy bytes (1 ∷ way) (at + 1)
 
--- ---- items
+-- ---- items: entries of lists. The first values of a class are as many as their count says; it is taken before they are read.
 
 pub data IsItem (bytes : List ℕ) : List ℕ → Type 0 where
   OfProto : (proto entry offset at count i : ℕ) → IsEntryAt bytes 72 12 proto entry → Is32 bytes (entry + 8) offset → Leads offset at → Is32 bytes at count → i < count → IsItem bytes (0 ∷ proto ∷ i ∷ [])
   OfInterfaces : (class at count i : ℕ) (def : Def) → HasDef bytes class def → Leads def.interfaces at → Is32 bytes at count → i < count → IsItem bytes (1 ∷ class ∷ i ∷ [])
   OfSet : (way : List ℕ) (at count i : ℕ) → SetBy bytes way at → Is32 bytes at count → i < count → IsItem bytes (2 ∷ i ∷ way)
   OfRefs : (way : List ℕ) (at count i : ℕ) → RefsBy bytes way at → Is32 bytes at count → i < count → IsItem bytes (3 ∷ i ∷ way)
-  OfArray : (way : List ℕ) (array i at : ℕ) → ArrayBy bytes way array → IsItemOf bytes array i at → IsItem bytes (4 ∷ i ∷ way)
+  OfFirsts : (class array count begin i : ℕ) → HasArray bytes class array → IsUlebAt bytes array (count, begin) → i < count → IsItem bytes (4 ∷ i ∷ 0 ∷ class ∷ [])
+  OfArray : (way : List ℕ) (outer i at : ℕ) → ValueBy bytes way outer → HasTag bytes outer → tag_at bytes outer ≡ 28 → IsItemOf bytes (outer + 1) i at → IsItem bytes (4 ∷ i ∷ 1 ∷ way)
   OfNote : (way : List ℕ) (note k at : ℕ) → NoteBy bytes way note → ElementStands bytes note k at → IsItem bytes (5 ∷ k ∷ way)
   OfLines : (class which place at i : ℕ) (f : Frame) (pieces : List Piece) (code : IsMethodCode bytes class which place at f pieces) → 0 < f.debug → i < (item_lines bytes f.debug (places_of code.units pieces).starts (length bytes)).1
       → IsItem bytes (6 ∷ class ∷ which ∷ place ∷ i ∷ [])

@@ -1,7 +1,9 @@
-//! What the numbers of an instruction have to be: registers of the body, entries of the tables, positions.
+//! What the numbers of an instruction have to be: registers of the body, entries of the tables, positions. Registers are
+//! looked at by the groups in which forms are copied (`Copies` of insn_set), each of which hands the forms behind it on.
 
-ghost use Rattle.std.specs.Prelude.{◌≡◌, nat_lt, length, not, position};
+ghost use Rattle.std.specs.Prelude.{◌≡◌, nat_lt, length, not, position, IsTrue};
 ghost use Rattle.std.specs.List.{list_all};
+ghost use Rattle.insn_set.specs.Copies.{after_fields, after_objects};
 ghost use Rattle.code_read.specs.Checks.{has_room, are_registers, registers_inside, numbers_inside, operands_inside, targets_inside};
 
 use crate::sizes::Sizes;
@@ -25,43 +27,40 @@ fn all_fit(words: &[u16], count: u16) -> bool
     words.iter().all(|word| *word < count)
 }
 
-/// Whether each register that an instruction reads or writes is below the count.
-fn has_registers(insn: &Insn, count: u16) -> bool
+/// Whether each register of a branch, or of an operation on numbers, is below the count. A goto has none.
+fn branch_registers(insn: &Insn, count: u16) -> bool
+    requires { IsTrue (after_fields insn.now) }
     ensures { result ≡ registers_inside insn.now count }
 {
     match insn {
-        Insn::Move { slot, to, from } => {
-            fits(slot.is_wide(), *to, count) && fits(slot.is_wide(), *from, count)
-        }
-        Insn::MoveResult { slot, to } => fits(slot.is_wide(), *to, count),
-        Insn::Return { slot, from } => fits(slot.is_wide(), *from, count),
-        Insn::ConstWide { to, .. } => fits(true, *to, count),
-        Insn::MoveException { to }
-        | Insn::Const { to, .. }
-        | Insn::ConstString { to, .. }
-        | Insn::ConstClass { to, .. }
-        | Insn::NewInstance { to, .. } => *to < count,
-        Insn::MonitorEnter { on }
-        | Insn::MonitorExit { on }
-        | Insn::CheckCast { on, .. }
-        | Insn::FillArray { on, .. }
-        | Insn::PackedSwitch { on, .. }
-        | Insn::SparseSwitch { on, .. }
-        | Insn::Throw { on } => *on < count,
-        Insn::InstanceOf { to, from, .. } | Insn::ArrayLength { to, from } => {
-            *to < count && *from < count
-        }
-        Insn::NewArray { to, size, .. } => *to < count && *size < count,
-        Insn::FilledNewArray { args, .. } | Insn::Invoke { args, .. } => all_fit(
-            args.as_slice(),
-            count,
-        ),
+        Insn::PackedSwitch { on, .. } | Insn::SparseSwitch { on, .. } => *on < count,
+        Insn::If { a, b, .. } => *a < count && *b < count,
+        Insn::IfZero { a, .. } => *a < count,
         Insn::Cmp { op, to, a, b } => {
             *to < count
                 && (fits(op.compares_wide(), *a, count) && fits(op.compares_wide(), *b, count))
         }
-        Insn::If { a, b, .. } => *a < count && *b < count,
-        Insn::IfZero { a, .. } => *a < count,
+        Insn::Unary { op, to, from } => {
+            fits(op.writes_wide(), *to, count) && fits(op.reads_wide(), *from, count)
+        }
+        Insn::Binary { op, to, a, b } => {
+            fits(op.is_wide(), *to, count)
+                && (fits(op.is_wide(), *a, count) && fits(op.second_is_wide(), *b, count))
+        }
+        Insn::Literal { to, a, .. } => *to < count && *a < count,
+        _ => true,
+    }
+}
+
+/// Whether each register of an operation on an array or of a get or a put of a field is below the count, or of a form
+/// behind these.
+fn memory_registers(insn: &Insn, count: u16) -> bool
+    requires { IsTrue (after_objects insn.now) }
+    ensures { result ≡ registers_inside insn.now count }
+{
+    match insn {
+        Insn::NewArray { to, size, .. } => *to < count && *size < count,
+        Insn::FillArray { on, .. } => *on < count,
         Insn::ArrayGet {
             item,
             to,
@@ -80,15 +79,39 @@ fn has_registers(insn: &Insn, count: u16) -> bool
         }
         Insn::StaticGet { item, to, .. } => fits(item.is_wide(), *to, count),
         Insn::StaticPut { item, from, .. } => fits(item.is_wide(), *from, count),
-        Insn::Unary { op, to, from } => {
-            fits(op.writes_wide(), *to, count) && fits(op.reads_wide(), *from, count)
+        _ => branch_registers(insn, count),
+    }
+}
+
+/// Whether each register that an instruction reads or writes is below the count.
+fn has_registers(insn: &Insn, count: u16) -> bool
+    ensures { result ≡ registers_inside insn.now count }
+{
+    match insn {
+        Insn::Nop | Insn::ReturnVoid => true,
+        Insn::Move { slot, to, from } => {
+            fits(slot.is_wide(), *to, count) && fits(slot.is_wide(), *from, count)
         }
-        Insn::Binary { op, to, a, b } => {
-            fits(op.is_wide(), *to, count)
-                && (fits(op.is_wide(), *a, count) && fits(op.second_is_wide(), *b, count))
+        Insn::MoveResult { slot, to } => fits(slot.is_wide(), *to, count),
+        Insn::Return { slot, from } => fits(slot.is_wide(), *from, count),
+        Insn::ConstWide { to, .. } => fits(true, *to, count),
+        Insn::MoveException { to }
+        | Insn::Const { to, .. }
+        | Insn::ConstString { to, .. }
+        | Insn::ConstClass { to, .. }
+        | Insn::NewInstance { to, .. } => *to < count,
+        Insn::MonitorEnter { on }
+        | Insn::MonitorExit { on }
+        | Insn::CheckCast { on, .. }
+        | Insn::Throw { on } => *on < count,
+        Insn::InstanceOf { to, from, .. } | Insn::ArrayLength { to, from } => {
+            *to < count && *from < count
         }
-        Insn::Literal { to, a, .. } => *to < count && *a < count,
-        _ => true,
+        Insn::FilledNewArray { args, .. } | Insn::Invoke { args, .. } => all_fit(
+            args.as_slice(),
+            count,
+        ),
+        _ => memory_registers(insn, count),
     }
 }
 

@@ -301,6 +301,11 @@ is_field (insn.StaticGet item to field) = true
 is_field (insn.StaticPut item from field) = true
 is_field x = false
 
+abbrev pub is_field_put : Insn → Bool
+is_field_put (insn.InstancePut item from on field) = true
+is_field_put (insn.StaticPut item from field) = true
+is_field_put x = false
+
 abbrev pub is_outward : Insn → Bool
 is_outward (insn.NewInstance to kind) = true
 is_outward (insn.Invoke kind method args) = true

@@ -9,7 +9,7 @@ ghost use Rattle.dalvik_state.specs.Frames.{IsSame, Leaves};
 ghost use Rattle.dalvik_state.specs.Views.{IsFineFrame, names_in};
 ghost use Rattle.dalvik_state.specs.Worlds.{LeavesWorld, IsSameWorld, IsShort, spots_of};
 ghost use Rattle.dalvik_act.specs.Acted.{ActsUnder, Fits, IsActed, IsActing, IsAsking, IsFineEffect, IsSafeIn, NamesArray};
-ghost use Rattle.dalvik_act.specs.Acting.{ActsIn, ActsLocked, ActsNamed, ActsNow, ActsTabled, ActsWith, is_array_form, is_constant, is_exact, is_field, is_get, is_length, is_monitor, is_outward, is_still, is_tested};
+ghost use Rattle.dalvik_act.specs.Acting.{ActsIn, ActsLocked, ActsNamed, ActsNow, ActsTabled, ActsWith, is_array_form, is_constant, is_exact, is_field, is_field_put, is_get, is_length, is_monitor, is_outward, is_still, is_tested};
 
 use crate::arrays::{act_arrays, act_items};
 use crate::numbers::act_numbers;
@@ -62,6 +62,22 @@ fn act_fields<'a>(frame: &Frame<'a>, insn: &'a Insn) -> Effect<'a>
             };
             unless_null(object, reads)
         }
+        Insn::StaticGet { item, to, field } => Effect::Reads {
+            item: *item,
+            to: *to,
+            field: *field,
+            on: None,
+        },
+        _ => act_puts(frame, insn),
+    }
+}
+
+/// Writes of fields.
+fn act_puts<'a>(frame: &Frame<'a>, insn: &'a Insn) -> Effect<'a>
+    ensures acts { IsTrue (is_field_put insn.now) → ActsNow insn.now frame.now result }
+    ensures fine { (l : Lookups) (size : ℕ) → Fits l.program.now insn.now → IsFineFrame (names_in l) size frame.now → IsFineEffect l size result }
+{
+    match insn {
         Insn::InstancePut {
             item,
             from,
@@ -76,12 +92,6 @@ fn act_fields<'a>(frame: &Frame<'a>, insn: &'a Insn) -> Effect<'a>
             };
             unless_null(object, writes)
         }
-        Insn::StaticGet { item, to, field } => Effect::Reads {
-            item: *item,
-            to: *to,
-            field: *field,
-            on: None,
-        },
         Insn::StaticPut { item, from, field } => Effect::Writes {
             field: *field,
             on: None,
@@ -110,8 +120,10 @@ fn act_by_form<'a>(
     ensures constants { IsTrue (is_constant insn.now) → IfOk result (ActsTabled tables.now insn.now frame.old frame.new) }
     ensures arrays { IsTrue (is_array_form insn.now) → IfOk result (ActsNamed tables.now insn.now world.old world.new frame.old frame.new) }
     ensures gets { IsTrue (is_get insn.now) → IfOk result (ActsWith insn.now world.old world.new frame.old frame.new) }
-    ensures tests { IsTrue (is_tested insn.now) → IsAsking tables.now.lookups memo.old world.old frame.old → Fits tables.now.lookups.program.now insn.now → IfOk result (ActsUnder tables.now.lookups insn.now world.old world.new frame.old frame.new) }
-    ensures safe { IsAsking tables.now.lookups memo.old world.old frame.old → Fits tables.now.lookups.program.now insn.now → NamesArray tables.now.lookups.program.now insn.now → IfOk result (IsSafeIn tables.now.lookups world.old world.new frame.old frame.new) }
+    ensures tests { IsTrue (is_tested insn.now) → IsAsking tables.now.lookups memo.old world.old frame.old → Fits tables.now.lookups.program.now insn.now
+        → IfOk result (ActsUnder tables.now.lookups insn.now world.old world.new frame.old frame.new) }
+    ensures safe { IsAsking tables.now.lookups memo.old world.old frame.old → Fits tables.now.lookups.program.now insn.now → NamesArray tables.now.lookups.program.now insn.now
+        → IfOk result (IsSafeIn tables.now.lookups world.old world.new frame.old frame.new) }
     ensures memo { IsAsking tables.now.lookups memo.old world.old frame.old → Fits tables.now.lookups.program.now insn.now → IsKept tables.now.lookups memo.new }
     ensures locks { IsTrue (is_monitor insn.now) → IfOk result (ActsLocked insn.now world.old frame.old frame.new) }
 {
@@ -168,7 +180,8 @@ pub fn act<'a>(
     ensures err { OnErr result (IsSame frame.old frame.new) }
     ensures lost { OnErr result (IsSameWorld world.old world.new) }
     ensures kept { IfOk result (λ effect. LeavesWorld effect world.old world.new) }
-    ensures acted { (floats : Floats) (steps : ℕ) → IsTable tables.now.floats floats → IsActing tables.now.lookups memo.old steps world.old frame.old insn.now → IfOk result (IsActed tables.now.lookups floats steps insn.now world.old world.new frame.old frame.new) }
+    ensures acted { (floats : Floats) (steps : ℕ) → IsTable tables.now.floats floats → IsActing tables.now.lookups memo.old steps world.old frame.old insn.now
+        → IfOk result (IsActed tables.now.lookups floats steps insn.now world.old world.new frame.old frame.new) }
     ensures memo { (steps : ℕ) → IsActing tables.now.lookups memo.old steps world.old frame.old insn.now → IsKept tables.now.lookups memo.new }
 {
     act_by_form(alloc, tables, memo, world, frame, insn)

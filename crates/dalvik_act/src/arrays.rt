@@ -66,7 +66,8 @@ fn zeroed_array<'a>(
     ensures lost { OnErr result (IsSameWorld world.old world.new) }
     ensures kept { IfOk result (λ effect. LeavesWorld effect world.old world.new) }
     ensures does { IfOk result (DoesNamed tables.now (λ n w f. adds_zeros (n.kind array.1) array.0 w f to) world.old world.new frame.old frame.new) }
-    ensures safe { AreTypes tables.now.lookups.types → IsReady tables.now.lookups world.old frame.old → IsFineKind tables.now.lookups array.1 → IfOk result (IsSafeIn tables.now.lookups world.old world.new frame.old frame.new) }
+    ensures safe { AreTypes tables.now.lookups.types → IsReady tables.now.lookups world.old frame.old → IsFineKind tables.now.lookups array.1
+        → IfOk result (IsSafeIn tables.now.lookups world.old world.new frame.old frame.new) }
 {
     let thing = zeros(alloc, tables, array.1, array.0)?;
     let reference = world.add(thing)?;
@@ -87,7 +88,8 @@ fn new_array<'a>(
     ensures lost { OnErr result (IsSameWorld world.old world.new) }
     ensures kept { IfOk result (λ effect. LeavesWorld effect world.old world.new) }
     ensures does { IfOk result (DoesNamed tables.now (λ n w f. new_array_of (cast_signed w32 array.0) (n.kind array.1) w f to) world.old world.new frame.old frame.new) }
-    ensures safe { AreTypes tables.now.lookups.types → IsReady tables.now.lookups world.old frame.old → IsFineKind tables.now.lookups array.1 → IfOk result (IsSafeIn tables.now.lookups world.old world.new frame.old frame.new) }
+    ensures safe { AreTypes tables.now.lookups.types → IsReady tables.now.lookups world.old frame.old → IsFineKind tables.now.lookups array.1
+        → IfOk result (IsSafeIn tables.now.lookups world.old world.new frame.old frame.new) }
 {
     match place_of(array.0) {
         Some(_) => zeroed_array(alloc, tables, world, frame, to, array),
@@ -185,7 +187,8 @@ pub fn act_arrays<'a>(
     ensures still { IsTrue (is_length insn.now) → IsSameWorld world.old world.new }
     ensures acts { IsTrue (is_length insn.now) → IsShort (spots_of world.old) → IfOk result (ActsWith insn.now world.old world.new frame.old frame.new) }
     ensures named { IsTrue (is_array_form insn.now) → IfOk result (ActsNamed tables.now insn.now world.old world.new frame.old frame.new) }
-    ensures safe { IsRight tables.now.lookups → IsReady tables.now.lookups world.old frame.old → Fits tables.now.lookups.program.now insn.now → NamesArray tables.now.lookups.program.now insn.now → IfOk result (IsSafeIn tables.now.lookups world.old world.new frame.old frame.new) }
+    ensures safe { IsRight tables.now.lookups → IsReady tables.now.lookups world.old frame.old → Fits tables.now.lookups.program.now insn.now
+        → NamesArray tables.now.lookups.program.now insn.now → IfOk result (IsSafeIn tables.now.lookups world.old world.new frame.old frame.new) }
 {
     match insn {
         Insn::ArrayLength { to, from } => {
@@ -275,7 +278,8 @@ fn may_store(
     datum: Datum,
     kind: Kind,
 ) -> Result<bool, AllocError>
-    ensures answer { IsTested tables.now.lookups memo.old world.now datum kind → IfOk result (λ fits. fits ≡ may_store (run_face tables.now.lookups).under (world_of (names_in tables.now.lookups) world.now) item (value_of (names_in tables.now.lookups) datum) (type_text tables.now.lookups.types kind)) }
+    ensures answer { IsTested tables.now.lookups memo.old world.now datum kind
+        → IfOk result (λ fits. fits ≡ may_store (run_face tables.now.lookups).under (world_of (names_in tables.now.lookups) world.now) item (value_of (names_in tables.now.lookups) datum) (type_text tables.now.lookups.types kind)) }
     ensures kept { IsTested tables.now.lookups memo.old world.now datum kind → IsKept tables.now.lookups memo.new }
 {
     match item {
@@ -343,7 +347,8 @@ fn puts_item<'a>(
     ensures err { OnErr result (IsSame frame.old frame.new) }
     ensures lost { OnErr result (IsSameWorld world.old world.new) }
     ensures kept { IfOk result (λ effect. LeavesWorld effect world.old world.new) }
-    ensures puts { IsTested tables.now.lookups memo.old world.old put.datum outline.0 → frame.old.position < 2 ^ 63 → IfOk result (Puts tables.now.lookups put.item put.array put.datum put.index outline world.old world.new frame.old frame.new) }
+    ensures puts { IsTested tables.now.lookups memo.old world.old put.datum outline.0 → frame.old.position < 2 ^ 63
+        → IfOk result (Puts tables.now.lookups put.item put.array put.datum put.index outline world.old world.new frame.old frame.new) }
     ensures safe { (l : Lookups) → IsReady l world.old frame.old → IsFine (names_in l) (length (spots_of world.old)) put.datum → IfOk result (IsSafeIn l world.old world.new frame.old frame.new) }
     ensures memo { IsTested tables.now.lookups memo.old world.old put.datum outline.0 → IsKept tables.now.lookups memo.new }
 {
@@ -368,7 +373,8 @@ fn array_put<'a>(
     ensures err { OnErr result (IsSame frame.old frame.new) }
     ensures lost { OnErr result (IsSameWorld world.old world.new) }
     ensures kept { IfOk result (λ effect. LeavesWorld effect world.old world.new) }
-    ensures puts { IsAsking tables.now.lookups memo.old world.old frame.old → IsFine (names_in tables.now.lookups) (length (spots_of world.old)) put.datum → IfOk result (PutsAt tables.now.lookups put.item put.array put.datum put.index world.old world.new frame.old frame.new) }
+    ensures puts { IsAsking tables.now.lookups memo.old world.old frame.old → IsFine (names_in tables.now.lookups) (length (spots_of world.old)) put.datum
+        → IfOk result (PutsAt tables.now.lookups put.item put.array put.datum put.index world.old world.new frame.old frame.new) }
     ensures safe { (l : Lookups) → IsReady l world.old frame.old → IsFine (names_in l) (length (spots_of world.old)) put.datum → IfOk result (IsSafeIn l world.old world.new frame.old frame.new) }
     ensures memo { IsAsking tables.now.lookups memo.old world.old frame.old → IsFine (names_in tables.now.lookups) (length (spots_of world.old)) put.datum → IsKept tables.now.lookups memo.new }
 {

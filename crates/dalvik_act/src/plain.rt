@@ -46,7 +46,8 @@ pub fn act_moves<'a>(frame: &mut Frame<'a>, insn: &'a Insn) -> Effect<'a>
 pub fn act_constants<'a>(tables: &Tables<'a>, frame: &mut Frame<'a>, insn: &'a Insn) -> Effect<'a>
     ensures left { Leaves result frame.old frame.new }
     ensures acts { IsTrue (is_constant insn.now) → ActsTabled tables.now insn.now frame.old frame.new result }
-    ensures safe { IsNamed tables.now.lookups → IsPlaced tables.now.lookups.program.now insn.now → (size : ℕ) → frame.old.position < 2 ^ 63 → IsFineFrame (names_in tables.now.lookups) size frame.old → IsSafe tables.now.lookups size frame.old frame.new result }
+    ensures safe { IsNamed tables.now.lookups → IsPlaced tables.now.lookups.program.now insn.now → (size : ℕ) → frame.old.position < 2 ^ 63
+        → IsFineFrame (names_in tables.now.lookups) size frame.old → IsSafe tables.now.lookups size frame.old frame.new result }
 {
     match insn {
         Insn::Const { to, value } => sets(frame, *to, Datum::Word(value.cast_unsigned())),
@@ -129,7 +130,8 @@ pub fn is_instance(
     datum: Datum,
     kind: Kind,
 ) -> Result<bool, AllocError>
-    ensures answer { IsTested tables.now.lookups memo.old world.now datum kind → IfOk result (λ holds. holds ≡ is_instance (run_face tables.now.lookups).under (world_of (names_in tables.now.lookups) world.now) (value_of (names_in tables.now.lookups) datum) (type_text tables.now.lookups.types kind)) }
+    ensures answer { IsTested tables.now.lookups memo.old world.now datum kind
+        → IfOk result (λ holds. holds ≡ is_instance (run_face tables.now.lookups).under (world_of (names_in tables.now.lookups) world.now) (value_of (names_in tables.now.lookups) datum) (type_text tables.now.lookups.types kind)) }
     ensures kept { IsTested tables.now.lookups memo.old world.now datum kind → IsKept tables.now.lookups memo.new }
 {
     if datum.is_null() {
@@ -171,7 +173,8 @@ pub fn act_types<'a>(
 ) -> Result<Effect<'a>, AllocError>
     ensures ok { IfOk result (λ effect. Leaves effect frame.old frame.new) }
     ensures err { OnErr result (IsSame frame.old frame.new) }
-    ensures acts { IsTrue (is_type_test insn.now) → IsAsking tables.now.lookups memo.old world.now frame.old → Fits tables.now.lookups.program.now insn.now → IfOk result (ActsUnder tables.now.lookups insn.now world.now world.now frame.old frame.new) }
+    ensures acts { IsTrue (is_type_test insn.now) → IsAsking tables.now.lookups memo.old world.now frame.old → Fits tables.now.lookups.program.now insn.now
+        → IfOk result (ActsUnder tables.now.lookups insn.now world.now world.now frame.old frame.new) }
     ensures safe { IfOk result (IsSafely frame.old frame.new) }
     ensures memo { IsAsking tables.now.lookups memo.old world.now frame.old → Fits tables.now.lookups.program.now insn.now → IsKept tables.now.lookups memo.new }
 {

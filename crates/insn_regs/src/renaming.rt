@@ -1,6 +1,7 @@
 //! Instructions with other registers.
 
-ghost use Rattle.std.specs.Prelude.{◌≡◌, ℕ, map, IfOk, OnOk, OnErr};
+ghost use Rattle.std.specs.Prelude.{◌≡◌, ℕ, map, IfOk, IsTrue, OnOk, OnErr};
+ghost use Rattle.insn_set.specs.Copies.{after_fields, after_objects};
 ghost use Rattle.insn_regs.specs.Remade.{operands_of, remade};
 
 use insn_set::Insn;
@@ -29,38 +30,15 @@ fn renamed_words<R: Renaming>(
     Words::of_slice(alloc, registers.as_slice())
 }
 
-/// Puts the registers that stand for them in place of those that an instruction reads. The register of a cast counts as
-/// read. Where there is no memory, the instruction stays as it was.
-pub fn rename_reads<R: Renaming>(
-    alloc: Global,
-    insn: &mut Insn,
-    renaming: &R,
-) -> Result<(), AllocError>
-    ensures ok { OnOk result (insn.new ≡ remade (R.renamed renaming.now) (λ r. r) insn.old) }
-    ensures err { OnErr result (insn.new ≡ insn.old) }
+/// Puts the registers that stand for them in place of those that a branch or an operation on numbers reads. A goto reads
+/// none.
+fn rename_branch_reads<R: Renaming>(insn: &mut Insn, renaming: &R)
+    requires { IsTrue (after_fields insn.old) }
+    ensures { insn.new ≡ remade (R.renamed renaming.now) (λ r. r) insn.old }
 {
     match insn {
-        Insn::Move { from, .. } => *from = renaming.at(*from),
-        Insn::Return { from, .. } => *from = renaming.at(*from),
-        Insn::InstanceOf { from, .. } => *from = renaming.at(*from),
-        Insn::ArrayLength { from, .. } => *from = renaming.at(*from),
-        Insn::StaticPut { from, .. } => *from = renaming.at(*from),
-        Insn::Unary { from, .. } => *from = renaming.at(*from),
-        Insn::MonitorEnter { on } => *on = renaming.at(*on),
-        Insn::MonitorExit { on } => *on = renaming.at(*on),
-        Insn::CheckCast { on, .. } => *on = renaming.at(*on),
-        Insn::FillArray { on, .. } => *on = renaming.at(*on),
-        Insn::Throw { on } => *on = renaming.at(*on),
         Insn::PackedSwitch { on, .. } => *on = renaming.at(*on),
         Insn::SparseSwitch { on, .. } => *on = renaming.at(*on),
-        Insn::InstanceGet { on, .. } => *on = renaming.at(*on),
-        Insn::NewArray { size, .. } => *size = renaming.at(*size),
-        Insn::FilledNewArray { args, .. } => *args = renamed_words(
-            alloc,
-            args.as_slice(),
-            renaming,
-        )?,
-        Insn::Invoke { args, .. } => *args = renamed_words(alloc, args.as_slice(), renaming)?,
         Insn::Cmp { a, b, .. } => {
             *a = renaming.at(*a);
             *b = renaming.at(*b);
@@ -75,6 +53,20 @@ pub fn rename_reads<R: Renaming>(
         }
         Insn::IfZero { a, .. } => *a = renaming.at(*a),
         Insn::Literal { a, .. } => *a = renaming.at(*a),
+        Insn::Unary { from, .. } => *from = renaming.at(*from),
+        _ => {}
+    }
+}
+
+/// Puts the registers that stand for them in place of those that an operation on an array, or a get or a put of a field,
+/// reads, or a form behind these.
+fn rename_memory_reads<R: Renaming>(insn: &mut Insn, renaming: &R)
+    requires { IsTrue (after_objects insn.old) }
+    ensures { insn.new ≡ remade (R.renamed renaming.now) (λ r. r) insn.old }
+{
+    match insn {
+        Insn::NewArray { size, .. } => *size = renaming.at(*size),
+        Insn::FillArray { on, .. } => *on = renaming.at(*on),
         Insn::ArrayGet { array, index, .. } => {
             *array = renaming.at(*array);
             *index = renaming.at(*index);
@@ -89,11 +81,46 @@ pub fn rename_reads<R: Renaming>(
             *array = renaming.at(*array);
             *index = renaming.at(*index);
         }
+        Insn::InstanceGet { on, .. } => *on = renaming.at(*on),
         Insn::InstancePut { from, on, .. } => {
             *from = renaming.at(*from);
             *on = renaming.at(*on);
         }
-        _ => {}
+        Insn::StaticGet { .. } => {}
+        Insn::StaticPut { from, .. } => *from = renaming.at(*from),
+        _ => rename_branch_reads(insn, renaming),
+    }
+}
+
+/// Puts the registers that stand for them in place of those that an instruction reads. The register of a cast counts as
+/// read. Where there is no memory, the instruction stays as it was.
+pub fn rename_reads<R: Renaming>(
+    alloc: Global,
+    insn: &mut Insn,
+    renaming: &R,
+) -> Result<(), AllocError>
+    ensures ok { OnOk result (insn.new ≡ remade (R.renamed renaming.now) (λ r. r) insn.old) }
+    ensures err { OnErr result (insn.new ≡ insn.old) }
+{
+    match insn {
+        Insn::Nop | Insn::MoveResult { .. } | Insn::MoveException { .. } | Insn::ReturnVoid => {}
+        Insn::Const { .. } | Insn::ConstWide { .. } => {}
+        Insn::ConstString { .. } | Insn::ConstClass { .. } | Insn::NewInstance { .. } => {}
+        Insn::Move { from, .. } => *from = renaming.at(*from),
+        Insn::Return { from, .. } => *from = renaming.at(*from),
+        Insn::InstanceOf { from, .. } => *from = renaming.at(*from),
+        Insn::ArrayLength { from, .. } => *from = renaming.at(*from),
+        Insn::MonitorEnter { on } => *on = renaming.at(*on),
+        Insn::MonitorExit { on } => *on = renaming.at(*on),
+        Insn::CheckCast { on, .. } => *on = renaming.at(*on),
+        Insn::Throw { on } => *on = renaming.at(*on),
+        Insn::FilledNewArray { args, .. } => *args = renamed_words(
+            alloc,
+            args.as_slice(),
+            renaming,
+        )?,
+        Insn::Invoke { args, .. } => *args = renamed_words(alloc, args.as_slice(), renaming)?,
+        _ => rename_memory_reads(insn, renaming),
     }
     Ok(())
 }

@@ -250,7 +250,7 @@ module _ (bytes : List ℕ) (class which place at : ℕ) (f : Frame) (pieces : L
   positions = renamed (length (instructions pieces) * (f.registers + 1)) (rows (Named 0) fifth 0 (length (instructions pieces)) (f.registers + 1) (λ k low less. row k (omega (arith, less)))) (λ way h. h.0) (omega arith)
 
   table : (k n : ℕ) → MayHave its.units pieces k n → Told (IsCell bytes) (WithKey (Named 1) fifth k) n
-  table k n (inl none) = renamed n (nothing {A = WithKey (Named 1) fifth k}) (λ way h. h) (omega (arith, none))
+  table k n (inl none) = renamed n (nothing {In = WithKey (Named 1) fifth k}) (λ way h. h) (omega (arith, none))
   table k n (inr entries) = renamed n
       (lined (WithKey (Named 1) fifth k) sixth (λ i. class ∷ which ∷ place ∷ 1 ∷ k ∷ i ∷ []) 0 n (λ i low few. (limits.OfTable class which place at k n i f pieces its entries (omega (arith, few)), ((refl, refl, refl, refl), refl), refl)))
       (λ way h. h.0) (omega arith)

@@ -286,7 +286,7 @@ module _ (bytes : List ℕ) (class which place at : ℕ) (f : Frame) (pieces : L
   Named way = ItemName 7 class which place way
 
   handlers : (k n : ℕ) → MayKeep bytes at f (places_of its.units pieces) k n → Told (IsItem bytes) (WithKey Named fifth k) n
-  handlers k n (inl e) = renamed n (nothing {A = WithKey Named fifth k}) (λ way h. h) (omega (arith, e))
+  handlers k n (inl e) = renamed n (nothing {In = WithKey Named fifth k}) (λ way h. h) (omega (arith, e))
   handlers k n (inr kept) = renamed n
       (lined (WithKey Named fifth k) sixth (λ i. 7 ∷ class ∷ which ∷ place ∷ kept.has.place ∷ i ∷ []) 0 n
       (λ i low few. (limits.OfHandlers class which place at i f pieces kept.catches its kept.has (let many = kept.many in omega (arith, few, many)), ((refl, refl, refl, refl), kept.at_place), refl)))

@@ -1,1 +1,5 @@
 mod Told
+mod Taking
+mod Names
+mod Plain
+mod Values

@@ -3,3 +3,6 @@ mod Taking
 mod Names
 mod Plain
 mod Values
+mod Sets
+mod Directories
+mod Firsts

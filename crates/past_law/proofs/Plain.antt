@@ -1,5 +1,5 @@
 -- Readings of tables and values none of whose faults is that of a limit.
-use Rattle.std.proofs.Common.{◌≡◌, ℕ, zero, suc, ◌+◌, Bool, List, [], ◌∷◌, take, drop, Some, None, Result, Ok, Err, refl, ◌∙◌}
+use Rattle.std.proofs.Common.{◌≡◌, ℕ, zero, suc, ◌+◌, Bool, true, false, cond, ltb, List, [], ◌∷◌, take, drop, Some, None, Result, Ok, Err, refl, ◌∙◌}
 use Rattle.std.specs.Prelude.{slice_index, Option}
 use Rattle.std.specs.Int.{w32}
 use Rattle.dex_base.specs.Reading.{◌>>=◌, raise, each}
@@ -15,7 +15,7 @@ use Rattle.dex_pools.specs.declared.scalar.TableSizes.{TableSizes}
 use Rattle.dex_pools.specs.Fault.{of_base}
 use Rattle.dex_pools.specs.Items.{count_at}
 use Rattle.dex_pools.specs.Order.{ascends_from, ascends_in}
-use Rattle.dex_pools.specs.Value.{byte_at, few_at, number_index_at, zero_extended, numeric, size_for, naming, scalar_at}
+use Rattle.dex_pools.specs.Value.{byte_at, few_at, number_index_at, zero_extended, numeric, size_for, naming, named_at, scalar_at}
 use Rattle.dex_pools.specs.Word.{index_at, half_index_at}
 use Rattle.dex_read.specs.declared.fault.DexFault.TheVariants as dex
 use Rattle.dex_read.specs.Faults as faults
@@ -61,9 +61,16 @@ pub plain_count : (bytes : List ℕ) (at width : ℕ) → Plain limit_of_pool (c
 unfolding count_at
 plain_count bytes at width = fails_next (plain_base (u32_at bytes at)) (λ count _. unless (pool.Short at) (λ _. refl) (λ _. sound count))
 
+plain_naming : (sizes : TableSizes) (at kind n : ℕ) → Plain limit_of_pool (named_at sizes at kind n)
+plain_naming sizes at kind n = unless (pool.Index at n (size_for sizes kind)) (λ _. refl) (λ _. sound (naming kind n))
+
+plain_or : {Y : Type 0} (b : Bool) (v : Y) (other : Result Y PoolFault) → Plain limit_of_pool other → Plain limit_of_pool (cond b (Ok v) other)
+plain_or true v other h = sound v
+plain_or false v other h = h
+
 pub plain_scalar : (bytes : List ℕ) (sizes : TableSizes) (at kind count : ℕ) → Plain limit_of_pool (scalar_at bytes sizes at kind count)
 unfolding scalar_at
-plain_scalar bytes sizes at kind count = fails_next (plain_few bytes at count) (λ few _. fails_either (λ _. sound (numeric kind few)) (λ _. let n = zero_extended w32 few in unless (pool.Index at n (size_for sizes kind)) (λ _. refl) (λ _. sound (naming kind n))))
+plain_scalar bytes sizes at kind count = fails_next (plain_few bytes at count) (λ few _. plain_or (ltb kind 23) (numeric kind few) (named_at sizes at kind (zero_extended w32 few)) (plain_naming sizes at kind (zero_extended w32 few)))
 
 ascends_on : {X : Type 0} (below : X → X → Bool) (table : Table) (place : ℕ) (before : X) (xs : List X) → Plain limit_of_pool (ascends_from below table (Some before) place xs)
 ascends_on below table place before [] = sound tt

@@ -105,7 +105,7 @@ module _ (bytes : List ℕ) (p : Program) (class : ℕ) (def : Def) (has_def : H
   directory = record { def = def; has = has_def; leads = leads }
 
   module _ (fields methods parameters : ℕ) (counts : DirectoryCounts bytes at fields methods parameters) where
-    stands : (which i base : ℕ) → base ≡ at + 16 + 8 * pairs_before which fields methods → InList fields methods parameters which (pairs_before which fields methods + i) → PairStands bytes class which (base + 8 * i)
+    abbrev stands : (which i base : ℕ) → base ≡ at + 16 + 8 * pairs_before which fields methods → InList fields methods parameters which (pairs_before which fields methods + i) → PairStands bytes class which (base + 8 * i)
     stands which i base first inside = record { directory = at; has = directory; fields = fields; methods = methods; parameters = parameters; counts = counts; i = pairs_before which fields methods + i; inside = inside; place = omega (arith, first) }
 
     -- the set that a pair of a member names, and the list that one of parameters names

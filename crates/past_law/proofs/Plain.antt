@@ -64,13 +64,13 @@ plain_count bytes at width = fails_next (plain_base (u32_at bytes at)) (λ count
 plain_naming : (sizes : TableSizes) (at kind n : ℕ) → Plain limit_of_pool (named_at sizes at kind n)
 plain_naming sizes at kind n = unless (pool.Index at n (size_for sizes kind)) (λ _. refl) (λ _. sound (naming kind n))
 
-plain_or : {Y : Type 0} (b : Bool) (v : Y) (other : Result Y PoolFault) → Plain limit_of_pool other → Plain limit_of_pool (cond b (Ok v) other)
-plain_or true v other h = sound v
-plain_or false v other h = h
+pub plain_or : {Y F : Type 0} (limit : F → Option LimitFault) (b : Bool) (v : Y) (more : Result Y F) → Plain limit more → Plain limit (cond b (Ok v) more)
+plain_or limit true v more h = sound v
+plain_or limit false v more h = h
 
 pub plain_scalar : (bytes : List ℕ) (sizes : TableSizes) (at kind count : ℕ) → Plain limit_of_pool (scalar_at bytes sizes at kind count)
 unfolding scalar_at
-plain_scalar bytes sizes at kind count = fails_next (plain_few bytes at count) (λ few _. plain_or (ltb kind 23) (numeric kind few) (named_at sizes at kind (zero_extended w32 few)) (plain_naming sizes at kind (zero_extended w32 few)))
+plain_scalar bytes sizes at kind count = fails_next (plain_few bytes at count) (λ few _. plain_or limit_of_pool (ltb kind 23) (numeric kind few) (named_at sizes at kind (zero_extended w32 few)) (plain_naming sizes at kind (zero_extended w32 few)))
 
 ascends_on : {X : Type 0} (below : X → X → Bool) (table : Table) (place : ℕ) (before : X) (xs : List X) → Plain limit_of_pool (ascends_from below table (Some before) place xs)
 ascends_on below table place before [] = sound tt

@@ -15,7 +15,7 @@ use Rattle.dex_read.specs.Faults.{of_pool}
 use Rattle.dex_read.specs.Steps.{steps}
 use Rattle.refused_law.proofs.Failing.{Fails}
 use Rattle.past_law.specs.Told.{Told, one_past}
-use Rattle.past_law.proofs.Told.{none, together, wider, fewer}
+use Rattle.past_law.proofs.Told.{none, together, wider, other, fewer}
 
 -- ---- the limit that a fault names
 
@@ -45,7 +45,7 @@ abbrev pub PastBy : Counted → Type 0 → Option LimitFault → Type 0
 PastBy kind More None = Unit {0}
 PastBy kind More (Some limit) = (limit ≡ one_past kind) × More
 
-past_more : (kind : Counted) {More Most : Type 0} (o : Option LimitFault) → (More → Most) → PastBy kind More o → PastBy kind Most o
+pub past_more : (kind : Counted) {More Most : Type 0} (o : Option LimitFault) → (More → Most) → PastBy kind More o → PastBy kind Most o
 past_more kind None to h = tt
 past_more kind (Some limit) to h = (h.0, to h.1)
 
@@ -110,6 +110,10 @@ pub takes_wider : {Y F : Type 0} {limit : F → Option LimitFault} {kind : Count
     → Takes limit kind Is B left behind read
 takes_wider {limit = limit} d to = record { took = λ y h. wider (d.took y h) to; passed = λ e h. past_more _ (limit e) (λ more. wider more to) (d.passed e h) }
 
+pub takes_other : {Y F : Type 0} {limit : F → Option LimitFault} {kind : Counted} {Is Are A : List ℕ → Type 0} {left : ℕ} {behind : Y → ℕ} {read : Result Y F} → Takes limit kind Is A left behind read → ((w : List ℕ) → Is w → Are w)
+    → Takes limit kind Are A left behind read
+takes_other {limit = limit} d to = record { took = λ y h. other (d.took y h) to; passed = λ e h. past_more _ (limit e) (λ more. other more to) (d.passed e h) }
+
 -- ---- by a test
 
 pub takes_unless : {Y F : Type 0} {limit : F → Option LimitFault} {kind : Counted} {Is In : List ℕ → Type 0} {left : ℕ} {behind : Y → ℕ} {b : Bool} {read : Result Y F} (e : F) → limit e ≡ None → (b ≡ true → Takes limit kind Is In left behind read)
@@ -121,6 +125,11 @@ pub takes_either : {Y F : Type 0} {limit : F → Option LimitFault} {kind : Coun
     → (b ≡ false → Takes limit kind Is In left behind more) → Takes limit kind Is In left behind (cond b read more)
 takes_either {b = true} f g = f refl
 takes_either {b = false} f g = g refl
+
+pub takes_or : {Y F : Type 0} {limit : F → Option LimitFault} {kind : Counted} {Is In : List ℕ → Type 0} {left : ℕ} {behind : Y → ℕ} (b : Bool) (y : Y) (more : Result Y F) → left ≤ behind y → Takes limit kind Is In left behind more
+    → Takes limit kind Is In left behind (cond b (Ok y) more)
+takes_or {left = left} {behind = behind} true y more less d = takes_none left behind y less
+takes_or false y more less d = d
 
 -- ---- in the words of the file
 
@@ -156,13 +165,13 @@ pub record OneOf (In : ℕ → List ℕ → Type 0) (from total : ℕ) (w : List
   pub high : place < total
   pub is : In place w
 
-one_first : {In : ℕ → List ℕ → Type 0} (from total : ℕ) → from < total → (w : List ℕ) → In from w → OneOf In from total w
+pub one_first : {In : ℕ → List ℕ → Type 0} (from total : ℕ) → from < total → (w : List ℕ) → In from w → OneOf In from total w
 one_first from total less w h = record { place = from; low = omega arith; high = less; is = h }
 
-one_later : {In : ℕ → List ℕ → Type 0} (from total : ℕ) → (w : List ℕ) → OneOf In (suc from) total w → OneOf In from total w
+pub one_later : {In : ℕ → List ℕ → Type 0} (from total : ℕ) → (w : List ℕ) → OneOf In (suc from) total w → OneOf In from total w
 one_later from total w h = record { place = h.place; low = let low = h.low in omega (arith, low); high = h.high; is = h.is }
 
-one_apart : {In : ℕ → List ℕ → Type 0} → ((i j : ℕ) (w : List ℕ) → In i w → In j w → i ≡ j) → (from total : ℕ) (w : List ℕ) → In from w → OneOf In (suc from) total w → ⊥
+pub one_apart : {In : ℕ → List ℕ → Type 0} → ((i j : ℕ) (w : List ℕ) → In i w → In j w → i ≡ j) → (from total : ℕ) (w : List ℕ) → In from w → OneOf In (suc from) total w → ⊥
 one_apart apart from total w h g = let same = apart from g.place w h g.is in let low = g.low in omega (arith, same, low)
 
 module _ {F : Type 0} {limit : F → Option LimitFault} {kind : Counted} {Is : List ℕ → Type 0} (In : ℕ → List ℕ → Type 0) (apart : (i j : ℕ) (w : List ℕ) → In i w → In j w → i ≡ j) where

@@ -1,8 +1,9 @@
 -- What a value or an annotation takes from the items that are left.
-use Rattle.std.proofs.Common.{◌≡◌, ◌≤◌, ◌<◌, ◌⊎◌, inl, inr, ℕ, zero, suc, ◌+◌, ◌/◌, ◌%◌, true, false, List, [], ◌∷◌, ◌++◌, Result, Ok, Err, refl, sym, ap, subst, ◌∙◌, arith}
+use Rattle.std.proofs.Common.{◌≡◌, ◌≤◌, ◌<◌, ◌⊎◌, inl, inr, ℕ, zero, suc, ◌+◌, ◌/◌, ◌%◌, true, false, cond, List, [], ◌∷◌, ◌++◌, Result, Ok, Err, refl, sym, ap, subst, ◌∙◌, arith}
 use Rattle.std.specs.Prelude.{slice_index, ◌==◌}
 use Rattle.std.proofs.lemmas.Bool.{eqb-true}
 use Rattle.dex_base.specs.Leb.{IsUlebAt}
+use Rattle.dex_base.specs.Reading.{◌>>=◌}
 use Rattle.program_model.specs.declared.limits.Counted.TheVariants.{Items}
 use Rattle.program_model.specs.declared.value.EncValue.{EncValue}
 use Rattle.program_model.specs.declared.value.EncValue.TheVariants as value
@@ -12,7 +13,7 @@ use Rattle.dex_pools.specs.declared.fault.PoolFault.{PoolFault}
 use Rattle.dex_pools.specs.declared.fault.PoolFault.TheVariants as pool
 use Rattle.dex_pools.specs.declared.fault.Table.TheVariants as table
 use Rattle.dex_pools.specs.declared.scalar.TableSizes.{TableSizes}
-use Rattle.dex_pools.specs.Value.{most_argument, is_within, counted, array_in, element_in, element_below, note_in, of_kind, value_in, value_at}
+use Rattle.dex_pools.specs.Value.{most_argument, is_within, counted, array_in, element_in, element_below, note_in, scalar_at, of_kind, value_in, value_at}
 use Rattle.dex_pools.proofs.Fields.{finds_number}
 use Rattle.dex_defs.specs.Limits.{IsItem, ValueBy, NoteBy}
 use Rattle.dex_defs.specs.Limits as limits
@@ -23,7 +24,7 @@ use Rattle.spelled_law.proofs.Values.{founds_value, founds_byte, founds_index, f
 use Rattle.refused_law.proofs.ValueFaults.{ends_of, repeat_more}
 use Rattle.past_law.proofs.Names.{root_of, sort_at, owner_at, sort_of, owner_of, Under, deeper, Part, AreApart, own_apart, parts_apart}
 use Rattle.past_law.proofs.Plain.{plain_base, plain_byte, plain_number_index, plain_scalar, plain_ascending}
-use Rattle.past_law.proofs.Taking.{limit_of_pool, Takes, takes_none, takes_fault, plain_next, takes_next, takes_then, takes_wider, takes_unless, takes_either, takes_spend, OneOf, takes_run}
+use Rattle.past_law.proofs.Taking.{limit_of_pool, Takes, takes_none, takes_fault, plain_next, takes_next, takes_then, takes_wider, takes_unless, takes_either, takes_or, takes_spend, OneOf, takes_run}
 use Rattle.past_law.proofs.Told.{one}
 
 -- what is counted in a value of this name
@@ -123,14 +124,20 @@ module _ (bytes : List ℕ) (sizes : TableSizes) where
     takes_inner_note left e = takes_note k (at + 1) (1 ∷ way) (limits.OfValue way at has tag e) (λ i. 3 ∷ i ∷ way) sort owner note_parts
         (λ place element name t stands is. inner (3 ∷ place ∷ way) t (limits.InNote way at place element name t.0 has tag e stands is)) (InValue way) note_in_value left
 
+    abbrev scalar_read : ℕ → Result (EncValue × (ℕ × ℕ)) PoolFault
+    scalar_read left = scalar_at bytes sizes at (tag_at bytes at) (argument_at bytes at + 1) >>= λ v. Ok (v, (at + 1 + (argument_at bytes at + 1), left))
+
+    abbrev other_read : ℕ → Result (EncValue × (ℕ × ℕ)) PoolFault
+    other_read left = cond (tag_at bytes at == 31) (Ok (value.Bool (argument_at bytes at == 1), (at + 1, left))) (scalar_read left)
+
     takes_kind : (left : ℕ) → Takes limit_of_pool Items (IsItem bytes) (InValue way) left (λ (r : EncValue × (ℕ × ℕ)). r.1.1) (of_kind (value_at k bytes sizes) bytes sizes (at, left) (tag_at bytes at) (argument_at bytes at))
     takes_kind left = takes_either
         (λ a. takes_then (takes_array left (eqb-true (tag_at bytes at) 28 a)) (λ r _. takes_none r.1.1 _ (value.Array r.0, r.1) (omega arith)))
         (λ a. takes_either
         (λ b. takes_then (takes_inner_note left (eqb-true (tag_at bytes at) 29 b)) (λ r _. takes_none r.1.1 _ (value.Annotation r.0, r.1) (omega arith)))
-        (λ b. takes_either (λ c. takes_none left _ (value.Null, (at + 1, left)) (omega arith))
-        (λ c. takes_either (λ d. takes_none left _ (value.Bool (argument_at bytes at == 1), (at + 1, left)) (omega arith))
-        (λ d. plain_next (plain_scalar bytes sizes at (tag_at bytes at) (argument_at bytes at + 1)) (λ v _. takes_none left _ (v, (at + 1 + (argument_at bytes at + 1), left)) (omega arith))))))
+        (λ b. takes_or (tag_at bytes at == 30) (value.Null, (at + 1, left)) (other_read left) (omega arith)
+        (takes_or (tag_at bytes at == 31) (value.Bool (argument_at bytes at == 1), (at + 1, left)) (scalar_read left) (omega arith)
+        (plain_next (plain_scalar bytes sizes at (tag_at bytes at) (argument_at bytes at + 1)) (λ v _. takes_none left _ (v, (at + 1 + (argument_at bytes at + 1), left)) (omega arith))))))
 
   takes_layer : (k : ℕ) → Counting k → (way : List ℕ) (s : ℕ × ℕ) → ValueBy bytes way s.0 → Takes limit_of_pool Items (IsItem bytes) (InValue way) s.1 (λ (r : EncValue × (ℕ × ℕ)). r.1.1) (value_in (value_at k bytes sizes) bytes sizes s)
   unfolding value_in

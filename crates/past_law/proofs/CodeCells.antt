@@ -1,13 +1,11 @@
 -- The cells of a body stand in its code, and also where its tables alone pass the limit.
-use Rattle.std.proofs.Common.{◌≡◌, ◌≤◌, ◌<◌, ◌⊎◌, inl, inr, ℕ, zero, suc, ◌+◌, ◌-◌, ◌*◌, Bool, true, false, cond, ltb, eqb, List, [], ◌∷◌, length, map, drop, Option, Some, Result, Ok, Err, refl, sym, ap, subst, ◌∙◌, arith}
-use Rattle.std.specs.Prelude.{slice_get, slice_index, sum_by, ◌==◌, ◌&&◌}
+use Rattle.std.proofs.Common.{◌≡◌, ◌≤◌, ◌<◌, ◌⊎◌, inl, inr, ℕ, suc, ◌+◌, ◌-◌, ◌*◌, Bool, true, false, cond, ltb, eqb, List, [], ◌∷◌, length, map, drop, Some, Ok, Err, refl, sym, ap, subst, ◌∙◌, arith}
+use Rattle.std.specs.Prelude.{slice_get, slice_index, sum_by, ◌==◌}
 use Rattle.std.specs.List.{AllByRecursion}
 use Rattle.std.proofs.lemmas.Bool.{eqb-true, ltb-true, ltb-false}
 use Rattle.std.proofs.lemmas.List.{drop-drop}
 use Rattle.std.proofs.lemmas.List.Sums.{sum_by-cons}
 use Rattle.lemmas.proofs.Bools.{and_left}
-use Rattle.lemmas.proofs.Lists.{map_long}
-use Rattle.lemmas.proofs.Options.{some_same}
 use Rattle.dex_base.specs.Decides.{Each}
 use Rattle.insn_set.specs.Spelling.{is_width, keys_ascend}
 use Rattle.insn_set.specs.declared.form.Insn.{Insn}
@@ -17,7 +15,7 @@ use Rattle.program_model.specs.declared.limits.Counted.TheVariants.{Cells}
 use Rattle.program_model.specs.declared.limits.LimitFault.{LimitFault}
 use Rattle.code_read.specs.declared.fields.Fields.{Fields}
 use Rattle.code_read.specs.Branches as c
-use Rattle.code_read.specs.Decoded.{opcode_at, fields_at, payload_of, entries_at, check_payloads}
+use Rattle.code_read.specs.Decoded.{fields_at, payload_of, entries_at, check_payloads}
 use Rattle.code_read.specs.Decoded as reading
 use Rattle.code_read.specs.Fault.{passed}
 use Rattle.code_read.specs.Forms.{plain, move_form, const_form, wide_form, object_form, array_form, field_form, operation_form}
@@ -27,7 +25,7 @@ use Rattle.dex_defs.specs.Sweep.{Piece, Places, instructions, starts_of, places_
 use Rattle.dex_defs.specs.Instructions.{opcode, HasFields, double_at, IsPayloadOf, IsInsn, AreInsns}
 use Rattle.dex_defs.specs.Instructions as of
 use Rattle.dex_defs.specs.CodeItems.{Frame}
-use Rattle.dex_defs.specs.CodeFaults.{HasInsn, kind_for}
+use Rattle.dex_defs.specs.CodeFaults.{kind_for}
 use Rattle.dex_defs.specs.Limits.{IsMethodCode, HasEntries, IsCell}
 use Rattle.dex_defs.specs.Limits as limits
 use Rattle.code_laws.specs.Founds.{Founds}
@@ -35,11 +33,11 @@ use Rattle.code_laws.proofs.Founding.{weaker, done, when, either}
 use Rattle.code_laws.proofs.Payloads.{Found, found_payload, at_drop, is_payload}
 use Rattle.code_laws.proofs.Sweeping.{Instructed}
 use Rattle.refused_law.proofs.Failing.{Fails, sound, fails_with, fails_either, fails_next, fails_more}
-use Rattle.refused_code.proofs.Reading.{IsTable, is_table, fails_entries_at, one_of}
+use Rattle.refused_code.proofs.Reading.{IsTable, is_table, fails_entries_at}
 use Rattle.past_law.specs.Told.{Told, one_past}
 use Rattle.past_law.proofs.Told.{none as nothing}
 use Rattle.past_law.proofs.CodeReads.{OnLimit, limit_more}
-use Rattle.past_law.proofs.CodeTold.{WithKey, FromKey, total, renamed, join, piled, rows, lined}
+use Rattle.past_law.proofs.CodeTold.{WithKey, total, renamed, join, piled, rows, lined}
 
 -- ---- instructions without a table
 

@@ -1,15 +1,14 @@
 -- What the code of the methods of a class takes stands in the bytes, and where it passes a limit one thing more does.
-use Rattle.std.proofs.Common.{◌≡◌, ◌≤◌, ◌<◌, ◌⊎◌, inl, inr, ◌^◌, ℕ, zero, suc, ◌+◌, ◌-◌, ◌*◌, cond, eqb, List, [], ◌∷◌, ◌++◌, map, length, Some, Ok, refl, sym, ap, subst, ◌∙◌, arith}
+use Rattle.std.proofs.Common.{◌≡◌, ◌≤◌, ◌<◌, inl, inr, ◌^◌, ℕ, zero, suc, ◌+◌, ◌-◌, ◌*◌, cond, eqb, List, [], ◌∷◌, ◌++◌, map, length, Some, Ok, refl, ap, subst, ◌∙◌, arith}
 use Rattle.std.specs.Prelude.{slice_get, slice_index}
-use Rattle.lemmas.proofs.Lists.{map_long, got_map}
+use Rattle.lemmas.proofs.Lists.{got_map}
 use Rattle.dex_pools.specs.declared.header.Extent.{Extent}
 use Rattle.dex_pools.specs.Spelled.{IsExtent}
 use Rattle.program_model.specs.Limits.{limit_of}
 use Rattle.program_model.specs.declared.limits.Counted.TheVariants.{Cells}
 use Rattle.program_model.specs.declared.limits.LimitFault.{LimitFault}
 use Rattle.program_model.specs.declared.program.Program.{Program}
-use Rattle.dex_defs.specs.ClassData.{Entry, IsClassDataOf}
-use Rattle.dex_defs.specs.Limits.{IsItem, IsCell}
+use Rattle.dex_defs.specs.ClassData.{IsClassDataOf}
 use Rattle.dex_defs.specs.Places.{HasEntry, HasCounts}
 use Rattle.dex_read.specs.declared.class_data.Listed.{Listed}
 use Rattle.dex_read.specs.declared.class_data.Members.{Members}
@@ -34,7 +33,6 @@ use Rattle.refused_law.proofs.Entries.{AtList}
 use Rattle.refused_law.proofs.Failing.{Fails}
 use Rattle.refused_law.proofs.Listing.{read_entry}
 use Rattle.refused_law.proofs.Read.{has_tables, ids_are, class_there}
-use Rattle.past_law.specs.Told.{Told}
 use Rattle.past_law.specs.Code.{OfCode, CellsOf, Took, PassesBudget, OnPast, CodeTakes, PastCode}
 use Rattle.past_law.proofs.Told.{none}
 use Rattle.past_law.proofs.CodeReads.{Reads, gives, then, reads_more, past_more}

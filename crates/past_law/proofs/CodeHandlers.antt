@@ -1,9 +1,9 @@
 -- The handlers of the regions that a body keeps stand in its code, also where they are more than are left.
-use Rattle.std.proofs.Common.{◌≡◌, ◌≤◌, ◌<◌, ◌⊎◌, inl, inr, ℕ, zero, suc, ◌+◌, ◌-◌, ◌*◌, Bool, true, false, cond, ltb, leb, List, [], ◌∷◌, length, take, drop, Option, Some, None, Result, Ok, Err, refl, sym, ap, subst, ◌∙◌, arith}
+use Rattle.std.proofs.Common.{◌≡◌, ◌≤◌, ◌<◌, ◌⊎◌, inl, inr, ℕ, zero, suc, ◌+◌, ◌-◌, ◌*◌, true, false, cond, ltb, leb, List, [], ◌∷◌, length, take, drop, Option, Some, None, Result, Ok, Err, refl, sym, ap, subst, ◌∙◌, arith}
 use Rattle.std.specs.Prelude.{slice_get, slice_index, sum_by}
 use Rattle.std.specs.Int.{w16, w32, from_le_bytes}
 use Rattle.std.specs.Result.{result_ok}
-use Rattle.std.proofs.lemmas.Bool.{leb-true, leb-false}
+use Rattle.std.proofs.lemmas.Bool.{leb-false}
 use Rattle.std.proofs.lemmas.List.{length-drop, drop-drop}
 use Rattle.std.proofs.lemmas.List.Sums.{sum_by-cons}
 use Rattle.dex_base.specs.declared.fault.BaseFault.{BaseFault}
@@ -26,7 +26,7 @@ use Rattle.code_read.specs.Positions.{count_below}
 use Rattle.code_read.specs.Regions.{try_at, try_item, first_of, end_of, lies_right, region, with_handlers, region_of, region_at, keep, regions_from, regions_of}
 use Rattle.code_read.specs.Sweep.{Piece}
 use Rattle.dex_defs.specs.Sweep.{Places, places_of}
-use Rattle.dex_defs.specs.Handlers.{Try, IsTry, Catches, AreCatches, AreCatchesAt, AreHandlers, IsRest, covers, first_position, end_position}
+use Rattle.dex_defs.specs.Handlers.{Try, IsTry, Catches, AreCatches, AreCatchesAt, AreHandlers, IsRest, covers, first_position}
 use Rattle.dex_defs.specs.CodeItems.{Frame, tries_at, lists_at}
 use Rattle.dex_defs.specs.CodeFaults.{HasTries, HasCatches}
 use Rattle.dex_defs.specs.Limits.{IsMethodCode, IsItem, handlers_in}

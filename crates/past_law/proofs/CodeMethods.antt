@@ -1,21 +1,19 @@
 -- What a method takes of items and cells stands in its code, and where it passes a limit one thing more does.
-use Rattle.std.proofs.Common.{◌≡◌, ◌≤◌, ◌<◌, ◌⊎◌, inl, inr, ℕ, zero, suc, ◌+◌, ◌-◌, ◌*◌, ◌^◌, true, false, leb, eqb, List, [], ◌∷◌, length, drop, Option, Some, None, Result, Ok, refl, sym, ap, subst, ◌∙◌, arith}
+use Rattle.std.proofs.Common.{◌≡◌, ◌≤◌, ◌<◌, inl, inr, ℕ, zero, suc, ◌+◌, ◌-◌, ◌*◌, ◌^◌, true, false, leb, eqb, List, [], length, drop, Some, None, refl, sym, subst, ◌∙◌, arith}
 use Rattle.std.specs.Prelude.{slice_index, sum_by}
 use Rattle.std.proofs.lemmas.Bool.{leb-true, leb-false}
 use Rattle.dex_base.specs.declared.fault.BaseFault.{BaseFault}
 use Rattle.dex_base.specs.declared.fault.BaseFault.TheVariants as base
 use Rattle.dex_base.specs.Decides.{Each}
-use Rattle.dex_base.specs.Word.{Is16, u16_at, u32_at}
+use Rattle.dex_base.specs.Word.{Is16}
 use Rattle.dex_pools.proofs.Finding.{finds_each}
 use Rattle.line_tables.specs.Text.{AscendsFrom}
 use Rattle.program_model.specs.Cells.{body_cells}
 use Rattle.program_model.specs.Items.{region_items, body_items}
 use Rattle.program_model.specs.Limits.{limit_of}
 use Rattle.program_model.specs.declared.body.Body.{Body}
-use Rattle.program_model.specs.declared.limits.Counted.{Counted}
 use Rattle.program_model.specs.declared.limits.Counted.TheVariants.{Cells, Items}
 use Rattle.program_model.specs.declared.limits.LimitFault.{LimitFault}
-use Rattle.program_model.specs.declared.program.Method.{Method}
 use Rattle.program_model.specs.declared.program.Program.{Program}
 use Rattle.code_read.specs.declared.fault.CodeFault.{CodeFault}
 use Rattle.code_read.specs.declared.fault.CodeFault.TheVariants as code
@@ -42,7 +40,7 @@ use Rattle.file_laws.specs.ClassData.{entry_of}
 use Rattle.file_laws.proofs.Classes.{founds_frame}
 use Rattle.file_laws.proofs.Words.{finds_half}
 use Rattle.spelled_law.proofs.Starts.{starts_ascend}
-use Rattle.refused_law.proofs.Failing.{Fails, sound, fails_with, unless, fails_lifted, fails_each}
+use Rattle.refused_law.proofs.Failing.{Fails, sound, unless, fails_lifted, fails_each}
 use Rattle.past_law.specs.Told.{Told, one_past}
 use Rattle.past_law.specs.Code.{Took, PassesBudget, OnPast}
 use Rattle.past_law.proofs.Told.{none as nothing}

@@ -25,7 +25,7 @@ pub on_more : (Says More : LimitFault → Type 0) (o : Option LimitFault) → ((
 on_more Says More None to h = tt
 on_more Says More (Some fault) to h = to fault h
 
-on_none : (Says : LimitFault → Type 0) (o : Option LimitFault) → o ≡ None → On Says o
+pub on_none : (Says : LimitFault → Type 0) (o : Option LimitFault) → o ≡ None → On Says o
 on_none Says None h = tt
 on_none Says (Some fault) h = absurd cc
 
@@ -47,6 +47,12 @@ on_of Says (dex.Limit limit) h = h
 pub record Spends {Y : Type 0} (bytes : List ℕ) (In Ce : List ℕ → Type 0) (before : Budget) (behind : Y → Budget) (read : Result Y DexFault) : Type 0 where
   pub took : (y : Y) → read ≡ Ok y → Took bytes In Ce before (behind y)
   pub passed : (e : DexFault) → read ≡ Err e → On (PassesBudget bytes In Ce before) (limit_of_dex e)
+
+-- names of items, and of cells, of two readings
+pub record AreBoth (A B C : List ℕ → Type 0) : Type 0 where
+  pub apart : (w : List ℕ) → A w → B w → ⊥
+  pub first : (w : List ℕ) → A w → C w
+  pub later : (w : List ℕ) → B w → C w
 
 module _ {bytes : List ℕ} where
   pub spends_none : {Y : Type 0} {In Ce : List ℕ → Type 0} (before : Budget) (behind : Y → Budget) (y : Y) → before.items ≤ (behind y).items → (behind y).cells ≤ before.cells → Spends bytes In Ce before behind (Ok y)
@@ -79,12 +85,6 @@ module _ {bytes : List ℕ} where
       by_limit : (o : Option LimitFault) → PastBy Items (Told (IsItem bytes) In (suc before.items)) o → On (PassesBudget bytes In Ce before) o
       by_limit None h = tt
       by_limit (Some fault) h = inl h
-
-  -- names of items, and of cells, of two readings
-  pub record AreBoth (A B C : List ℕ → Type 0) : Type 0 where
-    pub apart : (w : List ℕ) → A w → B w → ⊥
-    pub first : (w : List ℕ) → A w → C w
-    pub later : (w : List ℕ) → B w → C w
 
   passes_first : {A B C D E F : List ℕ → Type 0} (before : Budget) (fault : LimitFault) → AreBoth A B C → AreBoth D E F → PassesBudget bytes A D before fault → PassesBudget bytes C F before fault
   passes_first before fault items cells (inl h) = inl (h.0, wider h.1 items.first)

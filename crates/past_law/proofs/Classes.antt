@@ -31,7 +31,7 @@ use Rattle.refused_law.proofs.Defs.{has_def}
 use Rattle.refused_law.proofs.Failing.{Fails, sound, fails_next, fails_more}
 use Rattle.refused_law.proofs.Read.{has_tables, class_there}
 use Rattle.past_law.specs.Code.{OfCode, CellsOf, PassesBudget}
-use Rattle.past_law.proofs.Budgets.{On, on_of, on_none, Spends, spends_none, plain_spends, AreBoth, spends_next, spends_after, spends_then, spends_either, spends_run}
+use Rattle.past_law.proofs.Budgets.{On, on_of, on_none, on_more, Spends, spends_none, plain_spends, AreBoth, spends_next, spends_after, spends_then, spends_either, spends_run}
 use Rattle.past_law.proofs.CodeClasses.{founds_code, fails_code}
 use Rattle.past_law.proofs.Directories.{InDirectory, takes_marked}
 use Rattle.past_law.proofs.Firsts.{InFirsts, takes_begun}

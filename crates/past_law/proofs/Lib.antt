@@ -6,3 +6,9 @@ mod Values
 mod Sets
 mod Directories
 mod Firsts
+mod Tables
+mod Members
+mod Budgets
+mod CodeClasses
+mod Classes
+mod Whole

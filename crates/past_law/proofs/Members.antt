@@ -24,7 +24,7 @@ module _ (bytes : List ℕ) where
   plain_step : (size before at : ℕ) → Plain limit_of_dex (stepped_at bytes size before at)
   unfolding stepped_at
   plain_step size before at = fails_next (plain_dex_base (uleb_at bytes at)) (λ step _.
-      unless (dex.Pool (pool.Index (min (before + step.0) 4294967295) size)) (λ _. refl) (λ _. sound (before + step.0, step.1)))
+      unless (dex.Pool (pool.Index at (min (before + step.0) 4294967295) size)) (λ _. refl) (λ _. sound (before + step.0, step.1)))
 
   plain_order : (place before number : ℕ) → Plain limit_of_dex (ascends_at place before number)
   unfolding ascends_at

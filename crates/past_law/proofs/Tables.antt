@@ -69,19 +69,19 @@ none_past bytes (Some fault) h = absurd cc
 pub plain_past : {Y F : Type 0} (bytes : List ℕ) {limit : F → Option LimitFault} {read : Result Y F} → Plain limit read → Fails (λ e. IsPastIn bytes (limit e)) read
 plain_past bytes {limit = limit} d = fails_more (λ e h. none_past bytes (limit e) h) d
 
-by_past : (bytes : List ℕ) (kind : Counted) {A : List ℕ → Type 0} (o : Option LimitFault) → PastBy kind (Told (Counts bytes kind) A (limit_of kind + 1)) o → IsPastIn bytes o
-by_past bytes kind None h = tt
-by_past bytes kind (Some fault) h = is_past bytes kind h.1 fault h.0
+by_past : (bytes : List ℕ) (kind : Counted) (A : List ℕ → Type 0) (o : Option LimitFault) → PastBy kind (Told (Counts bytes kind) A (limit_of kind + 1)) o → IsPastIn bytes o
+by_past bytes kind A None h = tt
+by_past bytes kind A (Some fault) h = is_past bytes kind h.1 fault h.0
 
 pub takes_past : {Y F : Type 0} (bytes : List ℕ) (kind : Counted) {limit : F → Option LimitFault} {In : List ℕ → Type 0} {behind : Y → ℕ} {read : Result Y F} → Takes limit kind (Counts bytes kind) In (limit_of kind) behind read
     → Fails (λ e. IsPastIn bytes (limit e)) read
 takes_past bytes kind {limit = limit} {In = In} d = record {
-  fault = λ e h. by_past bytes kind {A = In} (limit e) (past_more kind (limit e) (λ more. fewer (limit_of kind + 1) more (omega arith)) (d.passed e h));
+  fault = λ e h. by_past bytes kind In (limit e) (past_more kind (limit e) (λ more. fewer (limit_of kind + 1) more (omega arith)) (d.passed e h));
 }
 
-pub took_next : {X Y F : Type 0} {Is : Y → Type 0} {read : Result X F} {f : X → Result Y F} → ((x : X) → read ≡ Ok x → Founds Is (f x)) → Founds Is (read >>= f)
-took_next {read = Ok x} g = g x refl
-took_next {read = Err e} g = record { found = λ y h. absurd (not_both e y h) }
+pub took_next : {X Y F : Type 0} {Is : Y → Type 0} (read : Result X F) {f : X → Result Y F} → ((x : X) → read ≡ Ok x → Founds Is (f x)) → Founds Is (read >>= f)
+took_next (Ok x) g = g x refl
+took_next (Err e) g = record { found = λ y h. absurd (not_both e y h) }
 
 -- ---- the header
 
@@ -277,9 +277,9 @@ module _ (bytes : List ℕ) where
   took_pools : Founds (λ (r : Pools × ℕ). TookProtos r) (pools_at bytes 16777216)
   unfolding pools_at
   took_pools =
-      took_next (λ t h. let stand = (finds_extents bytes).found t h in
-      took_next (λ strings _.
-      took_next (λ types _. record { found = λ y g. (takes_rest t stand strings types).took y g })))
+      took_next (extents_at bytes) (λ t h. let stand = (finds_extents bytes).found t h in
+      took_next (strings_at bytes t) (λ strings _.
+      took_next (types_at bytes t strings) (λ types _. record { found = λ y g. (takes_rest t stand strings types).took y g })))
 
   pub fails_head : Fails PastDex (head_at bytes)
   unfolding head_at tables_at
@@ -288,5 +288,5 @@ module _ (bytes : List ℕ) where
 
   pub took_head : Founds (λ (r : Program × ℕ). TookProtos r) (head_at bytes)
   unfolding head_at tables_at
-  took_head = took_next (λ version _. took_next (λ pools h. weaker (Ok (tables_with version pools.0, pools.1)) (done (tables_with version pools.0, pools.1)) (λ y e.
+  took_head = took_next (header_at bytes) (λ version _. took_next (raise of_pool (pools_at bytes 16777216)) (λ pools h. weaker (Ok (tables_with version pools.0, pools.1)) (done (tables_with version pools.0, pools.1)) (λ y e.
       subst (λ (r : Program × ℕ). TookProtos r) (sym e) ((lifted of_pool took_pools).found pools h))))

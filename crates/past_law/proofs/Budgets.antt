@@ -1,17 +1,17 @@
 -- How readings are put together that take from a budget of items and cells.
-use Rattle.std.proofs.Common.{◌≡◌, ◌≤◌, ◌<◌, ◌⊎◌, inl, inr, ℕ, zero, suc, ◌+◌, ◌-◌, Bool, true, false, cond, List, [], ◌∷◌, Option, Some, None, Result, Ok, Err, refl, sym, ap, subst, ◌∙◌, arith}
+use Rattle.std.proofs.Common.{◌≡◌, ◌≤◌, ◌<◌, inl, inr, ℕ, zero, suc, ◌+◌, ◌-◌, Bool, true, false, cond, List, [], ◌∷◌, Option, Some, None, Result, Ok, Err, refl, sym, ap, subst, ◌∙◌, arith}
 use Rattle.dex_base.specs.Reading.{◌>>=◌}
 use Rattle.dex_base.proofs.Decides.{ok_is, err_is, not_both}
 use Rattle.program_model.specs.Limits.{limit_of}
 use Rattle.program_model.specs.declared.limits.Counted.TheVariants.{Cells, Items}
 use Rattle.program_model.specs.declared.limits.LimitFault.{LimitFault}
 use Rattle.dex_pools.specs.Run.{run}
-use Rattle.dex_defs.specs.Limits.{IsCell, IsItem}
+use Rattle.dex_defs.specs.Limits.{IsItem}
 use Rattle.dex_read.specs.declared.fault.DexFault.{DexFault}
 use Rattle.dex_read.specs.declared.fault.DexFault.TheVariants as dex
 use Rattle.dex_read.specs.declared.members.Budget.{Budget}
 use Rattle.past_law.specs.Code.{Took, PassesBudget, OnPast}
-use Rattle.past_law.specs.Told.{Told, one_past}
+use Rattle.past_law.specs.Told.{Told}
 use Rattle.past_law.proofs.Taking.{limit_of_dex, PastBy, Plain, Takes, OneOf, one_first, one_later, one_apart}
 use Rattle.past_law.proofs.Told.{none, together, wider, fewer}
 

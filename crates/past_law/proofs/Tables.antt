@@ -1,12 +1,12 @@
 -- Limits of the header and the tables that are answered are passed, and what the parameters of protos take.
-use Rattle.std.proofs.Common.{◌≡◌, ◌≤◌, ◌<◌, ℕ, zero, suc, ◌+◌, ◌-◌, ◌*◌, Bool, true, false, cond, leb, ltb, eqb, List, [], ◌∷◌, length, drop, map, Some, None, Result, Ok, Err, refl, sym, ap, subst, ◌∙◌, arith}
+use Rattle.std.proofs.Common.{◌≡◌, ◌<◌, ℕ, zero, suc, ◌+◌, ◌-◌, ◌*◌, Bool, true, false, cond, ltb, List, [], ◌∷◌, length, drop, Some, None, Result, Ok, Err, refl, sym, ap, subst, ◌∙◌, arith}
 use Rattle.std.specs.Prelude.{◌==◌, slice_index, nat_eq, Option}
 use Rattle.std.specs.List.{starts_with}
 use Rattle.std.proofs.lemmas.Bool.{leb-false}
 use Rattle.dex_base.specs.Adler.{adler_of}
 use Rattle.dex_base.specs.Descriptor.{descriptor_of}
 use Rattle.dex_base.specs.Mutf8.{text_at}
-use Rattle.dex_base.specs.Reading.{◌>>=◌, raise, each}
+use Rattle.dex_base.specs.Reading.{◌>>=◌, raise}
 use Rattle.dex_base.specs.Word.{Is32, u32_at}
 use Rattle.dex_base.specs.Leb.{uleb_at}
 use Rattle.dex_base.specs.declared.descriptor.Descriptor.{Descriptor}
@@ -18,10 +18,8 @@ use Rattle.program_model.specs.declared.limits.Counted.{Counted}
 use Rattle.program_model.specs.declared.limits.Counted.TheVariants.{Types, Protos, Fields, Methods, TextUnits, Items}
 use Rattle.program_model.specs.declared.limits.LimitFault.{LimitFault}
 use Rattle.program_model.specs.declared.pools.FieldName.{FieldName}
-use Rattle.program_model.specs.declared.pools.MethodName.{MethodName}
 use Rattle.program_model.specs.declared.pools.Proto.{Proto}
 use Rattle.program_model.specs.declared.program.Program.{Program}
-use Rattle.program_model.specs.declared.program.Version.{Version}
 use Rattle.program_model.specs.declared.program.Version.TheVariants.{V035, V037}
 use Rattle.dex_pools.specs.declared.fault.PoolFault.{PoolFault}
 use Rattle.dex_pools.specs.declared.fault.PoolFault.TheVariants as pool
@@ -32,9 +30,8 @@ use Rattle.dex_pools.specs.declared.pools.Pools.{Pools}
 use Rattle.dex_pools.specs.Items.{listed_at, type_list_at}
 use Rattle.dex_pools.specs.Order.{list_below, proto_below, field_below, method_below}
 use Rattle.dex_pools.specs.PoolTables.{strings_at, types_at, protos_at, fields_at, methods_at, pools_at}
-use Rattle.dex_pools.specs.Run.{run}
 use Rattle.dex_pools.specs.Spelled.{AreExtents}
-use Rattle.dex_pools.specs.Tables.{extent_at, extents_at, begin_of, string_at, text_of, placed, described, type_at, letters_of, spells_shorty, parameters_at, proto_at, field_at, method_at}
+use Rattle.dex_pools.specs.Tables.{extent_at, extents_at, begin_of, string_at, text_of, placed, described, type_at, letters_of, parameters_at, proto_at, field_at, method_at}
 use Rattle.dex_pools.proofs.Fields.{finds_word, finds_begin, finds_extents}
 use Rattle.dex_defs.specs.Limits.{IsItem, Counts, IsPast}
 use Rattle.dex_defs.specs.Limits as limits
@@ -52,7 +49,7 @@ use Rattle.refused_law.proofs.Tables.{entry_at}
 use Rattle.past_law.specs.Told.{Told, one_past}
 use Rattle.past_law.proofs.Names.{sort_of}
 use Rattle.past_law.proofs.Plain.{plain_base, plain_index, plain_half_index, plain_count, plain_ascending, plain_each, plain_or, plain_dex_base, plain_need}
-use Rattle.past_law.proofs.Taking.{limit_of_pool, limit_of_dex, same_limit, PastBy, past_more, Plain, Takes, takes_none, plain_next, takes_then, takes_wider, takes_other, takes_unless, takes_either, takes_spend, OneOf, takes_run}
+use Rattle.past_law.proofs.Taking.{limit_of_pool, limit_of_dex, same_limit, PastBy, past_more, Plain, Takes, takes_none, plain_next, takes_then, takes_wider, takes_other, takes_unless, takes_either, takes_spend, takes_run}
 use Rattle.past_law.proofs.Told.{fewer, numbered, one, is_past}
 
 -- ---- faults that name a passed limit

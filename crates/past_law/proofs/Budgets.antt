@@ -54,6 +54,12 @@ pub record AreBoth (A B C : List ℕ → Type 0) : Type 0 where
   pub first : (w : List ℕ) → A w → C w
   pub later : (w : List ℕ) → B w → C w
 
+no_cells : {E : List ℕ → Type 0} → AreBoth (λ w. ⊥) E E
+no_cells = record { apart = λ w a b. a; first = λ w a. absurd a; later = λ w b. b }
+
+nothing_after : {A : List ℕ → Type 0} → AreBoth A (λ w. ⊥) A
+nothing_after = record { apart = λ w a b. b; first = λ w a. a; later = λ w b. absurd b }
+
 module _ {bytes : List ℕ} where
   pub spends_none : {Y : Type 0} {In Ce : List ℕ → Type 0} (before : Budget) (behind : Y → Budget) (y : Y) → before.items ≤ (behind y).items → (behind y).cells ≤ before.cells → Spends bytes In Ce before behind (Ok y)
   spends_none before behind y items cells = record {
@@ -109,16 +115,10 @@ module _ {bytes : List ℕ} where
         (on_more (PassesBudget bytes A D before) (PassesBudget bytes C F before) (limit_of_dex k) (λ fault more. passes_first before fault items cells more) (d.passed k refl));
   }
 
-  no_cells : {E : List ℕ → Type 0} → AreBoth (λ w. ⊥) E E
-  no_cells = record { apart = λ w a b. a; first = λ w a. absurd a; later = λ w b. b }
-
   -- items alone are taken first
   pub spends_after : {X Y : Type 0} {A B C E : List ℕ → Type 0} (before : Budget) (left : X → ℕ) {behind : Y → Budget} {read : Result X DexFault} {f : X → Result Y DexFault} → AreBoth A B C → Takes limit_of_dex Items (IsItem bytes) A before.items left read
       → ((x : X) → read ≡ Ok x → Spends bytes B E (record { items = left x; cells = before.cells }) behind (f x)) → Spends bytes C E before behind (read >>= f)
   spends_after before left both d g = spends_next both no_cells (spends_of before left d) g
-
-  nothing_after : {A : List ℕ → Type 0} → AreBoth A (λ w. ⊥) A
-  nothing_after = record { apart = λ w a b. b; first = λ w a. a; later = λ w b. absurd b }
 
   -- what is read behind takes nothing
   pub spends_then : {X Y : Type 0} {A D : List ℕ → Type 0} {before : Budget} {mid : X → Budget} {behind : Y → Budget} {read : Result X DexFault} {f : X → Result Y DexFault} → Spends bytes A D before mid read

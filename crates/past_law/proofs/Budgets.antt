@@ -1,17 +1,17 @@
 -- How readings are put together that take from a budget of items and cells.
-use Rattle.std.proofs.Common.{◌≡◌, ◌≤◌, ◌<◌, ◌⊎◌, inl, inr, ℕ, zero, suc, ◌+◌, ◌-◌, Bool, true, false, cond, List, [], ◌∷◌, Option, Some, None, Result, Ok, Err, refl, sym, ap, subst, ◌∙◌, arith}
+use Rattle.std.proofs.Common.{◌≡◌, ◌≤◌, ◌<◌, inl, inr, ℕ, zero, suc, ◌+◌, ◌-◌, Bool, true, false, cond, List, [], ◌∷◌, Option, Some, None, Result, Ok, Err, refl, sym, ap, subst, ◌∙◌, arith}
 use Rattle.dex_base.specs.Reading.{◌>>=◌}
 use Rattle.dex_base.proofs.Decides.{ok_is, err_is, not_both}
 use Rattle.program_model.specs.Limits.{limit_of}
 use Rattle.program_model.specs.declared.limits.Counted.TheVariants.{Cells, Items}
 use Rattle.program_model.specs.declared.limits.LimitFault.{LimitFault}
 use Rattle.dex_pools.specs.Run.{run}
-use Rattle.dex_defs.specs.Limits.{IsCell, IsItem}
+use Rattle.dex_defs.specs.Limits.{IsItem}
 use Rattle.dex_read.specs.declared.fault.DexFault.{DexFault}
 use Rattle.dex_read.specs.declared.fault.DexFault.TheVariants as dex
 use Rattle.dex_read.specs.declared.members.Budget.{Budget}
 use Rattle.past_law.specs.Code.{Took, PassesBudget, OnPast}
-use Rattle.past_law.specs.Told.{Told, one_past}
+use Rattle.past_law.specs.Told.{Told}
 use Rattle.past_law.proofs.Taking.{limit_of_dex, PastBy, Plain, Takes, OneOf, one_first, one_later, one_apart}
 use Rattle.past_law.proofs.Told.{none, together, wider, fewer}
 
@@ -25,7 +25,7 @@ pub on_more : (Says More : LimitFault → Type 0) (o : Option LimitFault) → ((
 on_more Says More None to h = tt
 on_more Says More (Some fault) to h = to fault h
 
-on_none : (Says : LimitFault → Type 0) (o : Option LimitFault) → o ≡ None → On Says o
+pub on_none : (Says : LimitFault → Type 0) (o : Option LimitFault) → o ≡ None → On Says o
 on_none Says None h = tt
 on_none Says (Some fault) h = absurd cc
 
@@ -47,6 +47,18 @@ on_of Says (dex.Limit limit) h = h
 pub record Spends {Y : Type 0} (bytes : List ℕ) (In Ce : List ℕ → Type 0) (before : Budget) (behind : Y → Budget) (read : Result Y DexFault) : Type 0 where
   pub took : (y : Y) → read ≡ Ok y → Took bytes In Ce before (behind y)
   pub passed : (e : DexFault) → read ≡ Err e → On (PassesBudget bytes In Ce before) (limit_of_dex e)
+
+-- names of items, and of cells, of two readings
+pub record AreBoth (A B C : List ℕ → Type 0) : Type 0 where
+  pub apart : (w : List ℕ) → A w → B w → ⊥
+  pub first : (w : List ℕ) → A w → C w
+  pub later : (w : List ℕ) → B w → C w
+
+no_cells : {E : List ℕ → Type 0} → AreBoth (λ w. ⊥) E E
+no_cells = record { apart = λ w a b. a; first = λ w a. absurd a; later = λ w b. b }
+
+nothing_after : {A : List ℕ → Type 0} → AreBoth A (λ w. ⊥) A
+nothing_after = record { apart = λ w a b. b; first = λ w a. a; later = λ w b. absurd b }
 
 module _ {bytes : List ℕ} where
   pub spends_none : {Y : Type 0} {In Ce : List ℕ → Type 0} (before : Budget) (behind : Y → Budget) (y : Y) → before.items ≤ (behind y).items → (behind y).cells ≤ before.cells → Spends bytes In Ce before behind (Ok y)
@@ -80,12 +92,6 @@ module _ {bytes : List ℕ} where
       by_limit None h = tt
       by_limit (Some fault) h = inl h
 
-  -- names of items, and of cells, of two readings
-  pub record AreBoth (A B C : List ℕ → Type 0) : Type 0 where
-    pub apart : (w : List ℕ) → A w → B w → ⊥
-    pub first : (w : List ℕ) → A w → C w
-    pub later : (w : List ℕ) → B w → C w
-
   passes_first : {A B C D E F : List ℕ → Type 0} (before : Budget) (fault : LimitFault) → AreBoth A B C → AreBoth D E F → PassesBudget bytes A D before fault → PassesBudget bytes C F before fault
   passes_first before fault items cells (inl h) = inl (h.0, wider h.1 items.first)
   passes_first before fault items cells (inr h) = inr (h.0, wider h.1 cells.first)
@@ -109,16 +115,10 @@ module _ {bytes : List ℕ} where
         (on_more (PassesBudget bytes A D before) (PassesBudget bytes C F before) (limit_of_dex k) (λ fault more. passes_first before fault items cells more) (d.passed k refl));
   }
 
-  no_cells : {E : List ℕ → Type 0} → AreBoth (λ w. ⊥) E E
-  no_cells = record { apart = λ w a b. a; first = λ w a. absurd a; later = λ w b. b }
-
   -- items alone are taken first
   pub spends_after : {X Y : Type 0} {A B C E : List ℕ → Type 0} (before : Budget) (left : X → ℕ) {behind : Y → Budget} {read : Result X DexFault} {f : X → Result Y DexFault} → AreBoth A B C → Takes limit_of_dex Items (IsItem bytes) A before.items left read
       → ((x : X) → read ≡ Ok x → Spends bytes B E (record { items = left x; cells = before.cells }) behind (f x)) → Spends bytes C E before behind (read >>= f)
   spends_after before left both d g = spends_next both no_cells (spends_of before left d) g
-
-  nothing_after : {A : List ℕ → Type 0} → AreBoth A (λ w. ⊥) A
-  nothing_after = record { apart = λ w a b. b; first = λ w a. a; later = λ w b. absurd b }
 
   -- what is read behind takes nothing
   pub spends_then : {X Y : Type 0} {A D : List ℕ → Type 0} {before : Budget} {mid : X → Budget} {behind : Y → Budget} {read : Result X DexFault} {f : X → Result Y DexFault} → Spends bytes A D before mid read

@@ -1,5 +1,5 @@
 -- What a class takes from a budget.
-use Rattle.std.proofs.Common.{◌≡◌, ◌≤◌, ◌<◌, ◌⊎◌, inl, inr, ℕ, zero, suc, ◌+◌, ◌-◌, ◌*◌, Bool, true, false, cond, ltb, eqb, List, [], ◌∷◌, ◌++◌, map, length, Result, Ok, refl, sym, ap, subst, ◌∙◌, arith}
+use Rattle.std.proofs.Common.{◌≡◌, ◌≤◌, ◌<◌, inl, inr, ℕ, zero, suc, ◌+◌, ◌-◌, ◌*◌, Bool, true, false, cond, ltb, eqb, List, [], ◌∷◌, ◌++◌, map, length, Result, Ok, refl, sym, ap, ◌∙◌, arith}
 use Rattle.std.specs.Prelude.{slice_index}
 use Rattle.std.proofs.lemmas.Bool.{ltb-true}
 use Rattle.lemmas.proofs.Bools.{untrue}
@@ -23,7 +23,7 @@ use Rattle.dex_read.specs.Classes.{def_at, field_with, interfaces_at, methods_of
 use Rattle.dex_read.specs.Classes as classes
 use Rattle.dex_read.specs.File.{head_at, class_in, table_at, classes_at}
 use Rattle.dex_read.specs.Tables.{sizes_in}
-use Rattle.file_laws.specs.Class.{def_of, IsReadDef}
+use Rattle.file_laws.specs.Class.{def_of}
 use Rattle.file_laws.proofs.Classes.{founds_def}
 use Rattle.file_laws.proofs.Words.{finds_word, finds_need}
 use Rattle.read_laws.proofs.Bounds.{AreBytes}
@@ -31,7 +31,7 @@ use Rattle.refused_law.proofs.Defs.{has_def}
 use Rattle.refused_law.proofs.Failing.{Fails, sound, fails_next, fails_more}
 use Rattle.refused_law.proofs.Read.{has_tables, class_there}
 use Rattle.past_law.specs.Code.{OfCode, CellsOf, PassesBudget}
-use Rattle.past_law.proofs.Budgets.{On, on_of, on_none, Spends, spends_none, plain_spends, AreBoth, spends_next, spends_after, spends_then, spends_either, spends_run}
+use Rattle.past_law.proofs.Budgets.{On, on_of, on_none, on_more, Spends, spends_none, plain_spends, AreBoth, spends_next, spends_after, spends_either, spends_run}
 use Rattle.past_law.proofs.CodeClasses.{founds_code, fails_code}
 use Rattle.past_law.proofs.Directories.{InDirectory, takes_marked}
 use Rattle.past_law.proofs.Firsts.{InFirsts, takes_begun}

@@ -1,5 +1,5 @@
 -- What a directory of annotations takes from the items that are left.
-use Rattle.std.proofs.Common.{◌≡◌, ◌≤◌, ◌<◌, ◌⊎◌, inl, inr, ℕ, zero, suc, ◌+◌, ◌*◌, eqb, false, List, [], ◌∷◌, ◌++◌, length, Option, Some, None, Result, Ok, refl, sym, ap, subst, ◌∙◌, arith}
+use Rattle.std.proofs.Common.{◌≡◌, ◌≤◌, ◌<◌, ◌⊎◌, inl, inr, ℕ, zero, suc, ◌+◌, ◌*◌, eqb, false, List, [], ◌∷◌, ◌++◌, length, Option, Some, None, Result, Ok, refl, sym, ap, ◌∙◌, arith}
 use Rattle.std.specs.Prelude.{slice_index}
 use Rattle.dex_base.specs.Reading.{◌>>=◌}
 use Rattle.dex_base.specs.Word.{Is32, u32_at}
@@ -21,13 +21,12 @@ use Rattle.dex_read.specs.declared.fault.DexFault.{DexFault}
 use Rattle.dex_read.specs.declared.fault.DexFault.TheVariants as dex
 use Rattle.dex_read.specs.ClassData.{ascends_at, place_in}
 use Rattle.dex_read.specs.Classes.{marked_at}
-use Rattle.dex_read.specs.Directory.{Marked, set_at, sets_at, pair_at, found_at, named_at, with_marks, with_own_marks, with_parameter_marks, mark_field, mark_method, mark_parameters, marked, directory_at}
-use Rattle.dex_read.specs.Header.{need_at}
+use Rattle.dex_read.specs.Directory.{Marked, set_at, pair_at, found_at, named_at, with_marks, with_own_marks, with_parameter_marks, mark_field, mark_method, mark_parameters, marked, directory_at}
 use Rattle.dex_read.specs.Steps.{change_at, steps}
 use Rattle.dex_read.specs.Tables.{sizes_in}
 use Rattle.file_laws.proofs.Words.{finds_word}
 use Rattle.spelled_law.proofs.Directories.{founds_named}
-use Rattle.refused_law.proofs.Failing.{Fails, sound, fails_with, unless, fails_next}
+use Rattle.refused_law.proofs.Failing.{sound, fails_with, unless, fails_next}
 use Rattle.past_law.proofs.Names.{sort_of, owner_of, class_in}
 use Rattle.past_law.proofs.Plain.{plain_dex_base, plain_need}
 use Rattle.past_law.proofs.Sets.{InSet, InRefs, takes_set, takes_sets}

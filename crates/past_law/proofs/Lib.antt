@@ -6,3 +6,16 @@ mod Values
 mod Sets
 mod Directories
 mod Firsts
+mod Tables
+mod Members
+mod Budgets
+mod CodeTold
+mod CodeReads
+mod CodeCells
+mod CodeHandlers
+mod CodeLines
+mod CodeBodies
+mod CodeMethods
+mod CodeClasses
+mod Classes
+mod Whole

@@ -1,5 +1,5 @@
 -- Readings of class_defs and class data none of whose faults is that of a limit.
-use Rattle.std.proofs.Common.{◌≡◌, ℕ, zero, suc, ◌+◌, Bool, true, false, cond, eqb, List, [], ◌∷◌, min, None, Ok, Err, refl}
+use Rattle.std.proofs.Common.{ℕ, suc, ◌+◌, Bool, true, false, cond, eqb, List, [], ◌∷◌, min, Err, refl}
 use Rattle.dex_base.specs.Leb.{uleb_at}
 use Rattle.dex_base.specs.Word.{u32_at}
 use Rattle.program_model.specs.declared.program.Class.{Class}
@@ -14,7 +14,7 @@ use Rattle.dex_read.specs.ClassData.{stepped_at, ascends_at, field_entry_at, met
 use Rattle.dex_read.specs.Classes.{index_at, def_at, root_at, no_members, listed_at}
 use Rattle.dex_read.specs.Standing.{each_stands}
 use Rattle.dex_read.specs.Tables.{sizes_in}
-use Rattle.refused_law.proofs.Failing.{Fails, sound, fails_with, unless, fails_next, fails_run}
+use Rattle.refused_law.proofs.Failing.{sound, fails_with, unless, fails_next, fails_run}
 use Rattle.past_law.proofs.Plain.{plain_or, plain_dex_base}
 use Rattle.past_law.proofs.Taking.{limit_of_dex, Plain}
 
@@ -24,7 +24,7 @@ module _ (bytes : List ℕ) where
   plain_step : (size before at : ℕ) → Plain limit_of_dex (stepped_at bytes size before at)
   unfolding stepped_at
   plain_step size before at = fails_next (plain_dex_base (uleb_at bytes at)) (λ step _.
-      unless (dex.Pool (pool.Index (min (before + step.0) 4294967295) size)) (λ _. refl) (λ _. sound (before + step.0, step.1)))
+      unless (dex.Pool (pool.Index at (min (before + step.0) 4294967295) size)) (λ _. refl) (λ _. sound (before + step.0, step.1)))
 
   plain_order : (place before number : ℕ) → Plain limit_of_dex (ascends_at place before number)
   unfolding ascends_at

@@ -2,7 +2,7 @@
 use Rattle.std.proofs.Common.{◌≡◌, ℕ, zero, suc, ◌+◌, Bool, true, false, cond, ltb, List, [], ◌∷◌, take, drop, Some, None, Result, Ok, Err, refl, ◌∙◌}
 use Rattle.std.specs.Prelude.{slice_index, Option}
 use Rattle.std.specs.Int.{w32}
-use Rattle.dex_base.specs.Reading.{◌>>=◌, raise, each}
+use Rattle.dex_base.specs.Reading.{raise, each}
 use Rattle.dex_base.specs.Leb.{uleb_at}
 use Rattle.dex_base.specs.Word.{u16_at, u32_at}
 use Rattle.dex_base.specs.declared.fault.BaseFault.{BaseFault}
@@ -20,7 +20,7 @@ use Rattle.dex_pools.specs.Word.{index_at, half_index_at}
 use Rattle.dex_read.specs.declared.fault.DexFault.TheVariants as dex
 use Rattle.dex_read.specs.Faults as faults
 use Rattle.dex_read.specs.Header.{need_at}
-use Rattle.refused_law.proofs.Failing.{Fails, sound, fails_with, unless, fails_either, fails_next, fails_lifted, fails_more}
+use Rattle.refused_law.proofs.Failing.{sound, fails_with, unless, fails_next, fails_lifted, fails_more}
 use Rattle.past_law.proofs.Taking.{limit_of_pool, limit_of_dex, same_limit, Plain}
 
 -- ---- in the words of tables

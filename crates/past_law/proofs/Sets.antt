@@ -1,5 +1,5 @@
 -- What a set of annotations, or a list of such sets, takes from the items that are left.
-use Rattle.std.proofs.Common.{◌≡◌, ◌≤◌, ◌<◌, ◌⊎◌, inl, inr, ℕ, zero, suc, ◌+◌, ◌*◌, eqb, false, List, [], ◌∷◌, Ok, refl, sym, ap, ◌∙◌, arith}
+use Rattle.std.proofs.Common.{◌≡◌, ◌<◌, ◌⊎◌, inl, inr, ℕ, zero, suc, ◌+◌, ◌*◌, eqb, false, List, [], ◌∷◌, refl, sym, ap, ◌∙◌, arith}
 use Rattle.std.specs.Prelude.{slice_index, ◌==◌}
 use Rattle.dex_base.specs.Word.{Is32, u32_at}
 use Rattle.program_model.specs.declared.limits.Counted.TheVariants.{Items}
@@ -14,12 +14,11 @@ use Rattle.dex_defs.specs.Limits.{IsItem, SetBy, RefsBy}
 use Rattle.dex_defs.specs.Limits as limits
 use Rattle.dex_defs.specs.Places.{ListedAt}
 use Rattle.dex_read.specs.Directory.{set_at, sets_at}
-use Rattle.dex_read.specs.Faults.{of_pool}
 use Rattle.dex_read.specs.Tables.{sizes_in}
 use Rattle.spelled_law.proofs.Values.{founds_count}
 use Rattle.past_law.proofs.Names.{sort_of, owner_of, Under, deeper, Part, AreApart, own_apart, parts_apart}
 use Rattle.past_law.proofs.Plain.{plain_base, plain_byte, plain_count, plain_ascending}
-use Rattle.past_law.proofs.Taking.{limit_of_pool, limit_of_dex, Takes, takes_none, plain_next, takes_next, takes_then, takes_wider, takes_either, takes_raised, takes_spend, OneOf, takes_run}
+use Rattle.past_law.proofs.Taking.{limit_of_pool, limit_of_dex, Takes, takes_none, plain_next, takes_next, takes_then, takes_wider, takes_either, takes_raised, takes_spend, takes_run}
 use Rattle.past_law.proofs.Told.{one}
 use Rattle.past_law.proofs.Values.{takes_note, takes_value}
 

@@ -1,12 +1,12 @@
 -- Limits of the header and the tables that are answered are passed, and what the parameters of protos take.
-use Rattle.std.proofs.Common.{◌≡◌, ◌≤◌, ◌<◌, ℕ, zero, suc, ◌+◌, ◌-◌, ◌*◌, Bool, true, false, cond, leb, ltb, eqb, List, [], ◌∷◌, length, drop, map, Some, None, Result, Ok, Err, refl, sym, ap, subst, ◌∙◌, arith}
+use Rattle.std.proofs.Common.{◌≡◌, ◌<◌, ℕ, zero, suc, ◌+◌, ◌-◌, ◌*◌, Bool, true, false, cond, ltb, List, [], ◌∷◌, length, drop, Some, None, Result, Ok, Err, refl, sym, ap, subst, ◌∙◌, arith}
 use Rattle.std.specs.Prelude.{◌==◌, slice_index, nat_eq, Option}
 use Rattle.std.specs.List.{starts_with}
 use Rattle.std.proofs.lemmas.Bool.{leb-false}
 use Rattle.dex_base.specs.Adler.{adler_of}
 use Rattle.dex_base.specs.Descriptor.{descriptor_of}
 use Rattle.dex_base.specs.Mutf8.{text_at}
-use Rattle.dex_base.specs.Reading.{◌>>=◌, raise, each}
+use Rattle.dex_base.specs.Reading.{◌>>=◌, raise}
 use Rattle.dex_base.specs.Word.{Is32, u32_at}
 use Rattle.dex_base.specs.Leb.{uleb_at}
 use Rattle.dex_base.specs.declared.descriptor.Descriptor.{Descriptor}
@@ -18,10 +18,8 @@ use Rattle.program_model.specs.declared.limits.Counted.{Counted}
 use Rattle.program_model.specs.declared.limits.Counted.TheVariants.{Types, Protos, Fields, Methods, TextUnits, Items}
 use Rattle.program_model.specs.declared.limits.LimitFault.{LimitFault}
 use Rattle.program_model.specs.declared.pools.FieldName.{FieldName}
-use Rattle.program_model.specs.declared.pools.MethodName.{MethodName}
 use Rattle.program_model.specs.declared.pools.Proto.{Proto}
 use Rattle.program_model.specs.declared.program.Program.{Program}
-use Rattle.program_model.specs.declared.program.Version.{Version}
 use Rattle.program_model.specs.declared.program.Version.TheVariants.{V035, V037}
 use Rattle.dex_pools.specs.declared.fault.PoolFault.{PoolFault}
 use Rattle.dex_pools.specs.declared.fault.PoolFault.TheVariants as pool
@@ -32,9 +30,8 @@ use Rattle.dex_pools.specs.declared.pools.Pools.{Pools}
 use Rattle.dex_pools.specs.Items.{listed_at, type_list_at}
 use Rattle.dex_pools.specs.Order.{list_below, proto_below, field_below, method_below}
 use Rattle.dex_pools.specs.PoolTables.{strings_at, types_at, protos_at, fields_at, methods_at, pools_at}
-use Rattle.dex_pools.specs.Run.{run}
 use Rattle.dex_pools.specs.Spelled.{AreExtents}
-use Rattle.dex_pools.specs.Tables.{extent_at, extents_at, begin_of, string_at, text_of, placed, described, type_at, letters_of, spells_shorty, parameters_at, proto_at, field_at, method_at}
+use Rattle.dex_pools.specs.Tables.{extent_at, extents_at, begin_of, string_at, text_of, placed, described, type_at, letters_of, parameters_at, proto_at, field_at, method_at}
 use Rattle.dex_pools.proofs.Fields.{finds_word, finds_begin, finds_extents}
 use Rattle.dex_defs.specs.Limits.{IsItem, Counts, IsPast}
 use Rattle.dex_defs.specs.Limits as limits
@@ -52,7 +49,7 @@ use Rattle.refused_law.proofs.Tables.{entry_at}
 use Rattle.past_law.specs.Told.{Told, one_past}
 use Rattle.past_law.proofs.Names.{sort_of}
 use Rattle.past_law.proofs.Plain.{plain_base, plain_index, plain_half_index, plain_count, plain_ascending, plain_each, plain_or, plain_dex_base, plain_need}
-use Rattle.past_law.proofs.Taking.{limit_of_pool, limit_of_dex, same_limit, PastBy, past_more, Plain, Takes, takes_none, plain_next, takes_then, takes_wider, takes_other, takes_unless, takes_either, takes_spend, OneOf, takes_run}
+use Rattle.past_law.proofs.Taking.{limit_of_pool, limit_of_dex, same_limit, PastBy, past_more, Plain, Takes, takes_none, plain_next, takes_then, takes_wider, takes_other, takes_unless, takes_either, takes_spend, takes_run}
 use Rattle.past_law.proofs.Told.{fewer, numbered, one, is_past}
 
 -- ---- faults that name a passed limit
@@ -69,19 +66,19 @@ none_past bytes (Some fault) h = absurd cc
 pub plain_past : {Y F : Type 0} (bytes : List ℕ) {limit : F → Option LimitFault} {read : Result Y F} → Plain limit read → Fails (λ e. IsPastIn bytes (limit e)) read
 plain_past bytes {limit = limit} d = fails_more (λ e h. none_past bytes (limit e) h) d
 
-by_past : (bytes : List ℕ) (kind : Counted) {A : List ℕ → Type 0} (o : Option LimitFault) → PastBy kind (Told (Counts bytes kind) A (limit_of kind + 1)) o → IsPastIn bytes o
-by_past bytes kind None h = tt
-by_past bytes kind (Some fault) h = is_past bytes kind h.1 fault h.0
+by_past : (bytes : List ℕ) (kind : Counted) (A : List ℕ → Type 0) (o : Option LimitFault) → PastBy kind (Told (Counts bytes kind) A (limit_of kind + 1)) o → IsPastIn bytes o
+by_past bytes kind A None h = tt
+by_past bytes kind A (Some fault) h = is_past bytes kind h.1 fault h.0
 
 pub takes_past : {Y F : Type 0} (bytes : List ℕ) (kind : Counted) {limit : F → Option LimitFault} {In : List ℕ → Type 0} {behind : Y → ℕ} {read : Result Y F} → Takes limit kind (Counts bytes kind) In (limit_of kind) behind read
     → Fails (λ e. IsPastIn bytes (limit e)) read
 takes_past bytes kind {limit = limit} {In = In} d = record {
-  fault = λ e h. by_past bytes kind {A = In} (limit e) (past_more kind (limit e) (λ more. fewer (limit_of kind + 1) more (omega arith)) (d.passed e h));
+  fault = λ e h. by_past bytes kind In (limit e) (past_more kind (limit e) (λ more. fewer (limit_of kind + 1) more (omega arith)) (d.passed e h));
 }
 
-pub took_next : {X Y F : Type 0} {Is : Y → Type 0} {read : Result X F} {f : X → Result Y F} → ((x : X) → read ≡ Ok x → Founds Is (f x)) → Founds Is (read >>= f)
-took_next {read = Ok x} g = g x refl
-took_next {read = Err e} g = record { found = λ y h. absurd (not_both e y h) }
+pub took_next : {X Y F : Type 0} {Is : Y → Type 0} (read : Result X F) {f : X → Result Y F} → ((x : X) → read ≡ Ok x → Founds Is (f x)) → Founds Is (read >>= f)
+took_next (Ok x) g = g x refl
+took_next (Err e) g = record { found = λ y h. absurd (not_both e y h) }
 
 -- ---- the header
 
@@ -277,9 +274,9 @@ module _ (bytes : List ℕ) where
   took_pools : Founds (λ (r : Pools × ℕ). TookProtos r) (pools_at bytes 16777216)
   unfolding pools_at
   took_pools =
-      took_next (λ t h. let stand = (finds_extents bytes).found t h in
-      took_next (λ strings _.
-      took_next (λ types _. record { found = λ y g. (takes_rest t stand strings types).took y g })))
+      took_next (extents_at bytes) (λ t h. let stand = (finds_extents bytes).found t h in
+      took_next (strings_at bytes t) (λ strings _.
+      took_next (types_at bytes t strings) (λ types _. record { found = λ y g. (takes_rest t stand strings types).took y g })))
 
   pub fails_head : Fails PastDex (head_at bytes)
   unfolding head_at tables_at
@@ -288,5 +285,5 @@ module _ (bytes : List ℕ) where
 
   pub took_head : Founds (λ (r : Program × ℕ). TookProtos r) (head_at bytes)
   unfolding head_at tables_at
-  took_head = took_next (λ version _. took_next (λ pools h. weaker (Ok (tables_with version pools.0, pools.1)) (done (tables_with version pools.0, pools.1)) (λ y e.
+  took_head = took_next (header_at bytes) (λ version _. took_next (raise of_pool (pools_at bytes 16777216)) (λ pools h. weaker (Ok (tables_with version pools.0, pools.1)) (done (tables_with version pools.0, pools.1)) (λ y e.
       subst (λ (r : Program × ℕ). TookProtos r) (sym e) ((lifted of_pool took_pools).found pools h))))

@@ -1,5 +1,5 @@
 -- What a value or an annotation takes from the items that are left.
-use Rattle.std.proofs.Common.{◌≡◌, ◌≤◌, ◌<◌, ◌⊎◌, inl, inr, ℕ, zero, suc, ◌+◌, ◌/◌, ◌%◌, true, false, cond, List, [], ◌∷◌, ◌++◌, Result, Ok, Err, refl, sym, ap, subst, ◌∙◌, arith}
+use Rattle.std.proofs.Common.{◌≡◌, ◌<◌, inl, inr, ℕ, zero, suc, ◌+◌, ◌/◌, ◌%◌, true, cond, List, [], ◌∷◌, Result, Ok, refl, sym, ap, subst, arith}
 use Rattle.std.specs.Prelude.{slice_index, ◌==◌}
 use Rattle.std.proofs.lemmas.Bool.{eqb-true}
 use Rattle.dex_base.specs.Leb.{IsUlebAt}
@@ -19,12 +19,12 @@ use Rattle.dex_defs.specs.Limits.{IsItem, ValueBy, NoteBy}
 use Rattle.dex_defs.specs.Limits as limits
 use Rattle.dex_defs.specs.Places.{ElementEnds, NoteBegins, Repeat, ElementStands, IsItemOf}
 use Rattle.dex_defs.specs.Places as places
-use Rattle.dex_defs.specs.Values.{HasTag, tag_at, argument_at, IsElement, IsValue}
+use Rattle.dex_defs.specs.Values.{HasTag, tag_at, argument_at, IsValue}
 use Rattle.spelled_law.proofs.Values.{founds_value, founds_byte, founds_index, founds_counted, founds_element}
 use Rattle.refused_law.proofs.ValueFaults.{ends_of, repeat_more}
 use Rattle.past_law.proofs.Names.{root_of, sort_at, owner_at, sort_of, owner_of, Under, deeper, Part, AreApart, own_apart, parts_apart}
 use Rattle.past_law.proofs.Plain.{plain_base, plain_byte, plain_number_index, plain_scalar, plain_ascending}
-use Rattle.past_law.proofs.Taking.{limit_of_pool, Takes, takes_none, takes_fault, plain_next, takes_next, takes_then, takes_wider, takes_unless, takes_either, takes_or, takes_spend, OneOf, takes_run}
+use Rattle.past_law.proofs.Taking.{limit_of_pool, Takes, takes_none, takes_fault, plain_next, takes_next, takes_then, takes_wider, takes_unless, takes_either, takes_or, takes_spend, takes_run}
 use Rattle.past_law.proofs.Told.{one}
 
 -- what is counted in a value of this name

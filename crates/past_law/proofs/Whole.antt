@@ -1,5 +1,5 @@
 -- A limit for which a file is refused is passed.
-use Rattle.std.proofs.Common.{◌≡◌, ◌≤◌, ◌<◌, ◌⊎◌, inl, inr, ℕ, zero, suc, ◌+◌, ◌-◌, List, [], ◌∷◌, Option, Some, None, Ok, refl, sym, ◌∙◌, arith}
+use Rattle.std.proofs.Common.{◌≡◌, ◌≤◌, inl, inr, ℕ, suc, ◌+◌, ◌-◌, List, Option, Some, None, Ok, arith}
 use Rattle.program_model.specs.Limits.{limit_of}
 use Rattle.program_model.specs.InterfaceRules.{stands_free}
 use Rattle.program_model.specs.declared.limits.Counted.TheVariants.{Cells, Items}
@@ -12,7 +12,6 @@ use Rattle.dex_read.specs.File.{head_at, classes_at, program_at}
 use Rattle.dex_read.specs.Standing.{standing_at}
 use Rattle.read_laws.proofs.Bounds.{AreBytes}
 use Rattle.refused_law.proofs.Failing.{Fails, sound, fails_next, fails_more}
-use Rattle.past_law.specs.Code.{CellsOf}
 use Rattle.past_law.specs.Told.{Told}
 use Rattle.past_law.proofs.Budgets.{On}
 use Rattle.past_law.proofs.Classes.{InClass, ClassesPass, fails_classes}

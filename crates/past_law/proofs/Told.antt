@@ -1,7 +1,8 @@
 -- Lists of different things, put together.
-use Rattle.std.proofs.Common.{◌≡◌, ◌≤◌, ◌<◌, ◌⊎◌, inl, inr, ℕ, zero, suc, ◌+◌, List, [], ◌∷◌, ◌++◌, length, refl, sym, ap, subst, ◌∙◌, arith}
-use Rattle.std.specs.Prelude.{slice_index_or, Contains}
+use Rattle.std.proofs.Common.{◌≡◌, ◌≤◌, ◌<◌, ◌⊎◌, inl, inr, ℕ, zero, suc, ◌+◌, List, [], ◌∷◌, ◌++◌, length, refl, sym, ap, subst, arith}
+use Rattle.std.specs.Prelude.{Contains}
 use Rattle.std.specs.List.{All, AllByRecursion}
+use Rattle.std.proofs.lemmas.List.{length-append}
 use Rattle.program_model.specs.Limits.{limit_of}
 use Rattle.program_model.specs.declared.limits.Counted.{Counted}
 use Rattle.program_model.specs.declared.limits.LimitFault.{LimitFault}
@@ -55,10 +56,6 @@ differ_both (x ∷ xs) ys h g apart = (
   differ_both xs ys h.1 g (λ z c d. apart z (is_later x xs z c) d),
 )
 
-both_long : (xs ys : List (List ℕ)) → length (xs ++ ys) ≡ length xs + length ys
-both_long [] ys = omega arith
-both_long (x ∷ xs) ys = let more = both_long xs ys in omega (arith, more)
-
 -- ---- lists of different things
 
 pub none : {Is In : List ℕ → Type 0} → Told Is In 0
@@ -71,7 +68,7 @@ together {A = A} {B = B} {C = C} {n = n} {m = m} a b apart left right = record {
   differ = differ_both a.things b.things a.differ b.differ (λ w c d. apart w (one_of_all A a.things w a.within c) (one_of_all B b.things w b.within d));
   are = all_both _ a.things b.things a.are b.are;
   within = all_both C a.things b.things (all_more A C a.things left a.within) (all_more B C b.things right b.within);
-  many = let long = both_long a.things b.things in let x = a.many in let y = b.many in omega (arith, long, x, y);
+  many = let long = length-append a.things b.things in let x = a.many in let y = b.many in omega (arith, long, x, y);
 }
 
 pub wider : {Is A B : List ℕ → Type 0} {n : ℕ} → Told Is A n → ((w : List ℕ) → A w → B w) → Told Is B n

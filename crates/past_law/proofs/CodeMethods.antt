@@ -1,5 +1,5 @@
 -- What a method takes of items and cells stands in its code, and where it passes a limit one thing more does.
-use Rattle.std.proofs.Common.{◌≡◌, ◌≤◌, ◌<◌, inl, inr, ℕ, zero, suc, ◌+◌, ◌-◌, ◌*◌, ◌^◌, true, false, leb, eqb, List, [], length, drop, Some, None, refl, sym, subst, ◌∙◌, arith}
+use Rattle.std.proofs.Common.{◌≡◌, ◌≤◌, ◌<◌, inl, inr, ℕ, zero, suc, ◌+◌, ◌-◌, ◌*◌, ◌^◌, false, leb, eqb, List, [], length, drop, Some, None, refl, sym, subst, ◌∙◌, arith}
 use Rattle.std.specs.Prelude.{slice_index, sum_by}
 use Rattle.std.proofs.lemmas.Bool.{leb-true, leb-false}
 use Rattle.dex_base.specs.declared.fault.BaseFault.{BaseFault}

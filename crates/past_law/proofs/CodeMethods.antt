@@ -1,5 +1,5 @@
 -- What a method takes of items and cells stands in its code, and where it passes a limit one thing more does.
-use Rattle.std.proofs.Common.{◌≡◌, ◌≤◌, ◌<◌, inl, inr, ℕ, zero, suc, ◌+◌, ◌-◌, ◌*◌, ◌^◌, true, false, leb, eqb, List, [], length, drop, Some, None, refl, sym, subst, ◌∙◌, arith}
+use Rattle.std.proofs.Common.{◌≡◌, ◌≤◌, ◌<◌, inl, inr, ℕ, zero, suc, ◌+◌, ◌-◌, ◌*◌, ◌^◌, false, leb, eqb, List, [], length, drop, Some, None, refl, sym, subst, ◌∙◌, arith}
 use Rattle.std.specs.Prelude.{slice_index, sum_by}
 use Rattle.std.proofs.lemmas.Bool.{leb-true, leb-false}
 use Rattle.dex_base.specs.declared.fault.BaseFault.{BaseFault}
@@ -20,7 +20,7 @@ use Rattle.code_read.specs.declared.fault.CodeFault.TheVariants as code
 use Rattle.code_read.specs.Code.{code_of}
 use Rattle.code_read.specs.Sweep.{Piece}
 use Rattle.dex_defs.specs.Sweep.{IsSwept, instructions, starts_of, places_of}
-use Rattle.dex_defs.specs.CodeItems.{Frame, tries_at}
+use Rattle.dex_defs.specs.CodeItems.{Frame}
 use Rattle.dex_defs.specs.CodeFaults.{HasUnits}
 use Rattle.dex_defs.specs.Places.{HasEntry}
 use Rattle.dex_defs.specs.Limits.{IsMethodCode, IsItem, IsCell}

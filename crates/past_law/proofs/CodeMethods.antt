@@ -20,7 +20,7 @@ use Rattle.code_read.specs.declared.fault.CodeFault.TheVariants as code
 use Rattle.code_read.specs.Code.{code_of}
 use Rattle.code_read.specs.Sweep.{Piece}
 use Rattle.dex_defs.specs.Sweep.{IsSwept, instructions, starts_of, places_of}
-use Rattle.dex_defs.specs.CodeItems.{Frame, tries_at}
+use Rattle.dex_defs.specs.CodeItems.{Frame}
 use Rattle.dex_defs.specs.CodeFaults.{HasUnits}
 use Rattle.dex_defs.specs.Places.{HasEntry}
 use Rattle.dex_defs.specs.Limits.{IsMethodCode, IsItem, IsCell}

@@ -25,8 +25,8 @@ use Rattle.pass_defs.specs.Registers.{Kinds, kind_at, all_below, kinds_below, st
 use Rattle.pass_defs.specs.Typed.{argument_kinds, begun, after, edges, catches, wrong_return, ends_early, is_wrong, Table, state_at, each, at_state, arrives, IsTyping}
 use Rattle.pass_defs.specs.Walks.{form_at, is_covered, region_at, handlers_of, handlers_at, onward, caught, successors, Walk, Stays, Goes, IsReached, IsReadAt, Here, Onward, Caught, IsRead}
 use Rattle.stuck_law.proofs.Here.{into_left, into_map}
-use Rattle.form_law.proofs.Asked.{item_width}
-use Rattle.form_law.proofs.Typings.{each_at, tested, allowed_at, right_at}
+use Rattle.form_laws.proofs.Asked.{item_width}
+use Rattle.form_laws.proofs.Typings.{each_at, tested, allowed_at, right_at}
 use Rattle.inline_law.specs.Accepted.{Suits}
 use Rattle.callee_law.specs.Takes.{Takes, CatchesNone}
 use Rattle.callee_law.proofs.Written.{Lacks, after_lacks}

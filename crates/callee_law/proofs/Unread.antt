@@ -27,9 +27,9 @@ use Rattle.pass_defs.specs.Kinds.{Kind, Undefined, Zero, Word, Low, High, FreshT
 use Rattle.pass_defs.specs.Registers.{Kinds, kind_at}
 use Rattle.pass_defs.specs.Demands.{Demand, Moved, Number, Pair, Behind, Initialised, Either, Fits, Receiver, Holder, Constructed, AnArray, ArrayOf, Filled, is_moved, is_array_where, item_eq, has_width, holds_field, is_constructed, meets, wide_or, number_or_pair, of_type, slot_demand, put_item, tested, second_tested, is_equality, is_constructor_name, found_class, receiver_demands, passed_wide, passed, call_demands, demands, place_allowed, is_allowed}
 use Rattle.pass_defs.specs.Typed.{is_static_call, words_of, passed_words, wrong_item, wrong_return, ends_early, wrong_field, wrong_method, wrong_super, is_wrong}
-use Rattle.form_law.specs.Kinds.{is_whole}
-use Rattle.form_law.proofs.Asked.{item_width}
-use Rattle.form_law.proofs.Asking.{fits_whole, holder_whole, field_whole, constructed_whole}
+use Rattle.form_laws.specs.Kinds.{is_whole}
+use Rattle.form_laws.proofs.Asked.{item_width}
+use Rattle.form_laws.proofs.Asking.{fits_whole, holder_whole, field_whole, constructed_whole}
 use Rattle.callee_law.proofs.Written.{Lacks}
 
 -- a demand that looks at the register's kind

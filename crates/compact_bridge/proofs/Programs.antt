@@ -22,10 +22,10 @@ use Rattle.silence_law.specs.Bodies.{Change}
 use Rattle.bodies_law.specs.Others.{Pairwise, OtherBodies}
 use Rattle.bodies_law.specs.Numbered.{OtherNumberedMethod, OtherNumberedClass, OtherNumberedBodies}
 use Rattle.bodies_law.proofs.Named.{others_named}
-use Rattle.place_law.specs.Solid.{HasRoom}
-use Rattle.place_law.proofs.WellFormed.{well_formed_solid}
-use Rattle.pack_law.specs.Renamed.{IsRenamed, AllRenamed}
-use Rattle.pack_law.proofs.Renaming.{renamed_shown}
+use Rattle.form_laws.specs.Solid.{HasRoom}
+use Rattle.form_laws.proofs.WellFormed.{well_formed_solid}
+use Rattle.form_laws.specs.Renamed.{IsRenamed, AllRenamed}
+use Rattle.form_laws.proofs.Renaming.{renamed_shown}
 use Rattle.compact.specs.Renamed.{HasRegisters, AreEach, RewritesBody, IsCompactedMethod, IsCompactedClass, IsCompactedProgram}
 use Rattle.change_bridge.specs.Changing.{change_to}
 use Rattle.change_bridge.proofs.Changing.{keeps_code, is_changed, related}

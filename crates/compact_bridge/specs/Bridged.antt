@@ -10,7 +10,7 @@ use Rattle.walk_marks.specs.Walks.{is_on}
 use Rattle.compact.specs.Renamed.{IsCompacted, HasRegisters}
 use Rattle.compact.specs.Packed as numbered
 use Rattle.pass_defs.specs.Packed as named
-use Rattle.pack_law.specs.Renamed.{IsRenamed}
+use Rattle.form_laws.specs.Renamed.{IsRenamed}
 
 abbrev pub RenamedByNumber : Type 0
 RenamedByNumber = (p : Program) (b d : Body) → HasRegisters b → IsCompacted (widths_of p) b d → (new : ℕ → ℕ) × IsRenamed (body_of p b) (body_of p d) new

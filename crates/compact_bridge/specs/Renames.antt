@@ -2,8 +2,8 @@
 use Rattle.std.specs.Prelude.{◌≡◌, ◌⊎◌, ℕ, Some, None}
 use Rattle.program_model.specs.declared.program.Program.{Program}
 use Rattle.insn_regs.specs.Wides.{widths_of}
-use Rattle.place_law.specs.Solid.{HasRoom}
-use Rattle.pack_law.specs.Renamed.{IsRenamed}
+use Rattle.form_laws.specs.Solid.{HasRoom}
+use Rattle.form_laws.specs.Renamed.{IsRenamed}
 use Rattle.bodies_law.specs.Others.{Codes}
 use Rattle.bodies_law.specs.Numbered.{NumberedCodes}
 use Rattle.compact.specs.Renamed.{IsCompacted}

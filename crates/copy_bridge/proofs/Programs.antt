@@ -23,11 +23,11 @@ use Rattle.silence_law.specs.Bodies.{Change}
 use Rattle.bodies_law.specs.Others.{Pairwise, OtherBodies}
 use Rattle.bodies_law.specs.Numbered.{OtherNumberedMethod, OtherNumberedClass, OtherNumberedBodies}
 use Rattle.bodies_law.proofs.Named.{others_named}
-use Rattle.place_law.proofs.WellFormed.{well_formed_solid}
-use Rattle.copy_law.specs.Copied.{AllReadOriginals, ReadsOriginals}
-use Rattle.copy_law.specs.Reread.{AreReread, StandsThere}
-use Rattle.copy_law.proofs.Copying.{copied_shown}
-use Rattle.copy_law.proofs.Rereading.{reread_reads}
+use Rattle.form_laws.proofs.WellFormed.{well_formed_solid}
+use Rattle.form_laws.specs.Copied.{AllReadOriginals, ReadsOriginals}
+use Rattle.form_laws.specs.Reread.{AreReread, StandsThere}
+use Rattle.form_laws.proofs.Copying.{copied_shown}
+use Rattle.form_laws.proofs.Rereading.{reread_reads}
 use Rattle.copy_prop.specs.Propagated.{AreEach, RewritesBody, IsPropagatedMethod, IsPropagatedClass, IsPropagatedProgram}
 use Rattle.operand_bridge.proofs.Same.{same_form}
 use Rattle.change_bridge.specs.Changing.{change_to}

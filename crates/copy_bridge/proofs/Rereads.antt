@@ -19,7 +19,7 @@ use Rattle.copy_prop.specs.Stale.{IsStaleBy}
 use Rattle.insn_set.specs.declared.ops.Slot.{Slot}
 use Rattle.copy_prop.specs.Rereading.{IsReread}
 use Rattle.copy_prop.specs.Rereading as pass
-use Rattle.copy_law.specs.Reread as law
+use Rattle.form_laws.specs.Reread as law
 use Rattle.operand_bridge.proofs.Remaking.{remade_by_number, remade_alike}
 use Rattle.copy_bridge.proofs.Forms.{IsOf, insn_for, form_for, no_form, no_insn}
 use Rattle.copy_bridge.proofs.Stands.{stands_by_name, stale_by_number}

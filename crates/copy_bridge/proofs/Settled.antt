@@ -11,8 +11,8 @@ use Rattle.dalvik_defs.specs.Naming.{form_of, body_of, named_method, named_class
 use Rattle.insn_regs.specs.Wides.{widths_of}
 use Rattle.walk_marks.specs.Walks.{is_on}
 use Rattle.walk_bridge.proofs.Formed.{same_reads, same_writes}
-use Rattle.place_law.specs.Solid as solid
-use Rattle.place_law.proofs.WellFormed.{well_formed_solid}
+use Rattle.form_laws.specs.Solid as solid
+use Rattle.form_laws.proofs.WellFormed.{well_formed_solid}
 use Rattle.copy_prop.specs.Propagated.{AreEach, RewritesBody, IsPropagated, IsPropagatedMethod, IsPropagatedClass, IsPropagatedProgram}
 use Rattle.copy_bridge.specs.Bridged.{HasRoom, AllFresh}
 use Rattle.copy_bridge.proofs.Forms.{form_for}

@@ -13,7 +13,7 @@ use Rattle.body_graph.specs.Walks.{insn_at}
 use Rattle.copy_prop.specs.Propagated.{IsPropagated, HasPairs}
 use Rattle.copy_prop.specs.Stale as numbered
 use Rattle.pass_defs.specs.Stale as named
-use Rattle.copy_law.specs.Reread.{AreReread}
+use Rattle.form_laws.specs.Reread.{AreReread}
 
 abbrev pub ReadsByNumber : Type 0
 ReadsByNumber = (p : Program) (b d : Body) → IsPropagated (widths_of p) b d → AreReread (body_of p b) (body_of p d)

@@ -5,7 +5,7 @@ use Rattle.insn_regs.specs.Wides.{widths_of}
 use Rattle.bodies_law.specs.Others.{Codes}
 use Rattle.bodies_law.specs.Numbered.{NumberedCodes}
 use Rattle.copy_prop.specs.Propagated.{IsPropagated}
-use Rattle.copy_law.specs.Reread.{AreReread}
+use Rattle.form_laws.specs.Reread.{AreReread}
 
 -- by number: a propagated body, or the same code
 abbrev pub Propagates : Program → NumberedCodes

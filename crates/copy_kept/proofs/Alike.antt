@@ -22,15 +22,15 @@ use Rattle.dalvik_defs.specs.declared.forms.Form.TheVariants as form
 use Rattle.pass_defs.specs.Kinds as name
 use Rattle.pass_defs.specs.Registers as by_name
 use Rattle.pass_defs.specs.Typed.{state_at}
-use Rattle.pack_law.proofs.Widths.{narrow_kind}
+use Rattle.form_laws.proofs.Widths.{narrow_kind}
 use Rattle.stuck_bridge.proofs.Listed.{some_same, none_same}
 use Rattle.insn_regs.specs.Wides.{is_wide_type}
 use Rattle.operand_bridge.proofs.Widths.{wide_same}
 use Rattle.compact.specs.Narrow.{has_narrow_classes}
 use Rattle.compact.specs.Renamed.{HasRegisters}
 use Rattle.copy_prop.specs.Stale.{IsCopy}
-use Rattle.copy_law.specs.Reread.{Copied, StandsThere}
-use Rattle.copy_law.specs.TypedCopies.{HasKind}
+use Rattle.form_laws.specs.Reread.{Copied, StandsThere}
+use Rattle.form_laws.specs.TypedCopies.{HasKind}
 use Rattle.copy_bridge.proofs.Forms.{IsOf, insn_for, move_of, spoilt_from}
 use Rattle.verify.specs.declared.kinds.Kind.{Kind}
 use Rattle.verify.specs.declared.kinds.Kind.TheVariants.{WideLow, WideHigh}

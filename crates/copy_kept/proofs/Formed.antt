@@ -29,7 +29,7 @@ use Rattle.copy_prop.specs.Stale.{units}
 use Rattle.copy_prop.specs.Stale.{IsStaleBy}
 use Rattle.copy_prop.specs.Rereading.{IsReread}
 use Rattle.copy_prop.specs.Rereading as pass
-use Rattle.copy_law.specs.Reread.{Copied, substituted}
+use Rattle.form_laws.specs.Reread.{Copied, substituted}
 use Rattle.copy_prop.specs.Propagated.{IsPropagated, IsPropagatedMethod, IsPropagatedClass, IsPropagatedProgram}
 use Rattle.copy_prop.specs.Propagated as propagated
 use Rattle.place_rules.specs.Rewritten.{IsRewritten, RewritesBody, RewrittenMethod, Untouched, Rewritten, RewrittenClass}

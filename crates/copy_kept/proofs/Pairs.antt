@@ -10,13 +10,13 @@ use Rattle.insn_set.specs.declared.form.Insn.{Insn}
 use Rattle.insn_set.specs.declared.form.Insn.TheVariants as insn
 use Rattle.program_model.specs.OperandRules.{registers_fit}
 use Rattle.program_model.specs.declared.body.Body.{Body}
-use Rattle.form_law.proofs.Demanded.{and_behind}
-use Rattle.place_law.proofs.Operands.{reads_below, writes_below}
+use Rattle.form_laws.proofs.Demanded.{and_behind}
+use Rattle.form_laws.proofs.Operands.{reads_below, writes_below}
 use Rattle.insn_regs.specs.Remade.{remade}
 use Rattle.insn_regs.specs.Wides.{first_if, wides_read}
 use Rattle.compact.specs.Renamed.{HasRegisters}
 use Rattle.copy_prop.specs.Stale.{IsStaleBy}
-use Rattle.copy_law.specs.Reread.{Copied, substituted}
+use Rattle.form_laws.specs.Reread.{Copied, substituted}
 use Rattle.copy_kept.proofs.Registers.{wide_operands, fits}
 
 pub clash : {A : Type 0} (b : Bool) → b ≡ true → b ≡ false → A

@@ -25,9 +25,9 @@ use Rattle.dalvik_defs.specs.declared.program.NamedClass.{NamedClass}
 use Rattle.pass_defs.specs.Typed.{IsTyped}
 use Rattle.pass_defs.specs.Walks.{form_at}
 use Rattle.silence_law.specs.Bodies.{Change}
-use Rattle.form_law.specs.Kinds.{HasNarrowClass}
-use Rattle.place_law.specs.Solid.{HasRoom}
-use Rattle.place_law.proofs.WellFormed.{well_formed_solid}
+use Rattle.form_laws.specs.Kinds.{HasNarrowClass}
+use Rattle.form_laws.specs.Solid.{HasRoom}
+use Rattle.form_laws.proofs.WellFormed.{well_formed_solid}
 use Rattle.stuck_law.specs.Regular.{IsRegular}
 use Rattle.stuck_bridge.proofs.Formed.{regular_program}
 use Rattle.stuck_bridge.proofs.Listed.{Image, image, some_same, none_same}
@@ -39,9 +39,9 @@ use Rattle.compact_bridge.proofs.Programs.{registers_of}
 use Rattle.change_bridge.specs.Changing.{change_to}
 use Rattle.change_bridge.proofs.Changing.{keeps_code, is_changed, related}
 use Rattle.change_bridge.proofs.Unique.{unique_named}
-use Rattle.copy_law.specs.Reread.{AreReread}
-use Rattle.copy_law.specs.TypedCopies.{IsTypedReread, AllTypedReread}
-use Rattle.copy_law.proofs.TypedRereading.{reread_typed}
+use Rattle.form_laws.specs.Reread.{AreReread}
+use Rattle.form_laws.specs.TypedCopies.{IsTypedReread, AllTypedReread}
+use Rattle.form_laws.proofs.TypedRereading.{reread_typed}
 use Rattle.copy_prop.specs.Propagated.{IsPropagatedProgram}
 use Rattle.copy_bridge.specs.Rereads.{Rereads}
 use Rattle.copy_bridge.proofs.Forms.{IsOf, insn_for}

@@ -49,7 +49,7 @@ use Rattle.invariant_law.proofs.Growing.{grows_same, grows_with, grows_put, kind
 use Rattle.invariant_law.proofs.Fine.{each_get}
 use Rattle.stuck_law.proofs.Climbs.{none_some, some_one}
 use Rattle.stuck_law.proofs.ArrayForms.{kind_new}
-use Rattle.form_law.specs.Changes.{operands}
+use Rattle.form_laws.specs.Changes.{operands}
 
 -- ---- registers that are written
 

@@ -27,7 +27,7 @@ use Rattle.dalvik_defs.specs.declared.program.NamedClass.{NamedClass}
 use Rattle.dalvik_defs.specs.declared.program.NamedProgram.{NamedProgram}
 use Rattle.dalvik_defs.specs.declared.tables.Floats.{Floats}
 use Rattle.dalvik_defs.specs.declared.tables.Framework.{Framework}
-use Rattle.form_law.specs.Changes.{operands}
+use Rattle.form_laws.specs.Changes.{operands}
 use Rattle.pass_defs.specs.Analysis.{Analysis}
 use Rattle.pass_defs.specs.Facts.{Facts}
 use Rattle.pass_defs.specs.Kinds.{Kind, kind_eq, is_number, is_initialised, is_plain, is_below, is_program_interface, is_null, fits, fits_holder, fits_array}

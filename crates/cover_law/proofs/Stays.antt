@@ -45,7 +45,7 @@ use Rattle.stuck_law.proofs.ArrayForms.{kind_new, untrue2}
 use Rattle.stuck_law.proofs.Here.{setting}
 use Rattle.stuck_law.proofs.Here as typed
 use Rattle.stuck_law.proofs.Forms.{or_left}
-use Rattle.form_law.specs.Changes.{operands}
+use Rattle.form_laws.specs.Changes.{operands}
 use Rattle.cover_law.proofs.Ready.{IsReady}
 use Rattle.cover_law.specs.Known.{KnownFrame, KnownWorld, RangedThing, ranged_states, live_states}
 use Rattle.cover_law.proofs.Along.{Along, Looks, IsTold, act_along, sees_put, sees_wide}

@@ -57,7 +57,7 @@ use Rattle.stuck_law.proofs.Forms.{or_left, or_right, typed_value}
 use Rattle.stuck_law.proofs.FieldForms.{holds_instance, puts_instance, or_value, stored_value}
 use Rattle.stuck_law.proofs.Here.{get_contains}
 use Rattle.stuck_law.proofs.Worlds.{at_typed, zero_value}
-use Rattle.form_law.specs.Changes.{operands}
+use Rattle.form_laws.specs.Changes.{operands}
 use Rattle.cover_law.specs.Coverable.{IsFormed, has_values}
 use Rattle.cover_law.specs.Sound.{IsWord}
 use Rattle.cover_law.proofs.Ready.{IsReady}

@@ -32,8 +32,8 @@ use Rattle.bodies_law.proofs.Typed.{others_typed}
 use Rattle.formed_law.proofs.Formed.{recoded_formed}
 use Rattle.frame_laws.specs.Alike.{gets_void}
 use Rattle.kind_law.proofs.Transitive.{transitive}
-use Rattle.place_law.specs.Solid.{IsSolid}
-use Rattle.place_law.proofs.WellFormed.{well_formed_solid}
+use Rattle.form_laws.specs.Solid.{IsSolid}
+use Rattle.form_laws.proofs.WellFormed.{well_formed_solid}
 use Rattle.removal_law.proofs.CallsLeft.{body_in}
 use Rattle.removal_law.proofs.Lists.{contained}
 use Rattle.thin_law.specs.Cleaning.{IsCleaning, IsSound}

@@ -32,7 +32,7 @@ use Rattle.domains.specs.Values.{Parts, value_holds, least_value}
 use Rattle.value_ops.specs.Left.{is_nothing}
 use Rattle.value_ops.specs.Numbers.{binary_value, compared_value, literal_value, unary_value}
 use Rattle.pass_defs.specs.Analysis.{Analysis, Holds, on_number, on_sort}
-use Rattle.form_law.specs.Changes.{Sets, changed}
+use Rattle.form_laws.specs.Changes.{Sets, changed}
 use Rattle.stuck_law.proofs.Forms.{sort_divides, sort_throws, divides_op, literal_divides}
 use Rattle.run_facts.specs.ValueAnalysis.{datum_of, value_analysis}
 use Rattle.cover_law.specs.Sound.{IsSoundOn, IsSmall, IsWord, IsWide, NumberOf}

@@ -30,8 +30,8 @@ use Rattle.facts.specs.Lent.{frame_at}
 use Rattle.facts.specs.declared.facts.Facts.{Facts}
 use Rattle.pass_defs.specs.Facts as by_name
 use Rattle.pass_defs.specs.Pure.{is_quiet_field}
-use Rattle.form_law.specs.Changes.{In, here}
-use Rattle.fold_law.specs.Known.{Known}
+use Rattle.form_laws.specs.Changes.{In, here}
+use Rattle.form_laws.specs.Known.{Known}
 use Rattle.invariant_law.specs.Holds.{Each}
 use Rattle.run_facts.specs.ValueAnalysis.{value_analysis}
 use Rattle.cover_law.specs.Coverable.{IsCoverable}

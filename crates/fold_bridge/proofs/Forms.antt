@@ -50,8 +50,8 @@ use Rattle.run_facts.specs.Closed.{Results}
 use Rattle.pass_defs.specs.Facts as by_name
 use Rattle.pass_defs.specs.Pure.{is_quiet_field}
 use Rattle.pass_defs.specs.Walks.{form_at}
-use Rattle.form_law.specs.Changes.{In, here, there, Sets, Jumps, changed, destination, width, width_if, Possible}
-use Rattle.fold_law.specs.Known.{Known, Becomes, Same, Folds}
+use Rattle.form_laws.specs.Changes.{In, here, there, Sets, Jumps, changed, destination, width, width_if, Possible}
+use Rattle.form_laws.specs.Known.{Known, Becomes, Same, Folds}
 use Rattle.invariant_law.specs.Holds.{Each, Holds as HoldsBy}
 use Rattle.run_facts.specs.Covered.{CoversTop, CoversWorld, TakesFrom}
 use Rattle.run_facts.specs.ValueAnalysis.{value_analysis}

@@ -37,13 +37,13 @@ use Rattle.bodies_law.specs.Numbered.{OtherNumberedBodies}
 use Rattle.bodies_law.proofs.Faces.{others_face}
 use Rattle.bodies_law.proofs.Found.{others_found}
 use Rattle.bodies_law.proofs.Named.{others_named}
-use Rattle.place_law.specs.Solid.{IsSolid, AllSolid}
-use Rattle.place_law.proofs.Bodies.{replaced}
-use Rattle.place_law.proofs.WellFormed.{well_formed_solid}
+use Rattle.form_laws.specs.Solid.{IsSolid, AllSolid}
+use Rattle.form_laws.proofs.Bodies.{replaced}
+use Rattle.form_laws.proofs.WellFormed.{well_formed_solid}
 use Rattle.walk_bridge.proofs.Formed.{form_there}
-use Rattle.fold_law.specs.Known.{Becomes, IsFolded, IsFoldedRun, SameRun}
-use Rattle.fold_law.specs.Known as law
-use Rattle.fold_law.proofs.FoldedRuns.{folded_run}
+use Rattle.form_laws.specs.Known.{Becomes, IsFolded, IsFoldedRun, SameRun}
+use Rattle.form_laws.specs.Known as law
+use Rattle.form_laws.proofs.FoldedRuns.{folded_run}
 use Rattle.invariant_law.specs.Holds.{Each}
 use Rattle.run_facts.specs.ValueAnalysis.{value_analysis}
 use Rattle.cover_law.specs.Coverable.{IsCoverable}

@@ -46,7 +46,7 @@ use Rattle.pass_defs.specs.Facts.{Facts, own_key}
 use Rattle.pass_defs.specs.Demands.{meets}
 use Rattle.pass_defs.specs.Pure.{is_quiet_field}
 use Rattle.pass_defs.specs.Typed.{wrong_item, wrong_field, wrong_first, differ}
-use Rattle.form_law.specs.Changes.{Sets, changed, destination}
+use Rattle.form_laws.specs.Changes.{Sets, changed, destination}
 use Rattle.run_facts.specs.Covered.{CoversTop, CoversWorld}
 use Rattle.run_facts.specs.ValueAnalysis.{datum_of, value_analysis}
 use Rattle.stuck_law.specs.TypedStates.{TypedFrame, TypedWorld}

@@ -22,7 +22,7 @@ use Rattle.value_law.specs.Operators.{operators}
 use Rattle.value_law.proofs.Sound.{value_sound}
 use Rattle.thin_bridge.proofs.Rooted.{rooted}
 use Rattle.dead_bridge.proofs.Quieting.{pure_named}
-use Rattle.fold_law.specs.Known.{SameRun}
+use Rattle.form_laws.specs.Known.{SameRun}
 use Rattle.const_prop.specs.Folds.{IsFoldedBy}
 use Rattle.fold_bridge.specs.Folds.{AreNamed}
 use Rattle.fold_bridge.proofs.Planned.{rewritten_others}

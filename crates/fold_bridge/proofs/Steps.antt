@@ -39,7 +39,7 @@ use Rattle.dom_frame.specs.Steps.{truth}
 use Rattle.dom_frame.proofs.Reading.{value_put, value_none}
 use Rattle.pass_defs.specs.Analysis.{Analysis}
 use Rattle.pass_defs.specs.Facts.{Facts}
-use Rattle.form_law.specs.Changes.{Sets, changed, destination, operands}
+use Rattle.form_laws.specs.Changes.{Sets, changed, destination, operands}
 use Rattle.run_facts.specs.Covered.{CoversTop, CoversWorld, TakesFrom}
 use Rattle.run_facts.specs.ValueAnalysis.{datum_of, value_analysis}
 use Rattle.stuck_law.specs.TypedStates.{TypedFrame, TypedWorld}

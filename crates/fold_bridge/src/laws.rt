@@ -20,7 +20,7 @@ ghost use Rattle.cover_law.specs.Coverable.{IsTabled};
 ghost use Rattle.value_law.specs.Operators.{operators};
 ghost use Rattle.reach.specs.Kept.{size_of};
 ghost use Rattle.thin_pass.specs.Weights.{weight_of};
-ghost use Rattle.fold_law.specs.Known.{SameRun};
+ghost use Rattle.form_laws.specs.Known.{SameRun};
 ghost use Rattle.const_prop.specs.Folds.{IsFoldedBy};
 ghost use Rattle.fold_bridge.specs.Folds.{AreNamed};
 

@@ -39,11 +39,11 @@ use Rattle.pass_defs.specs.Registers.{Kinds, all_below, kinds_below, state_below
 use Rattle.pass_defs.specs.Typed.{arrives, at_state, called, catches, constant_kind, edges, is_wrong, state_at, Table, IsTyped, IsTyping}
 use Rattle.pass_defs.specs.Walks.{form_at}
 use Rattle.silence_law.specs.Results.{TakesInPlace}
-use Rattle.form_law.proofs.Typings.{allowed_at, each_at, right_at, tested}
+use Rattle.form_laws.proofs.Typings.{allowed_at, each_at, right_at, tested}
 use Rattle.std.specs.Int.RustNames.{FitsSigned}
 use Rattle.premises.specs.Numbers.{HasWords}
-use Rattle.fold_law.specs.Typed.{has_front, IsLowered, IsOrdered, Lowers, taken_table}
-use Rattle.fold_law.proofs.TypedFolding.{lowered_typing}
+use Rattle.form_laws.specs.Typed.{has_front, IsLowered, IsOrdered, Lowers, taken_table}
+use Rattle.form_laws.proofs.TypedFolding.{lowered_typing}
 use Rattle.facts.specs.Lent.{frame_at}
 use Rattle.facts.specs.declared.facts.Facts.{Facts}
 use Rattle.verify.specs.Flow.{place_at}

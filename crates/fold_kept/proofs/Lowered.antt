@@ -29,8 +29,8 @@ use Rattle.pass_defs.specs.Typed.{after, constant_kind, is_wrong, moved, number_
 use Rattle.pass_defs.specs.Walks.{onward}
 use Rattle.std.specs.Int.RustNames.{FitsSigned}
 use Rattle.premises.specs.Numbers.{HasWords}
-use Rattle.fold_law.specs.Typed.{Lowers}
-use Rattle.fold_law.proofs.Lowering.{goto_lowers, nop_lowers, wide_lowers, word_lowers}
+use Rattle.form_laws.specs.Typed.{Lowers}
+use Rattle.form_laws.proofs.Lowering.{goto_lowers, nop_lowers, wide_lowers, word_lowers}
 use Rattle.const_prop.specs.declared.choices.Way.{Way}
 use Rattle.const_prop.specs.declared.choices.Way.TheVariants.{Open, Next, To}
 use Rattle.const_prop.specs.declared.numbers.Number.{Number}

@@ -60,7 +60,7 @@ use Rattle.frame_laws.specs.Alike.{gets_void}
 use Rattle.silence_law.specs.Results.{TakesInPlace}
 use Rattle.silence_law.proofs.WellFormed.{well_placed}
 use Rattle.kind_law.proofs.Arrays.{text_same}
-use Rattle.place_law.proofs.Operands.{reads_below, writes_below}
+use Rattle.form_laws.proofs.Operands.{reads_below, writes_below}
 use Rattle.name_bridge.specs.Named.{found_at, finds, search_at}
 use Rattle.name_bridge.proofs.Flags.{static_flag}
 use Rattle.name_bridge.proofs.Found.{type_same, IsThere, found_there_is}

@@ -76,7 +76,7 @@ use Rattle.stuck_law.proofs.Searches.{finds_regularly}
 use Rattle.stuck_law.proofs.Settled.{IsSettled, FindsRegularly}
 use Rattle.stuck_law.proofs.Wides.{wides_held}
 use Rattle.stuck_bridge.proofs.Formed.{regular_program}
-use Rattle.form_law.proofs.Asking.{low_is, high_is}
+use Rattle.form_laws.proofs.Asking.{low_is, high_is}
 use Rattle.name_bridge.proofs.Above.{own_place}
 use Rattle.name_bridge.proofs.Started.{trivial_by_number}
 use Rattle.thin_bridge.proofs.Rooted.{rooted}

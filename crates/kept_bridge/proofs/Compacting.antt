@@ -19,8 +19,8 @@ use Rattle.program_model.specs.declared.program.Method.{Method}
 use Rattle.program_model.specs.declared.program.Program.{Program}
 use Rattle.silence_law.proofs.Lists.{and_left}
 use Rattle.bodies_law.specs.Others.{Pairwise}
-use Rattle.form_law.proofs.Asked.{any_front, any_back}
-use Rattle.place_law.proofs.Operands.{either, reads_below, writes_below}
+use Rattle.form_laws.proofs.Asked.{any_front, any_back}
+use Rattle.form_laws.proofs.Operands.{either, reads_below, writes_below}
 use Rattle.insn_regs.specs.Remade.{remade}
 use Rattle.insn_regs.specs.Wides.{widths_of, wides_read}
 use Rattle.walk_marks.specs.Walks.{is_on}

@@ -18,10 +18,10 @@ use Rattle.dalvik_defs.specs.declared.names.MethodKey.{MethodKey}
 use Rattle.pass_defs.specs.Bare.{reads, writes}
 use Rattle.pass_defs.specs.Walks.{form_at, IsRead}
 use Rattle.silence_law.proofs.Lists.{and_left, and_both}
-use Rattle.form_law.specs.Kinds.{HasNarrowClass}
-use Rattle.place_law.specs.Solid.{HasRoom}
-use Rattle.pack_law.proofs.Reading.{reads_some}
-use Rattle.pack_law.specs.TypedRegisters.{Marks}
+use Rattle.form_laws.specs.Kinds.{HasNarrowClass}
+use Rattle.form_laws.specs.Solid.{HasRoom}
+use Rattle.form_laws.proofs.Reading.{reads_some}
+use Rattle.form_laws.specs.TypedRegisters.{Marks}
 use Rattle.insn_regs.specs.Wides.{is_wide_type, widths_of}
 use Rattle.operand_bridge.proofs.Widths.{wide_same}
 use Rattle.walk_bridge.proofs.Walked.{read_by_number}

@@ -9,8 +9,8 @@ use Rattle.dalvik_defs.specs.declared.program.NamedMethod.{NamedMethod}
 use Rattle.dalvik_defs.specs.declared.program.NamedProgram.{NamedProgram}
 use Rattle.pass_defs.specs.Kinds.{Kind, Low, kind_of}
 use Rattle.pass_defs.specs.Typed.{halves, parameter_kinds, receiver_kind, argument_kinds, words_of}
-use Rattle.form_law.specs.Changes.{width_if}
-use Rattle.pack_law.proofs.Widths.{Takes, type_takes}
+use Rattle.form_laws.specs.Changes.{width_if}
+use Rattle.form_laws.proofs.Widths.{Takes, type_takes}
 use Rattle.stuck_law.specs.Regular.{taken}
 
 -- so many registers as the kind takes

@@ -12,9 +12,9 @@ use Rattle.dalvik_defs.specs.declared.program.NamedMethod.{NamedMethod}
 use Rattle.pass_defs.specs.Typed.{argument_kinds, Table, IsTyping, IsTyped}
 use Rattle.bodies_law.proofs.Named.{others_named}
 use Rattle.bodies_law.proofs.Typed.{others_typed}
-use Rattle.place_law.proofs.WellFormed.{well_formed_solid}
-use Rattle.pack_law.specs.TypedRegisters.{IsTypedRenamed}
-use Rattle.pack_law.proofs.TypedRenaming.{table, typed_renamed}
+use Rattle.form_laws.proofs.WellFormed.{well_formed_solid}
+use Rattle.form_laws.specs.TypedRegisters.{IsTypedRenamed}
+use Rattle.form_laws.proofs.TypedRenaming.{table, typed_renamed}
 use Rattle.stuck_law.specs.Regular.{IsRegular}
 use Rattle.stuck_bridge.proofs.Formed.{regular_program}
 use Rattle.compact.specs.Narrow.{has_narrow_classes}

@@ -3,10 +3,10 @@ use Rattle.std.specs.Prelude.{◌≡◌, ◌⊎◌, ℕ, Some, None}
 use Rattle.dalvik_defs.specs.declared.forms.Form.{Form}
 use Rattle.dalvik_defs.specs.declared.program.NamedBody.{NamedBody}
 use Rattle.pass_defs.specs.Walks.{form_at}
-use Rattle.form_law.specs.Kinds.{HasNarrowClass}
-use Rattle.place_law.specs.Solid.{HasRoom}
-use Rattle.pack_law.specs.Renamed.{IsRenamed}
-use Rattle.pack_law.specs.TypedRegisters.{Marks}
+use Rattle.form_laws.specs.Kinds.{HasNarrowClass}
+use Rattle.form_laws.specs.Solid.{HasRoom}
+use Rattle.form_laws.specs.Renamed.{IsRenamed}
+use Rattle.form_laws.specs.TypedRegisters.{Marks}
 use Rattle.bodies_law.specs.Others.{Codes}
 
 -- a body with other registers, a test of what is read of its own, and no call of a method of a wide type

@@ -74,7 +74,7 @@ use Rattle.lemmas.proofs.Bools.{and_left, and_right}
 use Rattle.lemmas.proofs.Lists.{contains_here, get_there, got_short}
 use Rattle.lemmas.proofs.Options.{none_some, some_same}
 use Rattle.removal_bridge.proofs.Formed.{no_object}
-use Rattle.form_law.specs.Changes.{operands}
+use Rattle.form_laws.specs.Changes.{operands}
 use Rattle.run_facts.specs.Closed as name
 use Rattle.run_facts.specs.ValueAnalysis.{datum_of, value_analysis}
 use Rattle.stuck_law.proofs.Settled.{IsSettled}

@@ -44,8 +44,8 @@ use Rattle.closed_bridge.proofs.Making.{makers_named}
 use Rattle.bodies_law.specs.Others.{Pairwise}
 use Rattle.bodies_law.specs.Numbered.{NumberedCodes, OtherNumberedBodies, OtherNumberedClass, OtherNumberedMethod}
 use Rattle.frame_laws.specs.Alike.{gets_void}
-use Rattle.place_law.specs.Solid.{IsSolid}
-use Rattle.place_law.proofs.WellFormed.{well_formed_solid}
+use Rattle.form_laws.specs.Solid.{IsSolid}
+use Rattle.form_laws.proofs.WellFormed.{well_formed_solid}
 use Rattle.receivers.specs.Receiving.{is_straight}
 use Rattle.receivers.proofs.Straightly.{straight_of}
 use Rattle.run_facts.specs.ValueAnalysis.{value_analysis}

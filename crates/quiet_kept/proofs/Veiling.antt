@@ -23,9 +23,9 @@ use Rattle.pass_defs.specs.Packed.{wides_read}
 use Rattle.pass_defs.specs.Remade.{remade}
 use Rattle.pass_defs.specs.Typed.{begun, after, is_wrong, catch_all, catches_in, catches, edges, passed_words, wrong_method, wrong_super, Table, state_at, each, at_state, arrives, IsTyping}
 use Rattle.pass_defs.specs.Walks.{form_at, region_at, onward, caught, listed, handlers_of, handlers_at}
-use Rattle.form_law.specs.Kinds.{HasNarrowClass, Held}
-use Rattle.form_law.proofs.Asking.{allowed_held}
-use Rattle.form_law.proofs.Typings.{each_at, tested, allowed_at, right_at}
+use Rattle.form_laws.specs.Kinds.{HasNarrowClass, Held}
+use Rattle.form_laws.proofs.Asking.{allowed_held}
+use Rattle.form_laws.proofs.Typings.{each_at, tested, allowed_at, right_at}
 use Rattle.frame_laws.proofs.Walks.{goes_next}
 use Rattle.silence_law.proofs.Lists.{and_left, and_both, all_map}
 use Rattle.dead_bridge.specs.Veiled.{veil, veiled, veiled_table, or_nop, emptied_forms, emptied}

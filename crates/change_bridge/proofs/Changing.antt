@@ -13,8 +13,8 @@ use Rattle.dalvik_defs.specs.declared.program.NamedBody.{NamedBody}
 use Rattle.dalvik_defs.specs.declared.program.NamedMethod.{NamedMethod}
 use Rattle.dalvik_defs.specs.declared.program.NamedClass.{NamedClass}
 use Rattle.dalvik_defs.specs.declared.program.NamedProgram.{NamedProgram}
-use Rattle.silence_law.specs.Bodies.{Code, Change, method_changed, class_changed, changed, KeepsCode}
-use Rattle.bodies_law.specs.Others.{Pairwise, Codes, OtherMethod, OtherClass, OtherBodies}
+use Rattle.program_laws.specs.Bodies.{Code, Change, method_changed, class_changed, changed, KeepsCode}
+use Rattle.program_laws.specs.Others.{Pairwise, Codes, OtherMethod, OtherClass, OtherBodies}
 use Rattle.change_bridge.specs.Unique.{IsUnique}
 use Rattle.change_bridge.specs.Changing.{code_of, in_class, counterpart, same_bool, code_from, change_to}
 

@@ -23,7 +23,7 @@ use Rattle.dalvik_defs.specs.declared.names.MethodKey.{MethodKey}
 use Rattle.dalvik_defs.specs.declared.program.NamedMethod.{NamedMethod}
 use Rattle.dalvik_defs.specs.declared.program.NamedClass.{NamedClass}
 use Rattle.dalvik_defs.proofs.Calm.{text_sound}
-use Rattle.bodies_law.proofs.Keys.{key_found}
+use Rattle.program_laws.proofs.Keys.{key_found}
 use Rattle.name_bridge.proofs.Tables.{Sound, sound, and_left, and_right, all_at, same_number, type_once, method_once}
 use Rattle.name_bridge.proofs.Classes.{ClassFits, MethodFits, class_parts}
 use Rattle.change_bridge.specs.Unique.{IsUnique}

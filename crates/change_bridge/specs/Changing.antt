@@ -5,7 +5,7 @@ use Rattle.dalvik_defs.specs.Names.{text_eq, same_name}
 use Rattle.dalvik_defs.specs.declared.program.NamedMethod.{NamedMethod}
 use Rattle.dalvik_defs.specs.declared.program.NamedClass.{NamedClass}
 use Rattle.dalvik_defs.specs.declared.program.NamedProgram.{NamedProgram}
-use Rattle.silence_law.specs.Bodies.{Code, Change}
+use Rattle.program_laws.specs.Bodies.{Code, Change}
 
 abbrev pub code_of : NamedMethod → Code
 code_of m = record { body = m.body; lines = m.lines }

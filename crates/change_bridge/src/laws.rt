@@ -11,8 +11,8 @@ ghost use Rattle.dalvik_defs.specs.declared.program.NamedBody.{NamedBody};
 ghost use Rattle.dalvik_defs.specs.declared.program.NamedClass.{NamedClass};
 ghost use Rattle.dalvik_defs.specs.declared.program.NamedMethod.{NamedMethod};
 ghost use Rattle.dalvik_defs.specs.declared.program.NamedProgram.{NamedProgram};
-ghost use Rattle.silence_law.specs.Bodies.{changed, KeepsCode};
-ghost use Rattle.bodies_law.specs.Others.{OtherBodies};
+ghost use Rattle.program_laws.specs.Bodies.{changed, KeepsCode};
+ghost use Rattle.program_laws.specs.Others.{OtherBodies};
 ghost use Rattle.change_bridge.specs.Unique.{IsUnique};
 ghost use Rattle.change_bridge.specs.Changing.{change_to};
 

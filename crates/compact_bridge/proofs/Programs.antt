@@ -18,10 +18,10 @@ use Rattle.dalvik_defs.specs.declared.program.NamedMethod.{NamedMethod}
 use Rattle.dalvik_defs.specs.declared.program.NamedClass.{NamedClass}
 use Rattle.insn_regs.specs.Wides.{widths_of}
 use Rattle.walk_marks.specs.Walks.{is_on}
-use Rattle.silence_law.specs.Bodies.{Change}
-use Rattle.bodies_law.specs.Others.{Pairwise, OtherBodies}
-use Rattle.bodies_law.specs.Numbered.{OtherNumberedMethod, OtherNumberedClass, OtherNumberedBodies}
-use Rattle.bodies_law.proofs.Named.{others_named}
+use Rattle.program_laws.specs.Bodies.{Change}
+use Rattle.program_laws.specs.Others.{Pairwise, OtherBodies}
+use Rattle.program_laws.specs.Numbered.{OtherNumberedMethod, OtherNumberedClass, OtherNumberedBodies}
+use Rattle.program_laws.proofs.Named.{others_named}
 use Rattle.form_laws.specs.Solid.{HasRoom}
 use Rattle.form_laws.proofs.WellFormed.{well_formed_solid}
 use Rattle.form_laws.specs.Renamed.{IsRenamed, AllRenamed}

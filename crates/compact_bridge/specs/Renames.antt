@@ -4,8 +4,8 @@ use Rattle.program_model.specs.declared.program.Program.{Program}
 use Rattle.insn_regs.specs.Wides.{widths_of}
 use Rattle.form_laws.specs.Solid.{HasRoom}
 use Rattle.form_laws.specs.Renamed.{IsRenamed}
-use Rattle.bodies_law.specs.Others.{Codes}
-use Rattle.bodies_law.specs.Numbered.{NumberedCodes}
+use Rattle.program_laws.specs.Others.{Codes}
+use Rattle.program_laws.specs.Numbered.{NumberedCodes}
 use Rattle.compact.specs.Renamed.{IsCompacted}
 
 -- by number: a compacted body, or the same code

@@ -2,8 +2,8 @@
 use Rattle.std.specs.Prelude.{◌≡◌, ◌⊎◌, Some, None}
 use Rattle.program_model.specs.declared.program.Program.{Program}
 use Rattle.insn_regs.specs.Wides.{widths_of}
-use Rattle.bodies_law.specs.Others.{Codes}
-use Rattle.bodies_law.specs.Numbered.{NumberedCodes}
+use Rattle.program_laws.specs.Others.{Codes}
+use Rattle.program_laws.specs.Numbered.{NumberedCodes}
 use Rattle.copy_prop.specs.Propagated.{IsPropagated}
 use Rattle.form_laws.specs.Reread.{AreReread}
 

@@ -16,8 +16,8 @@ use Rattle.program_model.specs.declared.program.Class.{Class}
 use Rattle.program_model.specs.declared.program.Program.{Program}
 use Rattle.hierarchy.specs.Shapes.{IsResolved}
 use Rattle.hierarchy.specs.declared.build.Hierarchy.{Hierarchy}
-use Rattle.silence_law.proofs.Lists.{and_left}
-use Rattle.bodies_law.specs.Others.{Pairwise}
+use Rattle.program_laws.proofs.ChangedLists.{and_left}
+use Rattle.program_laws.specs.Others.{Pairwise}
 use Rattle.insn_regs.specs.Remade.{remade}
 use Rattle.insn_regs.specs.Wides.{first_if, widths_of}
 use Rattle.operand_bridge.proofs.Remaking.{remade_alike}

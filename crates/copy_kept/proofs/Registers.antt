@@ -8,7 +8,7 @@ use Rattle.insn_set.specs.Widths.{is_wide_slot, is_wide_item, compares_wide, una
 use Rattle.insn_set.specs.declared.form.Insn.{Insn}
 use Rattle.insn_set.specs.declared.form.Insn.TheVariants.{Nop, Move, MoveResult, MoveException, Return, Const, ConstWide, ConstString, ConstClass, MonitorEnter, MonitorExit, CheckCast, InstanceOf, ArrayLength, NewInstance, NewArray, FilledNewArray, FillArray, Throw, PackedSwitch, SparseSwitch, Cmp, If, IfZero, ArrayGet, ArrayPut, InstanceGet, InstancePut, StaticGet, StaticPut, Invoke, Unary, Binary, Literal}
 use Rattle.program_model.specs.OperandRules.{has_room, are_registers, registers_fit}
-use Rattle.silence_law.proofs.Lists.{and_both}
+use Rattle.program_laws.proofs.ChangedLists.{and_both}
 use Rattle.form_laws.proofs.Asked.{any_front, any_back}
 use Rattle.insn_regs.specs.Remade.{remade}
 use Rattle.insn_regs.specs.Wides.{first_if}

@@ -24,7 +24,7 @@ use Rattle.dalvik_defs.specs.declared.program.NamedMethod.{NamedMethod}
 use Rattle.dalvik_defs.specs.declared.program.NamedClass.{NamedClass}
 use Rattle.pass_defs.specs.Typed.{IsTyped}
 use Rattle.pass_defs.specs.Walks.{form_at}
-use Rattle.silence_law.specs.Bodies.{Change}
+use Rattle.program_laws.specs.Bodies.{Change}
 use Rattle.form_laws.specs.Kinds.{HasNarrowClass}
 use Rattle.form_laws.specs.Solid.{HasRoom}
 use Rattle.form_laws.proofs.WellFormed.{well_formed_solid}
@@ -32,7 +32,7 @@ use Rattle.stuck_law.specs.Regular.{IsRegular}
 use Rattle.stuck_bridge.proofs.Formed.{regular_program}
 use Rattle.stuck_bridge.proofs.Listed.{Image, image, some_same, none_same}
 use Rattle.kept_bridge.proofs.Taking.{class_narrow}
-use Rattle.bodies_law.specs.Others.{OtherBodies}
+use Rattle.program_laws.specs.Others.{OtherBodies}
 use Rattle.compact.specs.Narrow.{has_narrow_classes}
 use Rattle.compact.specs.Renamed.{HasRegisters}
 use Rattle.compact_bridge.proofs.Programs.{registers_of}

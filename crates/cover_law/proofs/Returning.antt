@@ -38,7 +38,7 @@ use Rattle.invariant_law.proofs.Fine.{each_get}
 use Rattle.invariant_law.proofs.Growing.{grows_same}
 use Rattle.invariant_law.proofs.Stacked.{LandedOver}
 use Rattle.run_facts.specs.Covered.{Sees, SeesAll, Stands, CoversTop, AwaitsCall, AwaitsAnswer, Used}
-use Rattle.silence_law.specs.Results.{gives_result}
+use Rattle.program_laws.specs.Results.{gives_result}
 use Rattle.stuck_law.specs.TypedStates.{MaybeOf, AskedOf, TypedFrame}
 use Rattle.stuck_law.specs.Regular.{reads_value}
 use Rattle.stuck_law.proofs.Settled.{IsSettled}

@@ -30,7 +30,7 @@ use Rattle.run_facts.specs.Closed.{At, Arrives, put_sized, is_wide_slot, refined
 use Rattle.invariant_law.specs.Fine.{IsThere}
 use Rattle.invariant_law.specs.Invariant.{Above, Begun, Grows}
 use Rattle.run_facts.specs.Covered.{SeesAll, Stands, TakesFrom, CoversTop, CoversWaiting}
-use Rattle.silence_law.specs.Results.{gives_result, takes_none, TakesInPlace}
+use Rattle.program_laws.specs.Results.{gives_result, takes_none, TakesInPlace}
 use Rattle.stuck_law.specs.TypedStates.{TypedFrame, TypedWaiting}
 use Rattle.stuck_law.proofs.Settled.{IsSettled}
 use Rattle.stuck_law.proofs.Registers.{there_held, all_at}

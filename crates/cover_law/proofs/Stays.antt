@@ -36,7 +36,7 @@ use Rattle.invariant_law.proofs.Fine.{each_get}
 use Rattle.invariant_law.proofs.Growing.{act_grows, EffectGrows}
 use Rattle.invariant_law.proofs.Stacked.{LeadsOver, LandedOver}
 use Rattle.run_facts.specs.Covered.{SeesAll, TakesFrom, CoversTop, CoversWorld, covering}
-use Rattle.silence_law.specs.Results.{gives_result}
+use Rattle.program_laws.specs.Results.{gives_result}
 use Rattle.stuck_law.specs.TypedStates.{KindHolds, TypedFrame, TypedWorld, typed_states}
 use Rattle.stuck_law.proofs.Settled.{IsSettled}
 use Rattle.stuck_law.proofs.Registers.{and_left}

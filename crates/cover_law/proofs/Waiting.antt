@@ -43,7 +43,7 @@ use Rattle.pass_defs.specs.Typed.{wrong_item, wrong_field, wrong_first, differ}
 use Rattle.invariant_law.specs.Invariant.{Above, Begun, Owing, Grows}
 use Rattle.invariant_law.proofs.Growing.{grows_same, grows_put, show_heap}
 use Rattle.run_facts.specs.Covered.{Sees, CoversTop, CoversWaiting, CoversWorld, Awaits, IsPast}
-use Rattle.silence_law.specs.Results.{gives_result}
+use Rattle.program_laws.specs.Results.{gives_result}
 use Rattle.invariant_law.proofs.Fine.{each_or}
 use Rattle.stuck_law.specs.TypedStates.{KindHolds, ValueOf, TypedFrame, TypedWorld}
 use Rattle.stuck_law.proofs.Settled.{IsSettled}

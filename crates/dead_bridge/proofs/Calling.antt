@@ -17,7 +17,7 @@ use Rattle.pass_defs.specs.Kinds.{Kind, Low, High, kind_eq, is_number, is_initia
 use Rattle.pass_defs.specs.Registers.{kind_at}
 use Rattle.pass_defs.specs.Demands.{Demand, Moved, Number, Pair, Behind, Initialised, Either, Fits, Receiver, Holder, Constructed, AnArray, ArrayOf, Filled, meets, is_moved, holds_field, is_constructed, is_array_where, item_eq, has_width, is_constructor_name, found_class, passed_wide, passed, receiver_demands, call_demands}
 use Rattle.pass_defs.specs.Typed.{is_static_call, words_of, passed_words}
-use Rattle.silence_law.proofs.Lists.{and_left, and_both, all_map}
+use Rattle.program_laws.proofs.ChangedLists.{and_left, and_both, all_map}
 
 module _ (p : NamedProgram) (c : NamedClass) (ks ls : List Kind) where
   -- a demand on a register that holds the same, of a wide both halves

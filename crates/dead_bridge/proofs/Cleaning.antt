@@ -43,7 +43,7 @@ use Rattle.body_graph.specs.Walks.{IsRead, IsReadAfter}
 use Rattle.body_graph.proofs.Members.{get_inside, get_some}
 use Rattle.body_graph.proofs.Links.{step_on, step_caught}
 use Rattle.live_regs.specs.Live.{is_live}
-use Rattle.silence_law.proofs.Lists.{and_left, and_both}
+use Rattle.program_laws.proofs.ChangedLists.{and_left, and_both}
 use Rattle.thin_law.specs.Squeezing.{IsSkipped, Nop}
 use Rattle.thin_law.specs.Cleaning.{IsDropped, Unread, IsCleaning}
 use Rattle.thin_types.specs.Squeezed.{IsTransitive, SqueezesMarked, squeezed_table}

@@ -26,12 +26,12 @@ use Rattle.pass_defs.specs.Thinned.{Fate as Meant, thinned}
 use Rattle.pass_defs.specs.Typed.{Table, IsTyping, IsTyped}
 use Rattle.pass_defs.specs.Walks.{form_at}
 use Rattle.body_edit.specs.declared.fate.Fate.{Fate}
-use Rattle.bodies_law.specs.Others.{OtherBodies}
-use Rattle.bodies_law.specs.Numbered.{OtherNumberedBodies}
-use Rattle.bodies_law.proofs.Typed.{others_typed}
+use Rattle.program_laws.specs.Others.{OtherBodies}
+use Rattle.program_laws.specs.Numbered.{OtherNumberedBodies}
+use Rattle.program_laws.proofs.Typed.{others_typed}
 use Rattle.formed_law.proofs.Formed.{recoded_formed}
-use Rattle.frame_laws.specs.Alike.{gets_void}
-use Rattle.kind_law.proofs.Transitive.{transitive}
+use Rattle.program_laws.specs.Alike.{gets_void}
+use Rattle.program_laws.proofs.Transitive.{transitive}
 use Rattle.form_laws.specs.Solid.{IsSolid}
 use Rattle.form_laws.proofs.WellFormed.{well_formed_solid}
 use Rattle.removal_law.proofs.CallsLeft.{body_in}

@@ -23,7 +23,7 @@ use Rattle.pass_defs.specs.Registers.{Kinds, kind_at, written, written_kinds}
 use Rattle.pass_defs.specs.Demands.{meets, demands, slot_demand, is_moved, result_fits, place_allowed, is_allowed}
 use Rattle.pass_defs.specs.Pure.{is_pure}
 use Rattle.pass_defs.specs.Typed.{number_kind, constant_kind, moved, after, wrong_item, wrong_field, wrong_first, is_wrong}
-use Rattle.silence_law.proofs.Lists.{and_left}
+use Rattle.program_laws.proofs.ChangedLists.{and_left}
 use Rattle.dead_bridge.proofs.Agreeing.{written_or, written_long}
 
 pub record Keeps (f : Form) (a b : Kinds) : Type 0 where

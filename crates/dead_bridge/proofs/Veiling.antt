@@ -26,8 +26,8 @@ use Rattle.pass_defs.specs.Walks.{form_at, region_at, onward, caught, listed, ha
 use Rattle.form_laws.specs.Kinds.{HasNarrowClass, Held}
 use Rattle.form_laws.proofs.Asking.{allowed_held}
 use Rattle.form_laws.proofs.Typings.{each_at, tested, allowed_at, right_at}
-use Rattle.frame_laws.proofs.Walks.{goes_next}
-use Rattle.silence_law.proofs.Lists.{and_left, and_both, all_map}
+use Rattle.program_laws.proofs.Walks.{goes_next}
+use Rattle.program_laws.proofs.ChangedLists.{and_left, and_both, all_map}
 use Rattle.dead_bridge.specs.Veiled.{Hides, veil, veiled, veiled_table, or_nop, emptied_forms, emptied}
 use Rattle.dead_bridge.proofs.Agreeing.{AgreeOn}
 use Rattle.dead_bridge.proofs.Afters.{SameAfter, after_same}

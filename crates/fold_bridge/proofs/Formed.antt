@@ -20,8 +20,8 @@ use Rattle.program_model.specs.declared.program.Program.{Program}
 use Rattle.domains.specs.Values.{Parts}
 use Rattle.dom_frame.specs.declared.frames.Frame.{Frame}
 use Rattle.lemmas.proofs.Bools.{and_right}
-use Rattle.silence_law.proofs.Lists.{and_left, and_both}
-use Rattle.bodies_law.specs.Others.{Pairwise}
+use Rattle.program_laws.proofs.ChangedLists.{and_left, and_both}
+use Rattle.program_laws.specs.Others.{Pairwise}
 use Rattle.formed_law.proofs.Pairs.{length_pairs, all_pairs, sum_pairs}
 use Rattle.const_prop.specs.declared.choices.Way.{Way}
 use Rattle.const_prop.specs.declared.choices.Way.TheVariants.{Open, Next, To}

@@ -22,8 +22,8 @@ use Rattle.facts.specs.declared.facts.Facts.{Facts}
 use Rattle.hierarchy.specs.declared.build.Hierarchy.{Hierarchy}
 use Rattle.verify.specs.Typings.{Table}
 use Rattle.lemmas.proofs.Bools.{and_right}
-use Rattle.silence_law.proofs.Lists.{and_left, and_both}
-use Rattle.bodies_law.specs.Others.{Pairwise}
+use Rattle.program_laws.proofs.ChangedLists.{and_left, and_both}
+use Rattle.program_laws.specs.Others.{Pairwise}
 use Rattle.formed_law.specs.Recoded.{Recodes, RecodedMethod, Untouched, Recoded, RecodedClass, RecodedProgram}
 use Rattle.formed_law.proofs.Formed.{recoded_formed}
 use Rattle.rewrite_pass.specs.declared.edit.Edit.{Edit}

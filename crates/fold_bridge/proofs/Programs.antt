@@ -31,12 +31,12 @@ use Rattle.facts.specs.declared.facts.Facts.{Facts}
 use Rattle.pass_defs.specs.Facts as by_name
 use Rattle.pass_defs.specs.Pure.{is_quiet_field}
 use Rattle.pass_defs.specs.Walks.{form_at, IsReached}
-use Rattle.silence_law.specs.Bodies.{Change, same_lines}
-use Rattle.bodies_law.specs.Others.{OtherBodies}
-use Rattle.bodies_law.specs.Numbered.{OtherNumberedBodies}
-use Rattle.bodies_law.proofs.Faces.{others_face}
-use Rattle.bodies_law.proofs.Found.{others_found}
-use Rattle.bodies_law.proofs.Named.{others_named}
+use Rattle.program_laws.specs.Bodies.{Change, same_lines}
+use Rattle.program_laws.specs.Others.{OtherBodies}
+use Rattle.program_laws.specs.Numbered.{OtherNumberedBodies}
+use Rattle.program_laws.proofs.Faces.{others_face}
+use Rattle.program_laws.proofs.Found.{others_found}
+use Rattle.program_laws.proofs.Named.{others_named}
 use Rattle.form_laws.specs.Solid.{IsSolid, AllSolid}
 use Rattle.form_laws.proofs.Bodies.{replaced}
 use Rattle.form_laws.proofs.WellFormed.{well_formed_solid}

@@ -38,7 +38,7 @@ use Rattle.pass_defs.specs.Quiet.{takes_result}
 use Rattle.pass_defs.specs.Registers.{Kinds, all_below, kinds_below, state_below, kind_at}
 use Rattle.pass_defs.specs.Typed.{arrives, at_state, called, catches, constant_kind, edges, is_wrong, state_at, Table, IsTyped, IsTyping}
 use Rattle.pass_defs.specs.Walks.{form_at}
-use Rattle.silence_law.specs.Results.{TakesInPlace}
+use Rattle.program_laws.specs.Results.{TakesInPlace}
 use Rattle.form_laws.proofs.Typings.{allowed_at, each_at, right_at, tested}
 use Rattle.std.specs.Int.RustNames.{FitsSigned}
 use Rattle.premises.specs.Numbers.{HasWords}

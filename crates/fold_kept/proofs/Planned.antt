@@ -20,7 +20,7 @@ use Rattle.facts.specs.declared.facts.Facts.{Facts}
 use Rattle.hierarchy.specs.declared.build.Hierarchy.{Hierarchy}
 use Rattle.verify.specs.Typings.{Table}
 use Rattle.lemmas.proofs.Options.{none_some, some_same}
-use Rattle.bodies_law.specs.Numbered.{OtherNumberedMethod, OtherNumberedClass, OtherNumberedBodies}
+use Rattle.program_laws.specs.Numbered.{OtherNumberedMethod, OtherNumberedClass, OtherNumberedBodies}
 use Rattle.rewrite_pass.specs.declared.edit.Edit.{Edit}
 use Rattle.rewrite_pass.specs.Plans.{edited, body_edited, code_edited, method_by, class_by, program_by, word, HasEdits, HasPlan, IsPlan}
 use Rattle.const_prop.specs.Allowed.{IsFoldOf, IsFold}

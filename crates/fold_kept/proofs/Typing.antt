@@ -22,12 +22,12 @@ use Rattle.dalvik_defs.specs.declared.program.NamedBody.{NamedBody}
 use Rattle.dalvik_defs.specs.declared.program.NamedClass.{NamedClass}
 use Rattle.dalvik_defs.specs.declared.program.NamedMethod.{NamedMethod}
 use Rattle.pass_defs.specs.Typed.{IsTyped, IsTyping, Table}
-use Rattle.silence_law.proofs.WellFormed.{well_placed}
-use Rattle.bodies_law.specs.Others.{Pairwise}
-use Rattle.bodies_law.specs.Numbered.{OtherNumberedMethod, OtherNumberedClass, OtherNumberedBodies}
-use Rattle.bodies_law.proofs.Named.{others_named}
-use Rattle.bodies_law.proofs.Typed.{others_typed}
-use Rattle.kind_law.proofs.Transitive.{transitive}
+use Rattle.program_laws.proofs.WellFormed.{well_placed}
+use Rattle.program_laws.specs.Others.{Pairwise}
+use Rattle.program_laws.specs.Numbered.{OtherNumberedMethod, OtherNumberedClass, OtherNumberedBodies}
+use Rattle.program_laws.proofs.Named.{others_named}
+use Rattle.program_laws.proofs.Typed.{others_typed}
+use Rattle.program_laws.proofs.Transitive.{transitive}
 use Rattle.stuck_bridge.proofs.Listed.{Image, image}
 use Rattle.stuck_bridge.proofs.Members.{class_known, method_known}
 use Rattle.thin_bridge.proofs.Rooted.{rooted}

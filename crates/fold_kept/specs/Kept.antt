@@ -7,7 +7,7 @@ use Rattle.dalvik_defs.specs.Naming.{named}
 use Rattle.dalvik_defs.specs.Outer.{outer_of}
 use Rattle.dalvik_defs.specs.Shown.{SameShown}
 use Rattle.pass_defs.specs.Typed.{IsTyped}
-use Rattle.bodies_law.specs.Numbered.{OtherNumberedBodies}
+use Rattle.program_laws.specs.Numbered.{OtherNumberedBodies}
 use Rattle.removal_law.specs.Reach.{ShutsHold}
 use Rattle.thin_bridge.specs.Kept.{AnyCode}
 

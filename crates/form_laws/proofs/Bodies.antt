@@ -11,8 +11,8 @@ use Rattle.dalvik_defs.specs.declared.program.NamedBody.{NamedBody}
 use Rattle.dalvik_defs.specs.declared.program.NamedMethod.{NamedMethod}
 use Rattle.dalvik_defs.specs.declared.program.NamedClass.{NamedClass}
 use Rattle.dalvik_defs.specs.declared.program.NamedProgram.{NamedProgram}
-use Rattle.silence_law.specs.Bodies.{Change, method_changed, class_changed, changed, KeepsCode}
-use Rattle.silence_law.proofs.Heads.{class_same, method_same}
+use Rattle.program_laws.specs.Bodies.{Change, method_changed, class_changed, changed, KeepsCode}
+use Rattle.program_laws.proofs.Heads.{class_same, method_same}
 use Rattle.form_laws.specs.Replaced.{Replaced}
 use Rattle.form_laws.proofs.Onward.{clash}
 

@@ -25,8 +25,8 @@ use Rattle.pass_defs.specs.Bare.{reads, writes}
 use Rattle.pass_defs.specs.Remade.{remade}
 use Rattle.pass_defs.specs.Walks.{form_at, onward, caught, successors, IsReached}
 use Rattle.pass_defs.specs.Stale.{in_copy, in_either, overlaps, IsSpoilt}
-use Rattle.silence_law.specs.Bodies.{Change, changed}
-use Rattle.silence_law.proofs.Faces.{face_same}
+use Rattle.program_laws.specs.Bodies.{Change, changed}
+use Rattle.program_laws.proofs.ChangedFaces.{face_same}
 use Rattle.form_laws.specs.Changes.{In, destination, width_if, width}
 use Rattle.form_laws.proofs.Forms.{form_law}
 use Rattle.form_laws.proofs.Uses.{or_right, same_reads, writes_at, writes_from, remade_destination}

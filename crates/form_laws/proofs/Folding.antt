@@ -29,8 +29,8 @@ use Rattle.dalvik_defs.proofs.Calm.{IsCalm}
 use Rattle.pass_defs.specs.Bare.{reads, writes}
 use Rattle.pass_defs.specs.Remade.{remade}
 use Rattle.pass_defs.specs.Walks.{form_at, onward}
-use Rattle.silence_law.specs.Bodies.{Change, changed}
-use Rattle.silence_law.proofs.Faces.{face_same}
+use Rattle.program_laws.specs.Bodies.{Change, changed}
+use Rattle.program_laws.proofs.ChangedFaces.{face_same}
 use Rattle.form_laws.specs.Changes.{In, destination, TakesPair, Alike}
 use Rattle.form_laws.proofs.Forms.{form_law}
 use Rattle.form_laws.proofs.Uses.{or_right, same_reads, writes_at, writes_from}

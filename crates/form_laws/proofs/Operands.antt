@@ -8,7 +8,7 @@ use Rattle.insn_set.specs.Widths.{is_wide_slot, is_wide_item, compares_wide, una
 use Rattle.insn_set.specs.declared.form.Insn.{Insn}
 use Rattle.insn_set.specs.declared.form.Insn.TheVariants as insn
 use Rattle.program_model.specs.OperandRules.{has_room, are_registers, registers_fit}
-use Rattle.silence_law.proofs.Lists.{and_left}
+use Rattle.program_laws.proofs.ChangedLists.{and_left}
 
 pub either : (a b : Bool) {C : Type 0} → (a || b) ≡ true → (a ≡ true → C) → (b ≡ true → C) → C
 either true b e f g = f refl

@@ -22,8 +22,8 @@ use Rattle.pass_defs.specs.Bare.{reads, writes}
 use Rattle.pass_defs.specs.Remade.{remade}
 use Rattle.pass_defs.specs.Walks.{form_at, onward, caught, IsReadAt, IsRead}
 use Rattle.pass_defs.specs.Packed.{Conflict, First, wides_written, wides_read, locals}
-use Rattle.silence_law.specs.Bodies.{Change, changed}
-use Rattle.silence_law.proofs.Faces.{face_same}
+use Rattle.program_laws.specs.Bodies.{Change, changed}
+use Rattle.program_laws.proofs.ChangedFaces.{face_same}
 use Rattle.form_laws.specs.Changes.{In, destination, width}
 use Rattle.form_laws.proofs.Forms.{form_law}
 use Rattle.form_laws.proofs.Asked.{any_front, any_back, pair_taken, pair_written}

@@ -21,8 +21,8 @@ use Rattle.pass_defs.specs.Quiet.{takes_result}
 use Rattle.pass_defs.specs.Registers.{Kinds, all_below, kinds_below, state_below}
 use Rattle.pass_defs.specs.Typed.{after, arrives, at_state, begun, catch_all, catches, catches_in, each, edges, is_wrong, state_at, Table, IsTyping}
 use Rattle.pass_defs.specs.Walks.{form_at, region_at, onward, caught, listed, handlers_of}
-use Rattle.silence_law.specs.Results.{gives_result, takes_none, TakesInPlace}
-use Rattle.silence_law.proofs.Lists.{all_from, all_map}
+use Rattle.program_laws.specs.Results.{gives_result, takes_none, TakesInPlace}
+use Rattle.program_laws.proofs.ChangedLists.{all_from, all_map}
 use Rattle.form_laws.proofs.Typings.{allowed_at, each_at, right_at, tested}
 use Rattle.form_laws.specs.Typed.{IsOrdered, has_front, taken, taken_table, IsLowered, Lowers}
 

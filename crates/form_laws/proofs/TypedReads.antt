@@ -16,8 +16,8 @@ use Rattle.pass_defs.specs.Registers.{Kinds, written, state_below}
 use Rattle.pass_defs.specs.Remade.{remade}
 use Rattle.pass_defs.specs.Demands.{is_constructor_name, is_allowed}
 use Rattle.pass_defs.specs.Typed.{is_static_call, constructed, Table, state_at, at_state, each, arrives, after, moved, got, is_wrong, passed_words, wrong_method, wrong_super, catches_in, edges, begun, IsTyping, IsTyped}
-use Rattle.silence_law.specs.Bodies.{Change, changed}
-use Rattle.silence_law.proofs.Moved.{moved_typed}
+use Rattle.program_laws.specs.Bodies.{Change, changed}
+use Rattle.program_laws.proofs.Moved.{moved_typed}
 use Rattle.form_laws.proofs.Demanded.{allowed_named, and_behind}
 use Rattle.form_laws.proofs.Onward.{clash}
 use Rattle.form_laws.specs.Copied.{ReadsOriginals}

@@ -20,8 +20,8 @@ use Rattle.pass_defs.specs.Registers.{Kinds, kind_at, all_below, kinds_below, st
 use Rattle.pass_defs.specs.Demands.{is_allowed}
 use Rattle.pass_defs.specs.Typed.{argument_kinds, begun, after, wrong_method, wrong_super, passed_words, is_wrong, catches_in, catches, edges, Table, state_at, at_state, arrives, IsTyping, IsTyped}
 use Rattle.pass_defs.specs.Packed.{wides_written, wides_read, locals}
-use Rattle.silence_law.specs.Bodies.{Change, changed}
-use Rattle.silence_law.proofs.Moved.{moved_typed}
+use Rattle.program_laws.specs.Bodies.{Change, changed}
+use Rattle.program_laws.proofs.Moved.{moved_typed}
 use Rattle.form_laws.specs.Changes.{In, destination}
 use Rattle.form_laws.proofs.Uses.{or_right, writes_at}
 use Rattle.form_laws.proofs.Onward.{clash, contained, in_front, in_back, walk_on}

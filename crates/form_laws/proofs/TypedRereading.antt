@@ -20,7 +20,7 @@ use Rattle.pass_defs.specs.Kinds.{Kind, Low, High, kind_eq}
 use Rattle.pass_defs.specs.Registers.{Kinds, kind_at}
 use Rattle.pass_defs.specs.Demands.{Pair, meets, demands, place_allowed, is_allowed}
 use Rattle.pass_defs.specs.Typed.{state_at, IsTyped}
-use Rattle.silence_law.specs.Bodies.{Change, changed}
+use Rattle.program_laws.specs.Bodies.{Change, changed}
 use Rattle.form_laws.specs.Changes.{In}
 use Rattle.form_laws.specs.Kinds.{Held}
 use Rattle.form_laws.proofs.Uses.{or_right}

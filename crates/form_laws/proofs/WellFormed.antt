@@ -32,8 +32,8 @@ use Rattle.dalvik_defs.specs.declared.names.FieldKey.{FieldKey}
 use Rattle.dalvik_defs.specs.declared.program.NamedBody.{NamedBody}
 use Rattle.dalvik_defs.specs.declared.program.NamedMethod.{NamedMethod}
 use Rattle.pass_defs.specs.Bare.{reads, writes}
-use Rattle.silence_law.proofs.Lists.{and_left}
-use Rattle.silence_law.proofs.Moved.{image}
+use Rattle.program_laws.proofs.ChangedLists.{and_left}
+use Rattle.program_laws.proofs.Moved.{image}
 use Rattle.form_laws.specs.Changes.{field_of}
 use Rattle.form_laws.specs.Solid.{IsSolid, AllSolid}
 use Rattle.form_laws.proofs.Operands.{either, reads_below, writes_below}

@@ -15,7 +15,7 @@ use Rattle.pass_defs.specs.Remade.{remade}
 use Rattle.pass_defs.specs.Walks.{form_at, IsReached}
 use Rattle.pass_defs.specs.Stale.{overlaps, IsSpoilt}
 use Rattle.form_laws.specs.Changes.{width_if, TakesPair}
-use Rattle.silence_law.specs.Bodies.{Change, KeepsCode}
+use Rattle.program_laws.specs.Bodies.{Change, KeepsCode}
 
 -- The first register holds at a position what a Move copied into it from the second one, on every walk from the entry.
 pub record IsCopy (b : NamedBody) (n o x : ℕ) : Type 0 where

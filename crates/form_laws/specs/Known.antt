@@ -24,7 +24,7 @@ use Rattle.dalvik_defs.specs.declared.tables.Floats.{Floats}
 use Rattle.dalvik_defs.specs.declared.tables.Framework.{Framework}
 use Rattle.pass_defs.specs.Walks.{form_at, IsReached}
 use Rattle.form_laws.specs.Changes.{destination, Change, changed, Possible}
-use Rattle.silence_law.specs.Bodies.{Change as Bodies, changed as with_bodies, KeepsCode}
+use Rattle.program_laws.specs.Bodies.{Change as Bodies, changed as with_bodies, KeepsCode}
 
 -- The second form always makes one change, and in each state that a run reaches the first one does too.
 pub record Known (s : Setting) (I : State → Type 0) (k : MethodKey) (n : ℕ) (f f' : Form) : Type 0 where

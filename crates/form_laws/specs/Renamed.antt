@@ -11,7 +11,7 @@ use Rattle.dalvik_defs.specs.declared.program.NamedProgram.{NamedProgram}
 use Rattle.pass_defs.specs.Remade.{remade}
 use Rattle.pass_defs.specs.Walks.{form_at, IsRead}
 use Rattle.pass_defs.specs.Packed.{Conflict, wides_of, uses, locals}
-use Rattle.silence_law.specs.Bodies.{Change, KeepsCode}
+use Rattle.program_laws.specs.Bodies.{Change, KeepsCode}
 
 -- Each register has another number, one for the whole body. Registers that conflict stay apart, halves of a wide stay
 -- together, and what is read of the entry's registers keeps its place among the arguments, or stays before them.

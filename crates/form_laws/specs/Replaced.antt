@@ -6,7 +6,7 @@ use Rattle.dalvik_defs.specs.declared.program.NamedBody.{NamedBody}
 use Rattle.dalvik_defs.specs.declared.program.NamedMethod.{NamedMethod}
 use Rattle.dalvik_defs.specs.declared.program.NamedClass.{NamedClass}
 use Rattle.dalvik_defs.specs.declared.program.NamedProgram.{NamedProgram}
-use Rattle.silence_law.specs.Bodies.{Change, changed}
+use Rattle.program_laws.specs.Bodies.{Change, changed}
 
 -- a method with code, and what stands in place of its body
 pub record Replaced (new : Change) (p : NamedProgram) (k : MethodKey) (b : NamedBody) : Type 0 where

@@ -11,7 +11,7 @@ use Rattle.dalvik_defs.specs.declared.program.NamedProgram.{NamedProgram}
 use Rattle.pass_defs.specs.Remade.{remade}
 use Rattle.pass_defs.specs.Stale.{StandsFor}
 use Rattle.pass_defs.specs.Walks.{form_at}
-use Rattle.silence_law.specs.Bodies.{Change, KeepsCode}
+use Rattle.program_laws.specs.Bodies.{Change, KeepsCode}
 
 -- a Move, by its position
 pub record Copied : Type 0 where

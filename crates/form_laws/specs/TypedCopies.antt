@@ -12,7 +12,7 @@ use Rattle.pass_defs.specs.Registers.{Kinds, kind_at}
 use Rattle.pass_defs.specs.Demands.{demands}
 use Rattle.pass_defs.specs.Typed.{Table, state_at, receiver_register, IsTyping}
 use Rattle.form_laws.specs.Kinds.{AtFirst, AllSame, HasNarrowClass}
-use Rattle.silence_law.specs.Bodies.{Change, KeepsCode}
+use Rattle.program_laws.specs.Bodies.{Change, KeepsCode}
 use Rattle.form_laws.specs.Copied.{ReadsOriginals}
 use Rattle.form_laws.specs.Reread.{Copied, AreReread}
 use Rattle.pass_defs.specs.Kinds.{Low, High}

@@ -14,7 +14,7 @@ use Rattle.pass_defs.specs.Registers.{Kinds, kind_at}
 use Rattle.pass_defs.specs.Typed.{argument_kinds, Table, IsTyping}
 use Rattle.form_laws.specs.Kinds.{is_whole, HasNarrowClass}
 use Rattle.form_laws.specs.Solid.{IsSolid}
-use Rattle.silence_law.specs.Bodies.{Change, KeepsCode}
+use Rattle.program_laws.specs.Bodies.{Change, KeepsCode}
 use Rattle.form_laws.specs.Renamed.{IsRenamed}
 
 -- which registers are read at a position or later before they are written, as a test

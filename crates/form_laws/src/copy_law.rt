@@ -4,7 +4,7 @@ ghost use Rattle.dalvik_defs.specs.Outer.{Outer};
 ghost use Rattle.dalvik_defs.specs.Shown.{SameShown};
 ghost use Rattle.dalvik_defs.specs.declared.program.NamedBody.{NamedBody};
 ghost use Rattle.dalvik_defs.specs.declared.program.NamedProgram.{NamedProgram};
-ghost use Rattle.silence_law.specs.Bodies.{Change, changed};
+ghost use Rattle.program_laws.specs.Bodies.{Change, changed};
 ghost use Rattle.form_laws.specs.Solid.{AllSolid};
 ghost use Rattle.form_laws.specs.Copied.{ReadsOriginals, AllReadOriginals};
 ghost use Rattle.pass_defs.specs.Typed.{IsTyped};

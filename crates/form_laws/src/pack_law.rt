@@ -3,7 +3,7 @@
 ghost use Rattle.dalvik_defs.specs.Outer.{Outer};
 ghost use Rattle.dalvik_defs.specs.Shown.{SameShown};
 ghost use Rattle.dalvik_defs.specs.declared.program.NamedProgram.{NamedProgram};
-ghost use Rattle.silence_law.specs.Bodies.{Change, changed};
+ghost use Rattle.program_laws.specs.Bodies.{Change, changed};
 ghost use Rattle.form_laws.specs.Solid.{AllSolid};
 ghost use Rattle.pass_defs.specs.Typed.{IsTyped};
 ghost use Rattle.form_laws.specs.TypedRegisters.{AllTypedRenamed};

@@ -16,7 +16,7 @@ ghost use Rattle.dalvik_defs.specs.declared.program.NamedProgram.{NamedProgram};
 ghost use Rattle.dalvik_defs.specs.declared.script.Move.{Move};
 ghost use Rattle.dalvik_defs.specs.declared.tables.Floats.{Floats};
 ghost use Rattle.dalvik_defs.specs.declared.tables.Framework.{Framework};
-ghost use Rattle.silence_law.specs.Bodies.{Change, changed, KeepsCode};
+ghost use Rattle.program_laws.specs.Bodies.{Change, changed, KeepsCode};
 ghost use Rattle.program_model.specs.ProgramRules.{is_well_formed};
 ghost use Rattle.program_model.specs.declared.program.Program.{Program};
 ghost use Rattle.dalvik_defs.specs.Naming.{named};

@@ -19,9 +19,9 @@ use Rattle.program_model.specs.declared.body.Body.{Body}
 use Rattle.program_model.specs.declared.program.Method.{Method}
 use Rattle.program_model.specs.declared.program.Class.{Class}
 use Rattle.program_model.specs.declared.program.Program.{Program}
-use Rattle.silence_law.proofs.Lists.{and_left, and_both}
+use Rattle.program_laws.proofs.ChangedLists.{and_left, and_both}
 use Rattle.table_rules.proofs.Tables.{tables_kept, class_same}
-use Rattle.bodies_law.specs.Others.{Pairwise}
+use Rattle.program_laws.specs.Others.{Pairwise}
 use Rattle.formed_law.specs.Recoded.{Recodes, RecodedMethod, Untouched, Recoded, RecodedClass, RecodedProgram}
 use Rattle.formed_law.proofs.Pairs.{length_pairs, all_pairs, order_pairs, sum_pairs, differ_pairs}
 

@@ -7,8 +7,8 @@ use Rattle.std.proofs.lemmas.List.Sums.{sum_by-cons}
 use Rattle.lemmas.proofs.Bools.{and_right}
 use Rattle.program_model.specs.Neighbours.{neighbours}
 use Rattle.program_model.specs.Distinct.{same_entry, differ_from}
-use Rattle.silence_law.proofs.Lists.{and_left, and_both}
-use Rattle.bodies_law.specs.Others.{Pairwise}
+use Rattle.program_laws.proofs.ChangedLists.{and_left, and_both}
+use Rattle.program_laws.specs.Others.{Pairwise}
 
 module _ {A : Type 0} (R : A → A → Type 0) where
   pub length_pairs : (xs ys : List A) → Pairwise R xs ys → length ys ≡ length xs

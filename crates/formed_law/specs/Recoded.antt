@@ -9,7 +9,7 @@ use Rattle.program_model.specs.declared.body.Body.{Body}
 use Rattle.program_model.specs.declared.program.Method.{Method}
 use Rattle.program_model.specs.declared.program.Class.{Class}
 use Rattle.program_model.specs.declared.program.Program.{Program}
-use Rattle.bodies_law.specs.Others.{Pairwise}
+use Rattle.program_laws.specs.Others.{Pairwise}
 
 -- Other code for a method: its arguments are the method's, and it keeps the rules of bodies, has lines for its positions or
 -- none, and no more cells and items than the code before.

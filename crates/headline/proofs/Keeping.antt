@@ -43,8 +43,8 @@ use Rattle.rebind_kept.proofs.Shuts.{rebound_holds}
 use Rattle.rebind_kept.proofs.Kept.{rebound_kept}
 use Rattle.quiet_kept.proofs.Kept.{quieted_kept}
 use Rattle.quiet_kept.proofs.Shuts.{quieted_shut}
-use Rattle.outer_law.specs.Shutting.{with_shut}
-use Rattle.alike_law.specs.Virtual.{VirtualsStay}
+use Rattle.program_laws.specs.Shutting.{with_shut}
+use Rattle.program_laws.specs.Virtual.{VirtualsStay}
 use Rattle.static_kept.specs.Owed as along
 use Rattle.static_kept.specs.Passing as loose
 use Rattle.static_kept.proofs.Left.{virtuals_numbered, virtuals_removed}

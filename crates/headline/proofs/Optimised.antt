@@ -36,9 +36,9 @@ use Rattle.headline.proofs.Repeated.{all_rounds_owe}
 use Rattle.headline.proofs.Staying.{rounds_stay}
 use Rattle.static_kept.specs.Staying.{StaysAlong}
 use Rattle.static_kept.proofs.Staying.{along_kept, along_then}
-use Rattle.shut_law.proofs.Silent.{silenced_holds}
-use Rattle.silence_law.proofs.Silenced.{silenced_typed}
-use Rattle.silence_law.proofs.WellFormed.{well_placed}
+use Rattle.program_laws.proofs.Silent.{silenced_holds}
+use Rattle.program_laws.proofs.Silenced.{silenced_typed}
+use Rattle.program_laws.proofs.WellFormed.{well_placed}
 use Rattle.headline.specs.Admitted.{admitted_in}
 use Rattle.headline.proofs.Silenced.{silenced_named}
 use Rattle.headline.proofs.StayingSilenced.{silent_stays}

@@ -56,10 +56,10 @@ use Rattle.pass_defs.specs.Typed.{Table, IsTyping, IsTyped}
 use Rattle.pass_defs.specs.Walks.{form_at, IsReached}
 use Rattle.pass_defs.specs.Inlined.{callee_found, callee_of, with_body, slot_of, passed_types}
 use Rattle.pass_defs.specs.Inlined as by_name
-use Rattle.frame_laws.specs.Alike.{gets_void}
-use Rattle.silence_law.specs.Results.{TakesInPlace}
-use Rattle.silence_law.proofs.WellFormed.{well_placed}
-use Rattle.kind_law.proofs.Arrays.{text_same}
+use Rattle.program_laws.specs.Alike.{gets_void}
+use Rattle.program_laws.specs.Results.{TakesInPlace}
+use Rattle.program_laws.proofs.WellFormed.{well_placed}
+use Rattle.program_laws.proofs.Arrays.{text_same}
 use Rattle.form_laws.proofs.Operands.{reads_below, writes_below}
 use Rattle.name_bridge.specs.Named.{found_at, finds, search_at}
 use Rattle.name_bridge.proofs.Flags.{static_flag}

@@ -25,8 +25,8 @@ use Rattle.premises.specs.Numbers.{AllHaveWords}
 use Rattle.closed_bridge.specs.Names.{named_facts, values}
 use Rattle.closed_bridge.proofs.Closing.{closed_named}
 use Rattle.closed_bridge.proofs.Making.{makers_named}
-use Rattle.bodies_law.specs.Others.{Pairwise}
-use Rattle.bodies_law.specs.Numbered.{NumberedCodes, OtherNumberedBodies, OtherNumberedClass, OtherNumberedMethod}
+use Rattle.program_laws.specs.Others.{Pairwise}
+use Rattle.program_laws.specs.Numbered.{NumberedCodes, OtherNumberedBodies, OtherNumberedClass, OtherNumberedMethod}
 use Rattle.thin_bridge.specs.Kept.{AnyCode}
 use Rattle.tabled_law.proofs.Apart.{tabled, tabled_apart}
 use Rattle.fold_bridge.specs.Folds.{AreNamed}

@@ -29,8 +29,8 @@ use Rattle.hierarchy.specs.declared.build.Hierarchy.{Hierarchy}
 use Rattle.facts.specs.declared.facts.Facts.{Facts}
 use Rattle.dalvik_defs.specs.Naming.{named_class, named_method}
 use Rattle.dalvik_defs.specs.Silence.{key_in}
-use Rattle.bodies_law.specs.Others.{Pairwise}
-use Rattle.bodies_law.specs.Numbered.{NumberedCodes, OtherNumberedMethod, OtherNumberedClass, OtherNumberedBodies}
+use Rattle.program_laws.specs.Others.{Pairwise}
+use Rattle.program_laws.specs.Numbered.{NumberedCodes, OtherNumberedMethod, OtherNumberedClass, OtherNumberedBodies}
 use Rattle.fold_kept.proofs.Few.{few_members}
 use Rattle.splice.specs.declared.callee.Callee.{Callee}
 use Rattle.splice.specs.Callees.{chosen_at, taken_by}

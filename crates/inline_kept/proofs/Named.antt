@@ -24,12 +24,12 @@ use Rattle.pass_defs.specs.Typed.{IsTyped}
 use Rattle.pass_defs.specs.Walks.{form_at, IsReached}
 use Rattle.pass_defs.specs.Inlined.{callee_of, is_among, callee_at, taken_by, inlined}
 use Rattle.pass_defs.specs.Inlined as by_name
-use Rattle.silence_law.specs.Results.{TakesInPlace}
-use Rattle.silence_law.proofs.WellFormed.{well_placed}
-use Rattle.bodies_law.specs.Others.{OtherBodies}
-use Rattle.bodies_law.specs.Numbered.{OtherNumberedBodies}
-use Rattle.bodies_law.proofs.Found.{others_found}
-use Rattle.bodies_law.proofs.Named.{others_named}
+use Rattle.program_laws.specs.Results.{TakesInPlace}
+use Rattle.program_laws.proofs.WellFormed.{well_placed}
+use Rattle.program_laws.specs.Others.{OtherBodies}
+use Rattle.program_laws.specs.Numbered.{OtherNumberedBodies}
+use Rattle.program_laws.proofs.Found.{others_found}
+use Rattle.program_laws.proofs.Named.{others_named}
 use Rattle.removal_law.proofs.CallsLeft.{body_in}
 use Rattle.removal_law.proofs.Lists.{contained}
 use Rattle.stuck_law.proofs.Here.{into_map}

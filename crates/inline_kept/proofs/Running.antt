@@ -86,7 +86,7 @@ use Rattle.cover_law.specs.States.{covered_states}
 use Rattle.value_law.specs.Operators.{operators}
 use Rattle.callee_law.proofs.Unread.{unread}
 use Rattle.inline_law.specs.Entered.{Enterable, Statically, Directly, AreEnterable, FactsHold}
-use Rattle.bodies_law.specs.Numbered.{OtherNumberedBodies}
+use Rattle.program_laws.specs.Numbered.{OtherNumberedBodies}
 use Rattle.fold_bridge.specs.Folds.{AreNamed, StandsAt}
 use Rattle.fold_bridge.proofs.Covered.{one_more, covered_calm}
 use Rattle.splice.specs.declared.callee.Callee.{Callee}

@@ -15,8 +15,8 @@ use Rattle.dalvik_defs.specs.declared.tables.Floats.{Floats}
 use Rattle.dalvik_defs.specs.declared.tables.Framework.{Framework}
 use Rattle.pass_defs.specs.Facts as by_name
 use Rattle.pass_defs.specs.Typed.{IsTyped}
-use Rattle.bodies_law.specs.Numbered.{OtherNumberedBodies}
-use Rattle.bodies_law.proofs.Faces.{others_face}
+use Rattle.program_laws.specs.Numbered.{OtherNumberedBodies}
+use Rattle.program_laws.proofs.Faces.{others_face}
 use Rattle.removal_law.specs.Reach.{IsAcyclic}
 use Rattle.removal_bridge.proofs.Formed as upright
 use Rattle.run_facts.specs.ValueAnalysis.{value_analysis}

@@ -36,10 +36,10 @@ use Rattle.removal_law.specs.Left.{In, here, there}
 use Rattle.removal_law.specs.Reach.{ShutsHold}
 use Rattle.removal_law.proofs.Outward.{any_here}
 use Rattle.removal_law.proofs.ShutLeft.{any_code, some_code}
-use Rattle.bodies_law.specs.Others.{OtherMethod, OtherClass}
-use Rattle.bodies_law.specs.Numbered.{OtherNumberedBodies}
-use Rattle.shut_law.specs.Said.{Said, Quiet, said}
-use Rattle.shut_law.proofs.Changed.{partner, other_holds}
+use Rattle.program_laws.specs.Others.{OtherMethod, OtherClass}
+use Rattle.program_laws.specs.Numbered.{OtherNumberedBodies}
+use Rattle.program_laws.specs.Said.{Said, Quiet, said}
+use Rattle.program_laws.proofs.Changed.{partner, other_holds}
 use Rattle.splice_bridge.specs.Copied.{accepted_by}
 use Rattle.inline_kept.specs.Spliced.{SplicesSo}
 use Rattle.inline_kept.proofs.Named.{SplicesNamed, NoCode, Same, Spliced, named_others, site_there}

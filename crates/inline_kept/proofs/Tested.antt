@@ -41,9 +41,9 @@ use Rattle.type_bridge.proofs.Bodies.{IsCode, code}
 use Rattle.type_bridge.proofs.Judged.{table, typing_named}
 use Rattle.type_bridge.proofs.Grounds.{IsSet}
 use Rattle.type_bridge.proofs.Programs.{program, ground}
-use Rattle.bodies_law.specs.Numbered.{OtherNumberedMethod, OtherNumberedBodies}
-use Rattle.bodies_law.proofs.Named.{others_named}
-use Rattle.bodies_law.proofs.Typed.{others_typed}
+use Rattle.program_laws.specs.Numbered.{OtherNumberedMethod, OtherNumberedBodies}
+use Rattle.program_laws.proofs.Named.{others_named}
+use Rattle.program_laws.proofs.Typed.{others_typed}
 use Rattle.stuck_law.specs.Regular.{IsRegular}
 use Rattle.stuck_law.proofs.Here.{into_map}
 use Rattle.stuck_bridge.proofs.Formed.{regular_program}

@@ -23,7 +23,7 @@ ghost use Rattle.premises.specs.Numbers.{AllHaveWords};
 ghost use Rattle.closed_bridge.specs.Names.{named_facts};
 ghost use Rattle.fold_bridge.specs.Folds.{AreNamed};
 ghost use Rattle.fold_kept.specs.Kept.{IsKeptFor};
-ghost use Rattle.bodies_law.specs.Numbered.{OtherNumberedBodies};
+ghost use Rattle.program_laws.specs.Numbered.{OtherNumberedBodies};
 ghost use Rattle.inline_calls.specs.Asked.{Row};
 ghost use Rattle.inline_calls.specs.Plans.{IsInlined};
 ghost use Rattle.stay_law.specs.Stays.{StaysInlined};

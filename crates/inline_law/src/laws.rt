@@ -18,7 +18,7 @@ ghost use Rattle.dalvik_defs.specs.declared.tables.Framework.{Framework};
 ghost use Rattle.pass_defs.specs.Kinds.{Kind};
 ghost use Rattle.pass_defs.specs.Demands.{meets, passed};
 ghost use Rattle.pass_defs.specs.Typed.{words_of};
-ghost use Rattle.bodies_law.specs.Others.{OtherBodies};
+ghost use Rattle.program_laws.specs.Others.{OtherBodies};
 ghost use Rattle.inline_law.specs.Inlining.{Passes};
 ghost use Rattle.inline_law.specs.Entered.{AcceptedIn, AreEnterable, FactsHold, sites_of};
 ghost use Rattle.inline_law.specs.Programs.{Inlines, IsInlining};

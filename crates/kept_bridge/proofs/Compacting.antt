@@ -17,8 +17,8 @@ use Rattle.program_model.specs.declared.body.Body.{Body}
 use Rattle.program_model.specs.declared.program.Class.{Class}
 use Rattle.program_model.specs.declared.program.Method.{Method}
 use Rattle.program_model.specs.declared.program.Program.{Program}
-use Rattle.silence_law.proofs.Lists.{and_left}
-use Rattle.bodies_law.specs.Others.{Pairwise}
+use Rattle.program_laws.proofs.ChangedLists.{and_left}
+use Rattle.program_laws.specs.Others.{Pairwise}
 use Rattle.form_laws.proofs.Asked.{any_front, any_back}
 use Rattle.form_laws.proofs.Operands.{either, reads_below, writes_below}
 use Rattle.insn_regs.specs.Remade.{remade}

@@ -17,7 +17,7 @@ use Rattle.dalvik_defs.specs.declared.forms.Form.{Form}
 use Rattle.dalvik_defs.specs.declared.names.MethodKey.{MethodKey}
 use Rattle.pass_defs.specs.Bare.{reads, writes}
 use Rattle.pass_defs.specs.Walks.{form_at, IsRead}
-use Rattle.silence_law.proofs.Lists.{and_left, and_both}
+use Rattle.program_laws.proofs.ChangedLists.{and_left, and_both}
 use Rattle.form_laws.specs.Kinds.{HasNarrowClass}
 use Rattle.form_laws.specs.Solid.{HasRoom}
 use Rattle.form_laws.proofs.Reading.{reads_some}

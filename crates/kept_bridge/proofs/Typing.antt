@@ -10,8 +10,8 @@ use Rattle.dalvik_defs.specs.declared.program.NamedBody.{NamedBody}
 use Rattle.dalvik_defs.specs.declared.program.NamedClass.{NamedClass}
 use Rattle.dalvik_defs.specs.declared.program.NamedMethod.{NamedMethod}
 use Rattle.pass_defs.specs.Typed.{argument_kinds, Table, IsTyping, IsTyped}
-use Rattle.bodies_law.proofs.Named.{others_named}
-use Rattle.bodies_law.proofs.Typed.{others_typed}
+use Rattle.program_laws.proofs.Named.{others_named}
+use Rattle.program_laws.proofs.Typed.{others_typed}
 use Rattle.form_laws.proofs.WellFormed.{well_formed_solid}
 use Rattle.form_laws.specs.TypedRegisters.{IsTypedRenamed}
 use Rattle.form_laws.proofs.TypedRenaming.{table, typed_renamed}

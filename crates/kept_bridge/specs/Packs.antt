@@ -7,7 +7,7 @@ use Rattle.form_laws.specs.Kinds.{HasNarrowClass}
 use Rattle.form_laws.specs.Solid.{HasRoom}
 use Rattle.form_laws.specs.Renamed.{IsRenamed}
 use Rattle.form_laws.specs.TypedRegisters.{Marks}
-use Rattle.bodies_law.specs.Others.{Codes}
+use Rattle.program_laws.specs.Others.{Codes}
 
 -- a body with other registers, a test of what is read of its own, and no call of a method of a wide type
 pub record PacksTo (b d : NamedBody) : Type 0 where

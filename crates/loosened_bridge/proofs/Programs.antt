@@ -20,7 +20,7 @@ use Rattle.dalvik_defs.specs.declared.program.NamedClass.{NamedClass}
 use Rattle.dalvik_defs.specs.declared.program.NamedMethod.{NamedMethod}
 use Rattle.dalvik_defs.specs.declared.program.NamedProgram.{NamedProgram}
 use Rattle.dalvik_defs.proofs.Calm.{text_sound}
-use Rattle.bodies_law.specs.Others.{Pairwise}
+use Rattle.program_laws.specs.Others.{Pairwise}
 use Rattle.name_bridge.proofs.Above.{own_place}
 use Rattle.name_bridge.proofs.Tables.{Sound, type_once}
 use Rattle.pass_defs.specs.Loose.{static_class, staticised}
@@ -28,7 +28,7 @@ use Rattle.removal_law.specs.Left.{In, here, there}
 use Rattle.removal_law.proofs.Lists.{contained}
 use Rattle.removal_law.proofs.Trees.{class_in}
 use Rattle.removal_law.proofs.Walks.{text_same as text_itself}
-use Rattle.remade_law.specs.Remade.{Remethod, SameMethods, class_remade, remade}
+use Rattle.program_laws.specs.Remade.{Remethod, SameMethods, class_remade, remade}
 use Rattle.stuck_law.proofs.Here.{into_map}
 use Rattle.stuck_bridge.proofs.Listed.{Image, image}
 use Rattle.loosened_bridge.specs.Edited.{EditedClass, IsEdited, IsPlanned, loose_in, method_edited}

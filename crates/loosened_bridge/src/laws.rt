@@ -19,7 +19,7 @@ ghost use Rattle.dalvik_defs.specs.declared.program.NamedBody.{NamedBody};
 ghost use Rattle.pass_defs.specs.Loose.{concerns, is_plain_call, staticised};
 ghost use Rattle.pass_defs.specs.Numbered.{tables_of};
 ghost use Rattle.pass_defs.specs.Walks.{form_at};
-ghost use Rattle.remade_law.specs.Remade.{Remethod, SameMethods, remade};
+ghost use Rattle.program_laws.specs.Remade.{Remethod, SameMethods, remade};
 ghost use Rattle.static_names.specs.Static.{IsApart, MayBeStatic, has_receiver};
 ghost use Rattle.loosened_bridge.specs.Candidates.{IsCandidate};
 ghost use Rattle.loosened_bridge.specs.Edited.{IsEdited, IsOwn, IsPlanned, LetsClass, loose_in, target_of};

@@ -17,8 +17,8 @@ use Rattle.program_model.specs.declared.body.Body.{Body}
 use Rattle.program_model.specs.declared.body.Handler.{Handler}
 use Rattle.program_model.specs.declared.body.Region.{Region}
 use Rattle.program_model.specs.declared.program.Program.{Program}
-use Rattle.silence_law.proofs.Lists.{and_left, and_both}
-use Rattle.bodies_law.specs.Others.{Pairwise}
+use Rattle.program_laws.proofs.ChangedLists.{and_left, and_both}
+use Rattle.program_laws.specs.Others.{Pairwise}
 use Rattle.formed_law.proofs.Pairs.{length_pairs, order_pairs, sum_pairs}
 use Rattle.place_rules.specs.Rewritten.{IsRewritten, RewritesBody}
 use Rattle.place_rules.proofs.Shapes.{same_targets, same_goes_on, same_begin, same_enter, same_leaves, same_caught, same_entries, same_numbers, same_follow}

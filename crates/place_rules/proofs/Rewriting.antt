@@ -17,8 +17,8 @@ use Rattle.program_model.specs.declared.body.Body.{Body}
 use Rattle.program_model.specs.declared.program.Method.{Method}
 use Rattle.program_model.specs.declared.program.Class.{Class}
 use Rattle.program_model.specs.declared.program.Program.{Program}
-use Rattle.silence_law.proofs.Lists.{and_left, and_both}
-use Rattle.bodies_law.specs.Others.{Pairwise}
+use Rattle.program_laws.proofs.ChangedLists.{and_left, and_both}
+use Rattle.program_laws.specs.Others.{Pairwise}
 use Rattle.formed_law.specs.Recoded.{Recodes, RecodedMethod, Untouched as StillUntouched, Recoded, RecodedClass, RecodedProgram}
 use Rattle.formed_law.proofs.Formed.{recoded_formed}
 use Rattle.place_rules.specs.Rewritten.{RewritesBody, RewrittenMethod, Untouched, Rewritten, RewrittenClass, RewrittenProgram}

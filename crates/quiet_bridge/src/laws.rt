@@ -4,7 +4,7 @@ ghost use Rattle.std.specs.Prelude.{◌≡◌, Bool, true, List};
 ghost use Rattle.program_model.specs.ProgramRules.{is_well_formed};
 ghost use Rattle.program_model.specs.declared.pass.Changed.{Changed};
 ghost use Rattle.program_model.specs.declared.program.Program.{Program};
-ghost use Rattle.bodies_law.specs.Numbered.{OtherNumberedBodies};
+ghost use Rattle.program_laws.specs.Numbered.{OtherNumberedBodies};
 ghost use Rattle.facts.specs.declared.facts.Facts.{Facts};
 ghost use Rattle.quiet_code.specs.Quieted.{IsQuieted};
 ghost use Rattle.quiet_bridge.specs.Nopped.{QuietedCode};

@@ -26,8 +26,8 @@ use Rattle.dalvik_defs.specs.declared.program.NamedProgram.{NamedProgram}
 use Rattle.dalvik_defs.specs.declared.tables.Floats.{Floats}
 use Rattle.domains.specs.Values.{Parts, value_holds, known_of, known_wide_of}
 use Rattle.value_ops.specs.Left.{is_nothing}
-use Rattle.frame_laws.specs.Agree.{Agree}
-use Rattle.frame_laws.proofs.Agree.{agree_on, agree_write}
+use Rattle.program_laws.specs.Agree.{Agree}
+use Rattle.program_laws.proofs.Agree.{agree_on, agree_write}
 use Rattle.lemmas.proofs.Bools.{not_true, or_cases, or_false_left, or_false_right}
 use Rattle.stuck_law.proofs.Forms.{sort_divides, sort_throws, divides_op, literal_divides}
 use Rattle.run_facts.specs.ValueAnalysis.{datum_of}

@@ -41,9 +41,9 @@ use Rattle.premises.specs.Plain.{ListsPlainly}
 use Rattle.closed_bridge.specs.Names.{named_facts, values}
 use Rattle.closed_bridge.proofs.Closing.{closed_named}
 use Rattle.closed_bridge.proofs.Making.{makers_named}
-use Rattle.bodies_law.specs.Others.{Pairwise}
-use Rattle.bodies_law.specs.Numbered.{NumberedCodes, OtherNumberedBodies, OtherNumberedClass, OtherNumberedMethod}
-use Rattle.frame_laws.specs.Alike.{gets_void}
+use Rattle.program_laws.specs.Others.{Pairwise}
+use Rattle.program_laws.specs.Numbered.{NumberedCodes, OtherNumberedBodies, OtherNumberedClass, OtherNumberedMethod}
+use Rattle.program_laws.specs.Alike.{gets_void}
 use Rattle.form_laws.specs.Solid.{IsSolid}
 use Rattle.form_laws.proofs.WellFormed.{well_formed_solid}
 use Rattle.receivers.specs.Receiving.{is_straight}

@@ -21,11 +21,11 @@ use Rattle.facts.specs.Lent.{frame_at}
 use Rattle.lemmas.proofs.Options.{none_some, some_same}
 use Rattle.pass_defs.specs.Quiet.{takes_result}
 use Rattle.pass_defs.specs.Walks.{form_at}
-use Rattle.silence_law.proofs.WellFormed.{well_placed}
+use Rattle.program_laws.proofs.WellFormed.{well_placed}
 use Rattle.stuck_law.proofs.Here.{into_map}
-use Rattle.bodies_law.specs.Others.{OtherBodies}
-use Rattle.bodies_law.specs.Numbered.{OtherNumberedBodies}
-use Rattle.bodies_law.proofs.Named.{others_named}
+use Rattle.program_laws.specs.Others.{OtherBodies}
+use Rattle.program_laws.specs.Numbered.{OtherNumberedBodies}
+use Rattle.program_laws.proofs.Named.{others_named}
 use Rattle.closed_bridge.proofs.Numbers.{IsNumber}
 use Rattle.closed_bridge.proofs.Places.{own_key}
 use Rattle.thin_bridge.proofs.Inside.{get_contains}

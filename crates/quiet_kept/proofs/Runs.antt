@@ -56,7 +56,7 @@ use Rattle.cover_law.proofs.Suits.{suits}
 use Rattle.cover_law.proofs.Waiting.{formed}
 use Rattle.cover_law.proofs.Along.{Suits}
 use Rattle.cover_law.proofs.Widths.{ranged_moves}
-use Rattle.frame_laws.specs.Agree.{Agree}
+use Rattle.program_laws.specs.Agree.{Agree}
 use Rattle.quiet_methods.specs.Forms.{is_no_zero}
 use Rattle.quiet_methods.specs.Quiet.{IsCode, AreQuiet}
 use Rattle.quiet_methods.specs.Falling.{rank_of}

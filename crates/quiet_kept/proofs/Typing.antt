@@ -50,19 +50,19 @@ use Rattle.pass_defs.specs.Registers.{Kinds, kind_at}
 use Rattle.pass_defs.specs.Typed.{Table, IsTyping, IsTyped, after, called, constructed, is_static_call, is_wrong, receiver_register, state_at}
 use Rattle.pass_defs.specs.Walks.{form_at, onward}
 use Rattle.pass_defs.specs.Walks as by_name
-use Rattle.silence_law.specs.Results.{takes_none, TakesInPlace}
-use Rattle.silence_law.proofs.Raised.{raised, silent_typing}
-use Rattle.bodies_law.specs.Others.{OtherBodies}
-use Rattle.bodies_law.specs.Numbered.{OtherNumberedBodies}
-use Rattle.bodies_law.proofs.Named.{others_named}
-use Rattle.bodies_law.proofs.Typed.{others_typed}
-use Rattle.frame_laws.proofs.Walks.{goes_next, goes_onward}
+use Rattle.program_laws.specs.Results.{takes_none, TakesInPlace}
+use Rattle.program_laws.proofs.Raised.{raised, silent_typing}
+use Rattle.program_laws.specs.Others.{OtherBodies}
+use Rattle.program_laws.specs.Numbered.{OtherNumberedBodies}
+use Rattle.program_laws.proofs.Named.{others_named}
+use Rattle.program_laws.proofs.Typed.{others_typed}
+use Rattle.program_laws.proofs.Walks.{goes_next, goes_onward}
 use Rattle.walk_bridge.proofs.Formed.{form_there}
 use Rattle.walk_bridge.proofs.Walked.{read_after_by_number, read_by_number}
 use Rattle.dead_bridge.specs.Veiled.{or_nop, emptied_forms, emptied, veiled_table}
 use Rattle.dead_bridge.proofs.Plain.{pure_keeps}
 use Rattle.receivers.specs.Receiving.{interface_at, is_overridden}
-use Rattle.silence_law.proofs.WellFormed.{well_placed}
+use Rattle.program_laws.proofs.WellFormed.{well_placed}
 use Rattle.quiet_code.specs.Calls.{is_init, is_constructor, is_quiet_target, is_quiet_found, is_quiet_named, is_quiet_for_all, is_quiet_under, is_quiet_virtual, is_idle_call, has_object}
 use Rattle.quiet_code.specs.Idle.{DoesNothing, IsIdle, LiveIn, is_division, is_small}
 use Rattle.quiet_code.specs.Idle as number

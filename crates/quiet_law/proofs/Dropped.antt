@@ -30,11 +30,11 @@ use Rattle.pass_defs.specs.Pure.{is_pure}
 use Rattle.pass_defs.specs.Thinned.{Fate, thinned}
 use Rattle.pass_defs.specs.Remade.{retargeted}
 use Rattle.pass_defs.specs.Walks.{form_at, IsRead, IsReadAfter}
-use Rattle.silence_law.specs.Results.{gives_result}
-use Rattle.bodies_law.specs.Others.{Codes, OtherBodies}
-use Rattle.bodies_law.proofs.Faces.{others_face}
-use Rattle.bodies_law.proofs.Found.{others_found}
-use Rattle.frame_laws.proofs.Walks.{goes_next, goes_onward}
+use Rattle.program_laws.specs.Results.{gives_result}
+use Rattle.program_laws.specs.Others.{Codes, OtherBodies}
+use Rattle.program_laws.proofs.Faces.{others_face}
+use Rattle.program_laws.proofs.Found.{others_found}
+use Rattle.program_laws.proofs.Walks.{goes_next, goes_onward}
 use Rattle.thin_law.specs.Thin.{IsNeed, IsThin, AreThin, Neither, Both, Went, Past, Stood, Emptied}
 use Rattle.thin_law.specs.Fates.{MayGo, AreFates}
 use Rattle.thin_law.specs.Cleaning.{IsTaken, Drops, IsDropped, Skipped, Unread, IsSound}

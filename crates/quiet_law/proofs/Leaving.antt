@@ -18,8 +18,8 @@ use Rattle.insn_set.specs.declared.ops.InvokeKind.{InvokeKind}
 use Rattle.pass_defs.specs.Bare.{writes}
 use Rattle.pass_defs.specs.Quiet.{takes_result}
 use Rattle.pass_defs.specs.Walks.{form_at, onward, caught}
-use Rattle.silence_law.specs.Results.{gives_result, takes_none, TakesInPlace}
-use Rattle.frame_laws.proofs.Agree.{agree_refl}
+use Rattle.program_laws.specs.Results.{gives_result, takes_none, TakesInPlace}
+use Rattle.program_laws.proofs.Agree.{agree_refl}
 use Rattle.thin_law.specs.Cleaning.{IsTaken, Takes, Leads, Catches}
 use Rattle.thin_law.proofs.Thinning.{Leaps}
 use Rattle.quiet_law.specs.Calls.{Rank, EntersQuietly, Gone, QuietRuns}

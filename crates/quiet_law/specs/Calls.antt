@@ -24,8 +24,8 @@ use Rattle.pass_defs.specs.Bare.{writes, continues}
 use Rattle.pass_defs.specs.Quiet.{takes_result}
 use Rattle.pass_defs.specs.Thinned.{Fate, stays}
 use Rattle.pass_defs.specs.Walks.{form_at, IsReached, IsReadAfter}
-use Rattle.silence_law.specs.Results.{TakesInPlace, gives_result}
-use Rattle.frame_laws.specs.Agree.{Agree}
+use Rattle.program_laws.specs.Results.{TakesInPlace, gives_result}
+use Rattle.program_laws.specs.Agree.{Agree}
 use Rattle.thin_law.specs.Cleaning.{IsDropped}
 
 -- how far a position of a method is from the method's end, at most

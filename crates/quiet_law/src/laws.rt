@@ -12,7 +12,7 @@ ghost use Rattle.dalvik_defs.specs.declared.program.NamedProgram.{NamedProgram};
 ghost use Rattle.dalvik_defs.specs.declared.script.Move.{Move};
 ghost use Rattle.dalvik_defs.specs.declared.tables.Floats.{Floats};
 ghost use Rattle.dalvik_defs.specs.declared.tables.Framework.{Framework};
-ghost use Rattle.bodies_law.specs.Others.{OtherBodies};
+ghost use Rattle.program_laws.specs.Others.{OtherBodies};
 ghost use Rattle.thin_law.specs.Cleaning.{IsSound};
 ghost use Rattle.thin_law.specs.Thins.{Thins};
 ghost use Rattle.quiet_law.specs.Calls.{Rank, QuietRuns, IsQuietCleaning};

@@ -29,9 +29,9 @@ use Rattle.lemmas.proofs.Options.{before_map, none_some, some_same}
 use Rattle.pass_defs.specs.Facts as by_name
 use Rattle.pass_defs.specs.Typed.{IsTyped}
 use Rattle.pass_defs.specs.Walks.{form_at}
-use Rattle.bodies_law.specs.Others.{OtherBodies}
-use Rattle.bodies_law.specs.Numbered.{OtherNumberedBodies}
-use Rattle.bodies_law.proofs.Named.{others_named}
+use Rattle.program_laws.specs.Others.{OtherBodies}
+use Rattle.program_laws.specs.Numbered.{OtherNumberedBodies}
+use Rattle.program_laws.proofs.Named.{others_named}
 use Rattle.removal_law.specs.Reach.{IsAcyclic}
 use Rattle.removal_bridge.proofs.Formed as upright
 use Rattle.run_facts.specs.ValueAnalysis.{value_analysis}

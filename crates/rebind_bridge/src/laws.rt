@@ -16,7 +16,7 @@ ghost use Rattle.facts.specs.Lent.{frame_at};
 ghost use Rattle.facts.specs.declared.facts.Facts.{Facts};
 ghost use Rattle.pass_defs.specs.Facts as by_name;
 ghost use Rattle.pass_defs.specs.Typed.{IsTyped};
-ghost use Rattle.bodies_law.specs.Numbered.{OtherNumberedBodies};
+ghost use Rattle.program_laws.specs.Numbered.{OtherNumberedBodies};
 ghost use Rattle.run_facts.specs.ValueAnalysis.{value_analysis};
 ghost use Rattle.cover_law.specs.Coverable.{IsTabled};
 ghost use Rattle.value_law.specs.Operators.{operators};

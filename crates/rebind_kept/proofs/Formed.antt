@@ -18,7 +18,7 @@ use Rattle.program_model.specs.Cells.{entries_of, body_cells}
 use Rattle.program_model.specs.declared.body.Body.{Body}
 use Rattle.program_model.specs.declared.program.Program.{Program}
 use Rattle.lemmas.proofs.Bools.{and_left, and_right, and_both}
-use Rattle.bodies_law.specs.Others.{Pairwise}
+use Rattle.program_laws.specs.Others.{Pairwise}
 use Rattle.formed_law.proofs.Pairs.{length_pairs}
 
 -- a call becomes another one, of a method of the table, with the same registers

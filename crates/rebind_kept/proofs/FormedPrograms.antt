@@ -28,7 +28,7 @@ use Rattle.verify.specs.Typings.{Table}
 use Rattle.lemmas.proofs.Bools.{and_left, and_right}
 use Rattle.lemmas.proofs.Lists.{all_at, got_short}
 use Rattle.lemmas.proofs.Options.{none_some, some_same}
-use Rattle.bodies_law.specs.Others.{Pairwise}
+use Rattle.program_laws.specs.Others.{Pairwise}
 use Rattle.formed_law.specs.Recoded.{Recodes, RecodedMethod, Untouched, Recoded, RecodedClass}
 use Rattle.formed_law.proofs.Formed.{recoded_formed}
 use Rattle.rewrite_pass.specs.declared.edit.Edit.{Edit}

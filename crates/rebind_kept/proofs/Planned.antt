@@ -20,8 +20,8 @@ use Rattle.hierarchy.specs.declared.build.Hierarchy.{Hierarchy}
 use Rattle.verify.specs.Typings.{Table}
 use Rattle.lemmas.proofs.Lists.{got_short}
 use Rattle.lemmas.proofs.Options.{none_some}
-use Rattle.bodies_law.specs.Others.{Pairwise}
-use Rattle.bodies_law.specs.Numbered.{OtherNumberedMethod, OtherNumberedClass, OtherNumberedBodies}
+use Rattle.program_laws.specs.Others.{Pairwise}
+use Rattle.program_laws.specs.Numbered.{OtherNumberedMethod, OtherNumberedClass, OtherNumberedBodies}
 use Rattle.rewrite_pass.specs.declared.edit.Edit.{Edit}
 use Rattle.rewrite_pass.specs.Plans.{edited, body_edited, code_edited, method_by, each_by, class_by, program_by, word, HasEdits, HasPlan, IsPlan}
 use Rattle.devirt.specs.Rebound.{IsRebindingOf, IsRebinding, AreRebindings, AreRebindingsIn, IsJudged, IsReboundBy, edits_of, typed_edits, is_any_open}

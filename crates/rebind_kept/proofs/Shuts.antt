@@ -29,7 +29,7 @@ use Rattle.name_bridge.proofs.Tables.{method_class, method_is}
 use Rattle.removal_law.specs.Left.{In, here, there}
 use Rattle.removal_law.specs.Reach.{ShutsHold}
 use Rattle.rewrite_pass.specs.declared.edit.Edit.{Edit}
-use Rattle.shut_law.specs.Said.{Quiet, Calls}
+use Rattle.program_laws.specs.Said.{Quiet, Calls}
 use Rattle.shut_bridge.proofs.Rewritten.{IsQuiet, rewritten_keeps}
 use Rattle.verify.specs.Typings.{Table}
 use Rattle.devirt.specs.Rebound.{IsRebinding, AreRebindings, AreRebindingsIn, IsReboundBy}

@@ -42,10 +42,10 @@ use Rattle.cover_law.specs.Coverable.{IsCoverable}
 use Rattle.stuck_law.specs.Regular.{IsRegular}
 use Rattle.stuck_law.specs.TypedStates.{typed_states}
 use Rattle.stuck_law.proofs.Climbs.{none_some, some_one}
-use Rattle.bodies_law.specs.Others.{OtherBodies}
-use Rattle.bodies_law.proofs.Faces.{others_face}
-use Rattle.bodies_law.proofs.Found.{others_found}
-use Rattle.bodies_law.proofs.Named.{others_weaker}
+use Rattle.program_laws.specs.Others.{OtherBodies}
+use Rattle.program_laws.proofs.Faces.{others_face}
+use Rattle.program_laws.proofs.Found.{others_found}
+use Rattle.program_laws.proofs.Named.{others_weaker}
 use Rattle.rebind_law.specs.Rebinding.{FindBoth, Rebinds, Becomes, Same, Other, IsRebound, AreRebound}
 use Rattle.rebind_law.specs.Receivers.{BoundByPlaces}
 use Rattle.rebind_law.specs.Retyping.{Retypes, IsRetyped, Retyped}

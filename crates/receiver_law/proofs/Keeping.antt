@@ -39,7 +39,7 @@ use Rattle.invariant_law.specs.Invariant.{Invariant}
 use Rattle.invariant_law.proofs.Invariants.{Entered, Landed, holds_after, opens_with}
 use Rattle.invariant_law.proofs.Plain.{grown, LeadsPlainly, KeptPlainly, keeps_plainly}
 use Rattle.removal_law.specs.Reach.{IsAcyclic}
-use Rattle.silence_law.proofs.Heads.{plain_same, under_same, finds_at_same}
+use Rattle.program_laws.proofs.Heads.{plain_same, under_same, finds_at_same}
 use Rattle.stuck_law.specs.Regular.{IsRegular}
 use Rattle.stuck_law.specs.TypedStates.{TypedFrame, TypedWorld, typed_states}
 use Rattle.stuck_law.proofs.Climbs.{class_in, name_of, none_some, some_one, plain_defined}

@@ -14,11 +14,11 @@ use Rattle.dalvik_defs.specs.declared.program.NamedProgram.{NamedProgram}
 use Rattle.dalvik_defs.specs.declared.state.Frame.{Frame}
 use Rattle.dalvik_defs.specs.declared.state.Value.{Value}
 use Rattle.dalvik_defs.specs.declared.tables.Framework.{Framework}
-use Rattle.silence_law.specs.Bodies.{KeepsCode}
-use Rattle.bodies_law.specs.Others.{Codes, OtherBodies}
-use Rattle.bodies_law.proofs.Faces.{others_face}
-use Rattle.bodies_law.proofs.Found.{others_found}
-use Rattle.bodies_law.proofs.Named.{others_changed}
+use Rattle.program_laws.specs.Bodies.{KeepsCode}
+use Rattle.program_laws.specs.Others.{Codes, OtherBodies}
+use Rattle.program_laws.proofs.Faces.{others_face}
+use Rattle.program_laws.proofs.Found.{others_found}
+use Rattle.program_laws.proofs.Named.{others_changed}
 use Rattle.receiver_law.specs.Asking.{Asks, asking, asking_from, asking_body, asking_change, asking_program, no_name}
 
 pub at_from : (name : Text) (asks : ℕ → Option Text) (n k : ℕ) (fs : List Form) → slice_get (asking_from name asks n fs) k ≡ option_map (asking name (asks (n + k))) (slice_get fs k)

@@ -26,14 +26,14 @@ use Rattle.pass_defs.proofs.Writes.{itself_below}
 use Rattle.invariant_law.specs.Holds.{Each}
 use Rattle.removal_law.specs.Left.{In}
 use Rattle.removal_law.specs.Reach.{IsAcyclic}
-use Rattle.silence_law.specs.Bodies.{Change, class_changed, method_changed}
-use Rattle.silence_law.proofs.Heads.{class_same, at_class, plain_same, under_same, method_same}
-use Rattle.silence_law.proofs.Moved.{image}
+use Rattle.program_laws.specs.Bodies.{Change, class_changed, method_changed}
+use Rattle.program_laws.proofs.Heads.{class_same, at_class, plain_same, under_same, method_same}
+use Rattle.program_laws.proofs.Moved.{image}
 use Rattle.stuck_law.specs.Regular.{IsRegular, InterfacesStandFree, taken, reads_value, suits}
 use Rattle.stuck_law.proofs.Climbs.{none_some, some_one, plain_defined}
 use Rattle.stuck_law.proofs.Sorts.{class_alone, not_word}
-use Rattle.bodies_law.specs.Others.{OtherBodies}
-use Rattle.bodies_law.proofs.Named.{others_changed}
+use Rattle.program_laws.specs.Others.{OtherBodies}
+use Rattle.program_laws.proofs.Named.{others_changed}
 use Rattle.rebind_law.specs.Retyping.{Retypes, IsRetyped, Retyped, NoCode, Changed}
 use Rattle.rebind_law.proofs.Retyping.{retyped_program}
 use Rattle.receiver_law.specs.Asking.{Asks, asking, asking_key, asking_from, asking_body, asking_change, asking_program, no_name, AskedCall, KnowsReceivers, AreAsked}

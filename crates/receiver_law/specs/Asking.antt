@@ -21,7 +21,7 @@ use Rattle.pass_defs.specs.Kinds.{Class, is_plain}
 use Rattle.pass_defs.specs.Registers.{Kinds, kind_at}
 use Rattle.pass_defs.specs.Typed.{Table, state_at, IsTyping}
 use Rattle.pass_defs.specs.Walks.{form_at}
-use Rattle.silence_law.specs.Bodies.{Change, same_lines, changed}
+use Rattle.program_laws.specs.Bodies.{Change, same_lines, changed}
 use Rattle.rebind_law.specs.Receivers.{finds_listed}
 
 -- the class that the call at a position of a method asks for

@@ -10,7 +10,7 @@ ghost use Rattle.dalvik_defs.specs.declared.tables.Framework.{Framework};
 ghost use Rattle.domains.specs.Values.{Parts};
 ghost use Rattle.pass_defs.specs.Facts.{Facts};
 ghost use Rattle.pass_defs.specs.Typed.{IsTyped};
-ghost use Rattle.bodies_law.specs.Others.{OtherBodies};
+ghost use Rattle.program_laws.specs.Others.{OtherBodies};
 ghost use Rattle.run_facts.specs.ValueAnalysis.{Numbers, value_analysis};
 ghost use Rattle.removal_law.specs.Reach.{IsAcyclic};
 ghost use Rattle.stuck_law.specs.Regular.{IsRegular};

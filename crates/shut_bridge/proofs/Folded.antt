@@ -19,7 +19,7 @@ use Rattle.hierarchy.specs.declared.build.Hierarchy.{Hierarchy}
 use Rattle.removal_law.proofs.Lists.{clash}
 use Rattle.removal_law.specs.Left.{In, here, there}
 use Rattle.removal_law.specs.Reach.{ShutsHold}
-use Rattle.shut_law.specs.Said.{Quiet, said}
+use Rattle.program_laws.specs.Said.{Quiet, said}
 use Rattle.rewrite_pass.specs.declared.edit.Edit.{Edit}
 use Rattle.const_prop.specs.declared.choices.Way.{Way}
 use Rattle.const_prop.specs.declared.choices.Way.TheVariants.{Open, Next, To}

@@ -14,12 +14,12 @@ use Rattle.dalvik_defs.specs.declared.names.MethodKey.{MethodKey}
 use Rattle.pass_defs.specs.Thinned.{body_thinned}
 use Rattle.pass_defs.proofs.Thinned.{named_thinned}
 use Rattle.removal_law.specs.Reach.{ShutsHold}
-use Rattle.bodies_law.specs.Numbered.{NumberedCodes, OtherNumberedBodies}
-use Rattle.bodies_law.proofs.Named.{others_named}
-use Rattle.shut_law.specs.Said.{said, SaysNoMore}
-use Rattle.shut_law.proofs.Changed.{shuts_kept}
-use Rattle.shut_law.proofs.Thinned.{thinned_says}
-use Rattle.shut_law.proofs.Numbered.{alike_says, mapped_says}
+use Rattle.program_laws.specs.Numbered.{NumberedCodes, OtherNumberedBodies}
+use Rattle.program_laws.proofs.Named.{others_named}
+use Rattle.program_laws.specs.Said.{said, SaysNoMore}
+use Rattle.program_laws.proofs.Changed.{shuts_kept}
+use Rattle.program_laws.proofs.Thinned.{thinned_says}
+use Rattle.program_laws.proofs.Numbered.{alike_says, mapped_says}
 use Rattle.insn_regs.specs.Remade.{remade}
 use Rattle.body_edit.specs.declared.fate.Fate.{Fate}
 use Rattle.thin_pass.specs.Plans.{IsThinnedBy}

@@ -16,11 +16,11 @@ use Rattle.dalvik_defs.specs.Silence.{key_in}
 use Rattle.dalvik_defs.specs.declared.names.MethodKey.{MethodKey}
 use Rattle.removal_law.specs.Left.{In, here, there}
 use Rattle.removal_law.specs.Reach.{ShutsHold}
-use Rattle.bodies_law.specs.Others.{Pairwise}
-use Rattle.bodies_law.specs.Numbered.{OtherNumberedMethod, OtherNumberedClass, OtherNumberedBodies}
-use Rattle.shut_law.specs.Said.{Said, Quiet, said}
-use Rattle.shut_law.proofs.Numbered.{says, mapped}
-use Rattle.shut_law.proofs.Thinned.{or_rest, or_right}
+use Rattle.program_laws.specs.Others.{Pairwise}
+use Rattle.program_laws.specs.Numbered.{OtherNumberedMethod, OtherNumberedClass, OtherNumberedBodies}
+use Rattle.program_laws.specs.Said.{Said, Quiet, said}
+use Rattle.program_laws.proofs.Numbered.{says, mapped}
+use Rattle.program_laws.proofs.Thinned.{or_rest, or_right}
 use Rattle.rewrite_pass.specs.declared.edit.Edit.{Edit}
 use Rattle.rewrite_pass.specs.Plans.{edited, code_edited, method_by, each_by, class_by, word, HasEdits, HasPlan, IsRewrittenBy}
 use Rattle.shut_bridge.proofs.Passes.{SaysBy, by_number}

@@ -9,7 +9,7 @@ use Rattle.program_model.specs.declared.program.Program.{Program}
 use Rattle.dalvik_defs.specs.Naming.{form_of, method_at, named}
 use Rattle.dalvik_defs.specs.Under.{defines}
 use Rattle.insn_regs.specs.Remade.{remade}
-use Rattle.shut_law.specs.Said.{Quiet, Calls, said}
+use Rattle.program_laws.specs.Said.{Quiet, Calls, said}
 
 pub remade_said : (p : Program) (r w : ℕ → ℕ) (x : Insn) → said (named p) (form_of p (remade r w x)) ≡ said (named p) (form_of p x)
 remade_said p r w (insn.Invoke call.Virtual method args) = refl

@@ -11,7 +11,7 @@ ghost use Rattle.dalvik_defs.specs.Naming.{form_of, named};
 ghost use Rattle.dalvik_defs.specs.Outer.{Outer};
 ghost use Rattle.removal_law.specs.Left.{In};
 ghost use Rattle.removal_law.specs.Reach.{ShutsHold};
-ghost use Rattle.shut_law.specs.Said.{Quiet, said};
+ghost use Rattle.program_laws.specs.Said.{Quiet, said};
 ghost use Rattle.facts.specs.declared.facts.Facts.{Facts};
 ghost use Rattle.rewrite_pass.specs.declared.edit.Edit.{Edit};
 ghost use Rattle.rewrite_pass.specs.Plans.{IsRewrittenBy};

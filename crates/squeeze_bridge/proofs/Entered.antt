@@ -14,7 +14,7 @@ use Rattle.pass_defs.specs.Registers.{Kinds, all_below, kinds_below, state_below
 use Rattle.pass_defs.specs.Demands.{meets, demands, place_allowed, is_allowed}
 use Rattle.pass_defs.specs.Typed.{begun, Table, state_at, each, at_state, IsTyping}
 use Rattle.pass_defs.specs.Walks.{form_at}
-use Rattle.silence_law.proofs.Lists.{and_left}
+use Rattle.program_laws.proofs.ChangedLists.{and_left}
 
 first_of : (n : ℕ) (test : ℕ → Bool) → each (suc n) test ≡ true → test 0 ≡ true
 first_of zero test e = and_right true (test 0) e

@@ -13,9 +13,9 @@ use Rattle.dalvik_defs.specs.Naming.{form_of, body_of, named, named_class, named
 use Rattle.dalvik_defs.specs.Silence.{key_in}
 use Rattle.pass_defs.specs.Typed.{IsTyped}
 use Rattle.body_edit.specs.declared.fate.Fate.{Fate}
-use Rattle.bodies_law.specs.Numbered.{OtherNumberedBodies}
+use Rattle.program_laws.specs.Numbered.{OtherNumberedBodies}
 use Rattle.formed_law.proofs.Formed.{recoded_formed}
-use Rattle.kind_law.proofs.Transitive.{transitive}
+use Rattle.program_laws.proofs.Transitive.{transitive}
 use Rattle.thin_law.specs.Thins.{ThinsNumbered}
 use Rattle.thin_law.proofs.Programs.{named_thins}
 use Rattle.thin_types.specs.Squeezed.{Squeezes}

@@ -29,7 +29,7 @@ use Rattle.body_graph.specs.Walks as walk
 use Rattle.body_graph.specs.Graph.{covering}
 use Rattle.body_graph.proofs.Members.{get_inside}
 use Rattle.body_graph.proofs.Links.{step_on, step_caught}
-use Rattle.silence_law.proofs.Lists.{and_left, and_both}
+use Rattle.program_laws.proofs.ChangedLists.{and_left, and_both}
 use Rattle.thin_law.specs.Squeezing.{IsSkipped, Nop, Over}
 use Rattle.thin_types.specs.Squeezed.{SqueezesMarked}
 use Rattle.thin_pass.specs.Wishing.{wish_at, goes, is_to_go, is_held}

@@ -31,10 +31,10 @@ use Rattle.removal_law.specs.Reach.{TellsApart}
 use Rattle.removal_law.proofs.Declared.{method_sound, name_same}
 use Rattle.removal_law.proofs.Lists.{clash, contained, none_in}
 use Rattle.removal_law.proofs.Trees.{class_name}
-use Rattle.silence_law.proofs.Lists.{any_map}
-use Rattle.outer_law.specs.Shutting.{ShutsAlike, with_shut}
-use Rattle.remade_law.specs.Remade.{Remethod, SameMethods, class_remade, remade}
-use Rattle.remade_law.proofs.Remade.{class_same}
+use Rattle.program_laws.proofs.ChangedLists.{any_map}
+use Rattle.program_laws.specs.Shutting.{ShutsAlike, with_shut}
+use Rattle.program_laws.specs.Remade.{Remethod, SameMethods, class_remade, remade}
+use Rattle.program_laws.proofs.Remade.{class_same}
 use Rattle.static_names.specs.Static.{AreInTables, IsSound, MayAllBeStatic, made_static}
 use Rattle.static_names.proofs.Declared.{from_map, turned_static}
 use Rattle.static_names.proofs.Methods.{recalled, stays}

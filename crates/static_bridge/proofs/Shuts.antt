@@ -22,8 +22,8 @@ use Rattle.removal_law.specs.Reach.{IsRegular, NamesOnce, ShutsHold, TellsApart}
 use Rattle.removal_law.proofs.Declared.{method_same, method_sound}
 use Rattle.removal_law.proofs.Outward.{any_here, any_where}
 use Rattle.removal_law.proofs.Trees.{defined}
-use Rattle.outer_law.specs.Shutting.{ShutsAlike, with_shut}
-use Rattle.remade_law.specs.Remade.{Remethod, SameMethods, remade}
+use Rattle.program_laws.specs.Shutting.{ShutsAlike, with_shut}
+use Rattle.program_laws.specs.Remade.{Remethod, SameMethods, remade}
 use Rattle.static_names.specs.Static.{AreInTables, MayAllBeStatic}
 use Rattle.static_shut.specs.Shut.{WasShut, Stayed, Moved}
 use Rattle.static_shut.proofs.Holding.{still_hold}

@@ -33,9 +33,9 @@ use Rattle.removal_law.proofs.Trees.{defines_none}
 use Rattle.removal_bridge.proofs.Formed.{no_object, regular_program as upright_program}
 use Rattle.stuck_law.specs.Regular.{IsRegular}
 use Rattle.stuck_bridge.proofs.Formed as stuck
-use Rattle.remade_law.specs.Remade.{Remethod, SameMethods, remade}
-use Rattle.remade_law.proofs.Remade.{class_same, defines_same}
-use Rattle.remade_law.proofs.Order.{order_shown}
+use Rattle.program_laws.specs.Remade.{Remethod, SameMethods, remade}
+use Rattle.program_laws.proofs.Remade.{class_same, defines_same}
+use Rattle.program_laws.proofs.Order.{order_shown}
 use Rattle.static_names.specs.Receiving.{HoldNoNull, KnowsReceivers}
 use Rattle.static_names.specs.Static.{AreInTables, IsSound, MayAllBeStatic, NamesDescribed, made_static}
 use Rattle.static_names.proofs.Declared.{from_map}

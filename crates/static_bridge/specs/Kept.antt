@@ -11,7 +11,7 @@ use Rattle.dalvik_defs.specs.Under.{defines}
 use Rattle.pass_defs.specs.Typed.{IsTyped}
 use Rattle.removal_law.specs.Reach.{ShutsHold}
 use Rattle.hierarchy.specs.Splitting.{NoSplit}
-use Rattle.outer_law.specs.Shutting.{ShutsAlike, with_shut}
+use Rattle.program_laws.specs.Shutting.{ShutsAlike, with_shut}
 
 -- It is typed and shows the same for this outside, its class graph has no fault, and it defines no more classes. By the tables of
 -- both programs the outside names the same but for silent and shut methods, and shuts the same of the virtual methods that are left. Where

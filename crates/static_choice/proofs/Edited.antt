@@ -19,7 +19,7 @@ use Rattle.program_model.specs.declared.value.Mark.{Mark}
 use Rattle.class_defs.specs.ClassGraph.{IsTwice}
 use Rattle.class_defs.specs.Finding.{resolves_method}
 use Rattle.class_defs.proofs.WellFormed.{Sound}
-use Rattle.bodies_law.specs.Others.{Pairwise}
+use Rattle.program_laws.specs.Others.{Pairwise}
 use Rattle.facts.specs.declared.facts.Facts.{Facts}
 use Rattle.loosened_bridge.specs.Edited.{EditedClass, IsEdited, IsNewProto, body_edited, flags_edited, insn_edited, marks_edited, method_edited, name_edited, self_edited}
 use Rattle.loosened_bridge.specs.Edited as edit

@@ -32,7 +32,7 @@ use Rattle.closed_bridge.proofs.Closing.{closed_named}
 use Rattle.closed_bridge.proofs.Making.{makers_named}
 use Rattle.tabled_law.proofs.Apart.{tabled, tabled_apart}
 use Rattle.fold_bridge.specs.Folds.{AreNamed}
-use Rattle.outer_law.specs.Shutting.{ShutsAlike}
+use Rattle.program_laws.specs.Shutting.{ShutsAlike}
 use Rattle.pass_defs.specs.Numbered.{tables_of}
 use Rattle.pass_defs.specs.Typed.{IsTyped}
 use Rattle.removal_law.specs.Reach.{ShutsHold, TellsApart}

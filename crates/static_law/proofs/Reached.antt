@@ -29,7 +29,7 @@ use Rattle.removal_law.proofs.Finds.{into_filter}
 use Rattle.removal_law.proofs.Outward.{any_here, any_where}
 use Rattle.removal_law.proofs.Trees.{class_name, class_in, defined}
 use Rattle.static_names.specs.Static.{IsOld, key, IsSound, AreApart, made_static}
-use Rattle.remade_law.proofs.Remade.{outward_same, framed_same}
+use Rattle.program_laws.proofs.Remade.{outward_same, framed_same}
 use Rattle.static_law.proofs.Sites.{virtually_same}
 use Rattle.static_names.proofs.Called.{at_called}
 use Rattle.static_names.proofs.Declared.{itself, virtual_alike}

@@ -25,9 +25,9 @@ use Rattle.removal_law.proofs.Lists.{clash, and_left, and_behind, found_in as fo
 use Rattle.removal_law.proofs.Members.{signature_sound}
 use Rattle.removal_law.proofs.Walks.{text_same}
 use Rattle.dalvik_defs.proofs.Calm.{text_sound}
-use Rattle.rename_law.specs.Renames.{Edit, form_edited, body_edited}
+use Rattle.program_laws.specs.Renames.{Edit, form_edited, body_edited}
 use Rattle.static_names.specs.Static.{without_first, old_or, renamed, edit_found, edit_by, IsOldAt, Fresh, key, IsSound, made_static}
-use Rattle.remade_law.proofs.Remade.{class_same}
+use Rattle.program_laws.proofs.Remade.{class_same}
 use Rattle.static_names.proofs.Methods.{unless, recalled, method_left, method_moved}
 
 -- ---- the map of names

@@ -30,12 +30,12 @@ use Rattle.removal_law.specs.Reach.{TellsApart}
 use Rattle.removal_law.proofs.Lists.{clash, and_left, and_behind, in_map, FoundIn, found_in as found_passes}
 use Rattle.removal_law.proofs.Members.{signature_sound}
 use Rattle.removal_law.proofs.Declared.{name_same, none_there, and_none}
-use Rattle.remade_law.proofs.Founds.{is_found}
+use Rattle.program_laws.proofs.Founds.{is_found}
 use Rattle.static_names.proofs.Bodies.{unrenamed, each_in}
-use Rattle.rename_law.specs.Renames.{finding_of, face_with}
+use Rattle.program_laws.specs.Renames.{finding_of, face_with}
 use Rattle.static_names.specs.Static.{renamed, IsSound, IsUnentered, made_static}
-use Rattle.rename_law.proofs.Renaming.{Barred, DeclaredAlike, Both, Neither}
-use Rattle.remade_law.proofs.Remade.{class_same}
+use Rattle.program_laws.proofs.Renaming.{Barred, DeclaredAlike, Both, Neither}
+use Rattle.program_laws.proofs.Remade.{class_same}
 use Rattle.static_names.proofs.Methods.{recalled, stays, turns}
 use Rattle.static_names.proofs.LookUps.{found_same}
 use Rattle.static_names.proofs.Faces.{face_same}

@@ -18,11 +18,11 @@ use Rattle.dalvik_defs.specs.declared.program.NamedClass.{NamedClass}
 use Rattle.dalvik_defs.specs.declared.program.NamedProgram.{NamedProgram}
 use Rattle.dalvik_defs.specs.declared.tables.Framework.{Framework}
 use Rattle.pass_defs.specs.Loose.{static_method, static_class, staticised}
-use Rattle.silence_law.proofs.Lists.{any_map, all_map}
-use Rattle.rename_law.specs.Renames.{finding_of, face_with}
+use Rattle.program_laws.proofs.ChangedLists.{any_map, all_map}
+use Rattle.program_laws.specs.Renames.{finding_of, face_with}
 use Rattle.static_names.specs.Static.{IsOldAt, key, IsSound, made_static}
-use Rattle.silence_law.proofs.Heads.{class_case}
-use Rattle.remade_law.proofs.Remade.{class_same, at_class, count, chain_same, field_same, interface_same, flags_same, defines_same, framed_same, outward_same, own_field_same}
+use Rattle.program_laws.proofs.Heads.{class_case}
+use Rattle.program_laws.proofs.Remade.{class_same, at_class, count, chain_same, field_same, interface_same, flags_same, defines_same, framed_same, outward_same, own_field_same}
 use Rattle.static_names.proofs.Methods.{unless, recalled, stays, method_left}
 use Rattle.static_names.proofs.LookUps.{some_mapped}
 

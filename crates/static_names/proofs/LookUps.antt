@@ -19,10 +19,10 @@ use Rattle.dalvik_defs.specs.declared.program.NamedProgram.{NamedProgram}
 use Rattle.pass_defs.specs.Loose.{new_signature, new_key, loosened, static_body, static_class, staticised}
 use Rattle.removal_law.proofs.Lists.{clash, found_in as found_passes}
 use Rattle.removal_law.proofs.Members.{key_sound}
-use Rattle.silence_law.proofs.Lists.{any_map, flat_same}
+use Rattle.program_laws.proofs.ChangedLists.{any_map, flat_same}
 use Rattle.static_names.specs.Static.{IsOld, Fresh, key, made_static}
-use Rattle.silence_law.proofs.Heads.{class_case}
-use Rattle.remade_law.proofs.Remade.{class_same, at_class, count, chain_same, under_same, interface_same}
+use Rattle.program_laws.proofs.Heads.{class_case}
+use Rattle.program_laws.proofs.Remade.{class_same, at_class, count, chain_same, under_same, interface_same}
 use Rattle.static_names.proofs.Methods.{unless, recalled, method_left, method_moved}
 
 is_some_none : {A : Type 0} (x : A) {B : Type 0} → None ≡ Some x → B

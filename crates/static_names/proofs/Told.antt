@@ -24,7 +24,7 @@ use Rattle.static_names.specs.Static.{IsSound, NamesDescribed, made_static}
 use Rattle.static_names.proofs.Bodies.{each_in}
 use Rattle.static_names.proofs.Declared.{from_map}
 use Rattle.static_names.proofs.Methods.{stays, turns}
-use Rattle.remade_law.proofs.Remade.{class_same}
+use Rattle.program_laws.proofs.Remade.{class_same}
 
 abbrev tail_of : List Text → List Text
 tail_of [] = []

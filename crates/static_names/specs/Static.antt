@@ -37,9 +37,9 @@ use Rattle.dalvik_defs.specs.Quiet.{quiet_within, calm_opening}
 use Rattle.dalvik_defs.specs.Step.{step, after, setting_of}
 use Rattle.dalvik_defs.specs.declared.script.Move.{Move}
 use Rattle.dalvik_defs.specs.declared.tables.Floats.{Floats}
-use Rattle.rename_law.specs.Renames.{Edit, searched}
+use Rattle.program_laws.specs.Renames.{Edit, searched}
 use Rattle.dalvik_defs.specs.Outcome.{takes_no_receiver, receiver}
-use Rattle.remade_law.specs.Remade.{Remethod}
+use Rattle.program_laws.specs.Remade.{Remethod}
 
 -- ---- the map of names
 

@@ -32,10 +32,10 @@ use Rattle.removal_law.proofs.Outward.{any_here}
 use Rattle.removal_law.proofs.Searches.{at_in}
 use Rattle.removal_law.proofs.Trees.{class_in}
 use Rattle.removal_law.proofs.Virtuals.{IsMethodOf, answer}
-use Rattle.outer_law.specs.Shutting.{ShutsAlike, with_shut}
-use Rattle.remade_law.specs.Remade.{AnswersAlike, Remethod, SameMethods, class_remade, remade}
-use Rattle.remade_law.proofs.Order.{at_same, members_alike}
-use Rattle.remade_law.proofs.Remade.{at_class, class_same, outward_same, under_same}
+use Rattle.program_laws.specs.Shutting.{ShutsAlike, with_shut}
+use Rattle.program_laws.specs.Remade.{AnswersAlike, Remethod, SameMethods, class_remade, remade}
+use Rattle.program_laws.proofs.Order.{at_same, members_alike}
+use Rattle.program_laws.proofs.Remade.{at_class, class_same, outward_same, under_same}
 use Rattle.static_names.specs.Static.{AreInTables, IsApart, IsOld, IsSound, MayAllBeStatic, key, made_static}
 use Rattle.static_names.proofs.Declared.{itself}
 use Rattle.static_names.proofs.Given.{defined_in, in_old, sound as sound_names}

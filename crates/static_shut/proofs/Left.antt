@@ -17,8 +17,8 @@ use Rattle.pass_defs.specs.Loose.{loosened, static_body, static_class, static_me
 use Rattle.removal_law.specs.Left.{In}
 use Rattle.removal_law.specs.Reach.{NamesOnce, TellsApart}
 use Rattle.removal_law.proofs.Lists.{clash}
-use Rattle.remade_law.specs.Remade.{Remethod, SameMethods, class_remade, remade}
-use Rattle.remade_law.proofs.Remade.{class_same}
+use Rattle.program_laws.specs.Remade.{Remethod, SameMethods, class_remade, remade}
+use Rattle.program_laws.proofs.Remade.{class_same}
 use Rattle.static_names.specs.Static.{IsSound, made_static}
 use Rattle.static_names.proofs.Declared.{from_map, turned_static}
 use Rattle.static_names.proofs.Methods.{recalled, stays}

@@ -28,8 +28,8 @@ use Rattle.removal_law.specs.Left.{In, here, there}
 use Rattle.removal_law.specs.Reach.{NamesOnce, TellsApart, is_new, makes_new}
 use Rattle.removal_law.proofs.Lists.{and_left}
 use Rattle.removal_law.proofs.Outward.{any_here, any_where}
-use Rattle.remade_law.specs.Remade.{Remethod, SameMethods, remade}
-use Rattle.remade_law.proofs.Remade.{defines_same}
+use Rattle.program_laws.specs.Remade.{Remethod, SameMethods, remade}
+use Rattle.program_laws.proofs.Remade.{defines_same}
 use Rattle.static_names.specs.Static.{AreInTables, IsSound, made_static}
 use Rattle.static_names.proofs.Declared.{from_map, itself}
 use Rattle.static_shut.proofs.Left.{ClassWas, MethodWas, body_is, class_was, method_was}

@@ -23,7 +23,7 @@ use Rattle.pass_defs.specs.Kinds.{Kind, Undefined, Zero, Word, Low, Null, Class,
 use Rattle.pass_defs.specs.Registers.{Kinds, kind_at, written, replace, all_below, kinds_below, state_below}
 use Rattle.pass_defs.specs.Demands.{Demand, Fits, Receiver, Holder, Constructed, is_constructed, holds_field, meets, of_type, demands, place_allowed, is_allowed, is_constructor_name}
 use Rattle.pass_defs.specs.Typed.{is_constructor, halves, parameter_kinds, got, constructed, receiver_register, is_static_call, called, after, differ, wrong_field, begins_as_text_or_type, wrong_first, wrong_item, wrong_return, wrong_instance, ends_early, is_wrong, catch_all, catches_in, Table, state_at, arrives}
-use Rattle.rename_law.specs.Renames.{is_invoke}
+use Rattle.program_laws.specs.Renames.{is_invoke}
 
 pub record SameKinds (p q : NamedProgram) : Type 0 where
   pub plain : is_plain q ≡ is_plain p

@@ -11,10 +11,10 @@ use Rattle.dalvik_defs.specs.declared.program.NamedClass.{NamedClass}
 use Rattle.dalvik_defs.specs.declared.program.NamedProgram.{NamedProgram}
 use Rattle.pass_defs.specs.Kinds.{is_plain, is_program_interface, line_from, line_of, nearest}
 use Rattle.pass_defs.specs.Typed.{wrong_instance}
-use Rattle.silence_law.proofs.Heads.{class_case}
-use Rattle.silence_law.proofs.Lists.{find_same, any_map}
-use Rattle.remade_law.specs.Remade.{Remethod, class_remade, remade}
-use Rattle.remade_law.proofs.Remade.{class_same, at_class, count}
+use Rattle.program_laws.proofs.Heads.{class_case}
+use Rattle.program_laws.proofs.ChangedLists.{find_same, any_map}
+use Rattle.program_laws.specs.Remade.{Remethod, class_remade, remade}
+use Rattle.program_laws.proofs.Remade.{class_same, at_class, count}
 
 module _ (new : Remethod) (p : NamedProgram) where
   abbrev other : NamedClass → NamedClass

@@ -18,14 +18,14 @@ use Rattle.removal_law.specs.Reach.{NamesOnce, TellsApart}
 use Rattle.removal_law.proofs.Finds.{out_of_flat}
 use Rattle.removal_law.proofs.Lists.{contained, in_either}
 use Rattle.removal_law.proofs.Trees.{chain_named, class_name}
-use Rattle.silence_law.proofs.Alike.{Alike, typing_moved}
-use Rattle.silence_law.proofs.Heads.{class_case}
-use Rattle.silence_law.proofs.Lists.{flat_mapped, flat_same}
+use Rattle.program_laws.proofs.AlikeLookUps.{Alike, typing_moved}
+use Rattle.program_laws.proofs.Heads.{class_case}
+use Rattle.program_laws.proofs.ChangedLists.{flat_mapped, flat_same}
 use Rattle.lemmas.proofs.Lists.{map_append}
-use Rattle.silence_law.proofs.Moved.{image}
-use Rattle.remade_law.specs.Remade.{AnswersAlike, Remethod, SameMethods, class_remade, remade}
-use Rattle.remade_law.proofs.Remade.{chain_same, class_same, count, field_same}
-use Rattle.remade_law.proofs.Order.{first_same, kept, members_alike, super_same}
+use Rattle.program_laws.proofs.Moved.{image}
+use Rattle.program_laws.specs.Remade.{AnswersAlike, Remethod, SameMethods, class_remade, remade}
+use Rattle.program_laws.proofs.Remade.{chain_same, class_same, count, field_same}
+use Rattle.program_laws.proofs.Order.{first_same, kept, members_alike, super_same}
 use Rattle.static_types.proofs.Lines.{plain_same, program_interface_same, nearest_same, instance_same}
 
 in_place : {A : Type 0} (xs : List A) (n : ℕ) (x : A) → n < length xs → slice_index_or xs n x ≡ x → In x xs

@@ -15,10 +15,10 @@ use Rattle.dalvik_defs.specs.declared.program.NamedClass.{NamedClass}
 use Rattle.dalvik_defs.specs.declared.program.NamedProgram.{NamedProgram}
 use Rattle.pass_defs.specs.Loose.{new_signature, new_key, static_class, staticised}
 use Rattle.removal_law.proofs.Lists.{clash}
-use Rattle.silence_law.proofs.Heads.{class_case}
-use Rattle.silence_law.proofs.Lists.{flat_same, flat_mapped}
+use Rattle.program_laws.proofs.Heads.{class_case}
+use Rattle.program_laws.proofs.ChangedLists.{flat_same, flat_mapped}
 use Rattle.static_names.specs.Static.{IsOld, Fresh, made_static}
-use Rattle.remade_law.proofs.Remade.{class_same, count, chain_same}
+use Rattle.program_laws.proofs.Remade.{class_same, count, chain_same}
 use Rattle.static_names.proofs.LookUps.{first_left, new_found, statically_moved}
 
 -- what is found in front is found

@@ -39,10 +39,10 @@ use Rattle.removal_law.proofs.Lists.{clash, and_left, and_behind, in_front}
 use Rattle.removal_law.proofs.Declared.{method_same, method_sound, not_false}
 use Rattle.removal_law.proofs.Trees.{class_name}
 use Rattle.removal_law.proofs.Outward.{any_here}
-use Rattle.silence_law.proofs.Moved.{image}
-use Rattle.rename_law.specs.Renames.{is_invoke}
+use Rattle.program_laws.proofs.Moved.{image}
+use Rattle.program_laws.specs.Renames.{is_invoke}
 use Rattle.static_names.specs.Static.{IsOld, IsSound, MayAllBeStatic, AreInTables, FitsUpward, has_receiver, made_static}
-use Rattle.remade_law.proofs.Remade.{field_same}
+use Rattle.program_laws.proofs.Remade.{field_same}
 use Rattle.static_names.proofs.Methods.{recalled, stays, turns}
 use Rattle.static_names.proofs.LookUps.{new_found, super_left}
 use Rattle.static_names.proofs.Declared.{itself, made_static_flag}

@@ -15,9 +15,9 @@ use Rattle.dalvik_defs.specs.declared.program.NamedClass.{NamedClass}
 use Rattle.dalvik_defs.specs.declared.program.NamedProgram.{NamedProgram}
 use Rattle.dalvik_defs.proofs.Calm.{text_sound}
 use Rattle.pass_defs.specs.Kinds.{Kind, Class, kind_eq, is_initialised, is_plain, line_from, line_of, nearest, class_or_reference, is_below, fits}
-use Rattle.kind_law.specs.Rooted.{IsRooted}
-use Rattle.kind_law.proofs.Lines.{near_trans}
-use Rattle.kind_law.proofs.Transitive.{transitive}
+use Rattle.program_laws.specs.Rooted.{IsRooted}
+use Rattle.program_laws.proofs.Lines.{near_trans}
+use Rattle.program_laws.proofs.Transitive.{transitive}
 use Rattle.removal_law.proofs.Lists.{clash}
 use Rattle.removal_law.proofs.Trees.{class_name}
 use Rattle.removal_law.proofs.Walks.{text_same}

@@ -17,7 +17,7 @@ use Rattle.dalvik_defs.specs.declared.tables.Framework.{Framework}
 use Rattle.pass_defs.specs.Loose.{AreLoose, staticised}
 use Rattle.pass_defs.specs.Numbered.{tables_of}
 use Rattle.pass_defs.specs.Typed.{IsTyped}
-use Rattle.kind_law.specs.Rooted.{IsRooted}
+use Rattle.program_laws.specs.Rooted.{IsRooted}
 use Rattle.removal_law.specs.Reach.{IsAcyclic, IsDescribed, DefinesOnce, NamesOnce, AgreesInside}
 use Rattle.removal_law.specs.Left.{In}
 use Rattle.removal_law.specs.Reach as reach

@@ -11,8 +11,8 @@ ghost use Rattle.pass_defs.specs.Loose.{AreLoose, staticised};
 ghost use Rattle.pass_defs.specs.Numbered.{tables_of};
 ghost use Rattle.pass_defs.specs.Typed.{IsTyped};
 ghost use Rattle.removal_law.specs.Reach.{IsRegular, IsAcyclic, DefinesOnce, IsDescribed, NamesOnce, TellsApart};
-ghost use Rattle.remade_law.specs.Remade.{Remethod, SameMethods, remade};
-ghost use Rattle.kind_law.specs.Rooted.{IsRooted};
+ghost use Rattle.program_laws.specs.Remade.{Remethod, SameMethods, remade};
+ghost use Rattle.program_laws.specs.Rooted.{IsRooted};
 ghost use Rattle.stuck_law.specs.Regular as regular;
 ghost use Rattle.static_names.specs.Static.{AreInTables, FitsUpward, FreeInterfaces, MayAllBeStatic};
 

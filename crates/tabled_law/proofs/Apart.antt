@@ -16,7 +16,7 @@ use Rattle.pass_defs.specs.Typed.{IsTyped}
 use Rattle.removal_law.specs.Reach.{ShutsHold}
 use Rattle.removal_law.proofs.OuterTables.{tables_agree}
 use Rattle.removal_bridge.proofs.Formed.{regular_program}
-use Rattle.silence_law.proofs.WellFormed.{well_placed}
+use Rattle.program_laws.proofs.WellFormed.{well_placed}
 use Rattle.stuck_bridge.proofs.Formed as stuck
 use Rattle.cover_law.specs.Coverable.{IsTabled}
 use Rattle.tabled_law.specs.Apart.{ConstructsByOwn, IsTabledApart}

@@ -17,7 +17,7 @@ use Rattle.pass_defs.specs.Analysis.{IsRanged}
 use Rattle.pass_defs.specs.Facts.{may_be_made}
 use Rattle.pass_defs.specs.Live.{is_concrete, is_constructor}
 use Rattle.removal_law.specs.Reach.{IsAcyclic, IsDescribed, IsSoundTable}
-use Rattle.silence_law.specs.Results.{AllTakeInPlace}
+use Rattle.program_laws.specs.Results.{AllTakeInPlace}
 use Rattle.stuck_law.specs.Regular.{IsRegular}
 use Rattle.cover_law.specs.Coverable.{IsFormed}
 

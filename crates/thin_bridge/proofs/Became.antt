@@ -17,8 +17,8 @@ use Rattle.dalvik_defs.specs.declared.names.MethodKey.{MethodKey}
 use Rattle.pass_defs.specs.Thinned.{place, body_thinned}
 use Rattle.body_edit.specs.Fates.{fates_of}
 use Rattle.body_edit.specs.declared.fate.Fate.{Fate}
-use Rattle.bodies_law.specs.Others.{Pairwise}
-use Rattle.bodies_law.specs.Numbered.{NumberedCodes, OtherNumberedMethod, OtherNumberedClass, OtherNumberedBodies}
+use Rattle.program_laws.specs.Others.{Pairwise}
+use Rattle.program_laws.specs.Numbered.{NumberedCodes, OtherNumberedMethod, OtherNumberedClass, OtherNumberedBodies}
 use Rattle.thin_law.specs.Thins.{Right, ThinsNumbered, NoBody, SameBody, ThinnedBody}
 use Rattle.thin_pass.specs.Wishing.{is_small, fates_from, FatesIf, HasFates}
 use Rattle.thin_pass.specs.Plans.{changed_in, lines_left, method_thinned, method_by, methods_by, class_by, classes_by, program_by, AreFor, AreForClasses, IsThinnedBy}

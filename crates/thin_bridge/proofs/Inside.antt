@@ -24,7 +24,7 @@ use Rattle.body_graph.specs.Graph.{covering}
 use Rattle.body_graph.proofs.Members.{first, there, get_inside}
 use Rattle.body_graph.proofs.Links.{step_insn, step_on, step_caught, caught_of, caught_by}
 use Rattle.pass_defs.specs.Walks as named
-use Rattle.silence_law.proofs.Lists.{and_left}
+use Rattle.program_laws.proofs.ChangedLists.{and_left}
 use Rattle.thin_rules.proofs.Kept.{enter_begin}
 use Rattle.thin_rules.proofs.Rules.{first_begins, next_there, target_there, may_begin_at, rest_of}
 use Rattle.walk_bridge.proofs.Walked.{reached_by_number}

@@ -8,7 +8,7 @@ use Rattle.insn_set.specs.declared.form.Insn.{Insn}
 use Rattle.program_model.specs.Neighbours.{neighbours}
 use Rattle.program_model.specs.LineRules.{goes_on_with_lines, lines_fit}
 use Rattle.pass_defs.specs.Thinned.{Fate as Meant, Stays, Empties, Goes, left, insns_left}
-use Rattle.silence_law.proofs.Lists.{and_left, and_both}
+use Rattle.program_laws.proofs.ChangedLists.{and_left, and_both}
 use Rattle.thin_pass.specs.Plans.{lines_of}
 
 abbrev is_line : ℕ → Bool

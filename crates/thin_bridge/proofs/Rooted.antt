@@ -11,7 +11,7 @@ use Rattle.dalvik_defs.specs.Quiet.{EndsWithin}
 use Rattle.dalvik_defs.specs.Under.{class_named, defines, own_above}
 use Rattle.dalvik_defs.specs.declared.program.NamedClass.{NamedClass}
 use Rattle.dalvik_defs.specs.declared.program.NamedProgram.{NamedProgram}
-use Rattle.kind_law.specs.Rooted.{IsRooted}
+use Rattle.program_laws.specs.Rooted.{IsRooted}
 use Rattle.removal_law.specs.Reach.{ends, IsRegular}
 use Rattle.removal_law.proofs.Levels.{enough_steps}
 use Rattle.removal_law.proofs.Lists.{and_left}

@@ -18,7 +18,7 @@ use Rattle.pass_defs.specs.Thinned.{Stays as MeantStays, Empties as MeantEmpties
 use Rattle.body_edit.specs.Fates.{fate_of}
 use Rattle.body_edit.specs.declared.fate.Fate.{Fate}
 use Rattle.body_edit.specs.declared.fate.Fate.TheVariants.{Stays, Empties, Goes}
-use Rattle.silence_law.proofs.Lists.{and_left, and_both}
+use Rattle.program_laws.proofs.ChangedLists.{and_left, and_both}
 use Rattle.thin_law.proofs.Places.{IsLeft, place_next, place_gone}
 use Rattle.thin_pass.specs.Wishing.{wish_at, goes, is_to_go, is_between, leads_into, holds, is_held}
 use Rattle.thin_pass.specs.Wishing.{fate_of as chosen}

@@ -8,7 +8,7 @@ use Rattle.dalvik_defs.specs.Outer.{Outer}
 use Rattle.dalvik_defs.specs.Shown.{SameShown}
 use Rattle.dalvik_defs.specs.declared.names.MethodKey.{MethodKey}
 use Rattle.pass_defs.specs.Typed.{IsTyped}
-use Rattle.bodies_law.specs.Numbered.{OtherNumberedBodies}
+use Rattle.program_laws.specs.Numbered.{OtherNumberedBodies}
 
 -- whatever code there was and is
 abbrev pub AnyCode : MethodKey → Option Body → Option Body → Type 0

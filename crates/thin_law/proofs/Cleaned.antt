@@ -19,9 +19,9 @@ use Rattle.pass_defs.specs.Bare.{writes, continues}
 use Rattle.pass_defs.specs.Pure.{is_pure}
 use Rattle.pass_defs.specs.Thinned.{Fate}
 use Rattle.pass_defs.specs.Walks.{form_at, Here, Onward, Caught, IsRead}
-use Rattle.silence_law.specs.Results.{gives_result}
-use Rattle.frame_laws.specs.Alike.{gets_void}
-use Rattle.frame_laws.proofs.Walks.{goes_next, goes_onward}
+use Rattle.program_laws.specs.Results.{gives_result}
+use Rattle.program_laws.specs.Alike.{gets_void}
+use Rattle.program_laws.proofs.Walks.{goes_next, goes_onward}
 use Rattle.thin_law.specs.Thin.{IsNeed}
 use Rattle.thin_law.specs.Fates.{MayGo, AreFates}
 use Rattle.thin_law.specs.Cleaning.{IsTaken, Takes, Leads, Catches, Drops, IsDropped, Skipped, Unread, IsCleaning, IsSound}

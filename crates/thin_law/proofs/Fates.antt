@@ -11,7 +11,7 @@ use Rattle.pass_defs.specs.Remade.{retargeted}
 use Rattle.pass_defs.specs.Thinned.{Fate, Stays, Empties, Goes, place, forms_left, thinned}
 use Rattle.pass_defs.specs.Bare.{may_throw}
 use Rattle.pass_defs.specs.Walks.{form_at, successors, handlers_at, IsReached}
-use Rattle.frame_laws.proofs.Walks.{walk_on, goes_onward, goes_caught}
+use Rattle.program_laws.proofs.Walks.{walk_on, goes_onward, goes_caught}
 use Rattle.thin_law.specs.Thin.{Went, Past, Stood, Emptied, Gone, IsThin}
 use Rattle.thin_law.specs.Fates.{AreFates}
 use Rattle.thin_law.proofs.Places.{IsLeft, place_next, place_gone, left_as, form_left, form_past, fate_known}

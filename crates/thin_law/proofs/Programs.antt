@@ -19,12 +19,12 @@ use Rattle.dalvik_defs.proofs.Quiet.{quiet_calm}
 use Rattle.pass_defs.specs.Thinned.{Fate, thinned}
 use Rattle.pass_defs.specs.Walks.{IsRead}
 use Rattle.pass_defs.proofs.Thinned.{named_thinned}
-use Rattle.bodies_law.specs.Others.{OtherBodies}
-use Rattle.bodies_law.specs.Numbered.{OtherNumberedBodies}
-use Rattle.bodies_law.proofs.Faces.{others_face}
-use Rattle.bodies_law.proofs.Found.{others_found}
-use Rattle.bodies_law.proofs.Named.{others_named}
-use Rattle.frame_laws.proofs.Standing.{no_calm}
+use Rattle.program_laws.specs.Others.{OtherBodies}
+use Rattle.program_laws.specs.Numbered.{OtherNumberedBodies}
+use Rattle.program_laws.proofs.Faces.{others_face}
+use Rattle.program_laws.proofs.Found.{others_found}
+use Rattle.program_laws.proofs.Named.{others_named}
+use Rattle.program_laws.proofs.Standing.{no_calm}
 use Rattle.thin_law.specs.Thin.{IsNeed, AreThin, Neither, Both}
 use Rattle.thin_law.specs.Squeezing.{Skips, Everything, Anywhere, IsSqueezing}
 use Rattle.thin_law.specs.Cleaning.{IsTaken, Drops, IsCleaning, IsSound}

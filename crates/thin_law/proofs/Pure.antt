@@ -43,8 +43,8 @@ use Rattle.dalvik_defs.proofs.Frames.{now}
 use Rattle.dalvik_defs.proofs.Quiet.{trivial_quiet}
 use Rattle.pass_defs.specs.Bare.{writes}
 use Rattle.pass_defs.specs.Pure.{is_pure, is_quiet_field}
-use Rattle.frame_laws.proofs.Agree.{agree_refl, agree_on, agree_write}
-use Rattle.frame_laws.proofs.Acts.{wide_sort, is_division, divides_sort, sort_width, sort_divides, wide_number, unary_width}
+use Rattle.program_laws.proofs.Agree.{agree_refl, agree_on, agree_write}
+use Rattle.program_laws.proofs.Acts.{wide_sort, is_division, divides_sort, sort_width, sort_divides, wide_number, unary_width}
 use Rattle.thin_law.specs.Cleaning.{IsFine}
 use Rattle.thin_law.proofs.Thinning.{Leaps, leap_by}
 

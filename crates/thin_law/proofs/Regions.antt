@@ -14,7 +14,7 @@ use Rattle.dalvik_defs.specs.declared.program.NamedRegion.{NamedRegion}
 use Rattle.dalvik_defs.specs.declared.program.NamedHandler.{NamedHandler}
 use Rattle.pass_defs.specs.Thinned.{Fate, place, forms_left, moved_handler, moved, rest_before, has_room, thinned}
 use Rattle.pass_defs.specs.Walks.{listed, handlers_of, handlers_at}
-use Rattle.silence_law.proofs.Lists.{and_both}
+use Rattle.program_laws.proofs.ChangedLists.{and_both}
 use Rattle.thin_law.proofs.Places.{IsLeft, at_least, before}
 
 -- some positions come to stand before an end

@@ -12,8 +12,8 @@ use Rattle.dalvik_defs.specs.declared.forms.Form.TheVariants as form
 use Rattle.dalvik_defs.specs.declared.program.NamedBody.{NamedBody}
 use Rattle.pass_defs.specs.Bare.{writes}
 use Rattle.pass_defs.specs.Thinned.{Fate}
-use Rattle.frame_laws.proofs.Agree.{agree_refl}
-use Rattle.frame_laws.proofs.Walks.{goes_next}
+use Rattle.program_laws.proofs.Agree.{agree_refl}
+use Rattle.program_laws.proofs.Walks.{goes_next}
 use Rattle.thin_law.specs.Thin.{IsNeed}
 use Rattle.thin_law.specs.Fates.{MayGo, AreFates}
 use Rattle.thin_law.specs.Squeezing.{Skips, Everything, Anywhere, IsSkipped, Nop, Over, IsSqueezing}

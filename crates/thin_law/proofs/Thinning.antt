@@ -32,19 +32,19 @@ use Rattle.dalvik_defs.proofs.Simulation.{kept_after}
 use Rattle.pass_defs.specs.Bare.{reads, writes, may_throw, continues}
 use Rattle.pass_defs.specs.Remade.{retargeted}
 use Rattle.pass_defs.specs.Walks.{form_at, onward, caught, successors, Stays as Arrives, IsReached}
-use Rattle.silence_law.specs.Results.{gives_result}
-use Rattle.frame_laws.specs.Agree.{Agree}
-use Rattle.frame_laws.proofs.Agree.{agree_refl, agree_sym, agree_fewer, agree_on, agree_at, agree_set}
+use Rattle.program_laws.specs.Results.{gives_result}
+use Rattle.program_laws.specs.Agree.{Agree}
+use Rattle.program_laws.proofs.Agree.{agree_refl, agree_sym, agree_fewer, agree_on, agree_at, agree_set}
 use Rattle.dalvik_defs.proofs.Frames.{Glides as FrameGlides, now}
 use Rattle.dalvik_defs.proofs.Glides.{glide_stay}
-use Rattle.frame_laws.specs.Alike.{Holds, Only, Accepts, gets_void}
+use Rattle.program_laws.specs.Alike.{Holds, Only, Accepts, gets_void}
 use Rattle.thin_law.specs.Thin.{IsNeed, Went, Past as WasPast, Stood, Emptied, Gone, IsThin, AreThin, Neither, Both}
 use Rattle.dalvik_defs.proofs.Blocks.{Block, alone, stacked, caught_or, catches, Glides}
 use Rattle.dalvik_defs.proofs.Singles.{Single, One}
-use Rattle.frame_laws.proofs.Walks.{walk_on, goes_onward, goes_caught, goes_next, goes_there, handler_caught}
-use Rattle.frame_laws.specs.Standing.{Land, Nowhere, Caught, Standing, Goes, Stands as StandsBoth, Past, Leaps as LeapsBoth, Later, Entries, Neither as NoEntries, Both as BothEntries, GoAlike}
-use Rattle.frame_laws.proofs.Standing.{standing_shown}
-use Rattle.frame_laws.proofs.Blocks.{step_stays}
+use Rattle.program_laws.proofs.Walks.{walk_on, goes_onward, goes_caught, goes_next, goes_there, handler_caught}
+use Rattle.program_laws.specs.Standing.{Land, Nowhere, Caught, Standing, Goes, Stands as StandsBoth, Past, Leaps as LeapsBoth, Later, Entries, Neither as NoEntries, Both as BothEntries, GoAlike}
+use Rattle.program_laws.proofs.Standing.{standing_shown}
+use Rattle.program_laws.proofs.Blocks.{step_stays}
 
 -- ---- what a run does at a position
 

@@ -12,14 +12,14 @@ use Rattle.dalvik_defs.specs.declared.forms.Form.{Form}
 use Rattle.dalvik_defs.specs.declared.forms.Form.TheVariants as form
 use Rattle.dalvik_defs.specs.declared.program.NamedBody.{NamedBody}
 use Rattle.dalvik_defs.specs.declared.program.NamedProgram.{NamedProgram}
-use Rattle.silence_law.specs.Results.{gives_result}
+use Rattle.program_laws.specs.Results.{gives_result}
 use Rattle.pass_defs.specs.Bare.{writes}
 use Rattle.pass_defs.specs.Constants.{DividesKnown}
 use Rattle.pass_defs.specs.Idle.{IsIdleForm}
 use Rattle.pass_defs.specs.Pure.{is_pure}
 use Rattle.pass_defs.specs.Thinned.{Fate, stays}
 use Rattle.pass_defs.specs.Walks.{form_at, onward, caught, IsReached, IsReadAfter}
-use Rattle.frame_laws.specs.Alike.{gets_void}
+use Rattle.program_laws.specs.Alike.{gets_void}
 use Rattle.thin_law.specs.Squeezing.{Skips, IsSkipped}
 
 -- some walk from a position takes the last result before another one is given

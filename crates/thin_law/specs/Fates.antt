@@ -2,7 +2,7 @@
 use Rattle.std.specs.Prelude.{◌≡◌, ℕ, ◌+◌, ◌<◌, true, false, List, length, Some, slice_get, Contains}
 use Rattle.dalvik_defs.specs.declared.forms.Form.{Form}
 use Rattle.dalvik_defs.specs.declared.program.NamedBody.{NamedBody}
-use Rattle.silence_law.specs.Results.{gives_result}
+use Rattle.program_laws.specs.Results.{gives_result}
 use Rattle.pass_defs.specs.Bare.{writes}
 use Rattle.pass_defs.specs.Thinned.{Fate, stays, place}
 use Rattle.pass_defs.specs.Walks.{form_at, onward, IsReached}

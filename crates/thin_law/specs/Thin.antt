@@ -8,11 +8,11 @@ use Rattle.dalvik_defs.specs.declared.forms.Form.{Form}
 use Rattle.dalvik_defs.specs.declared.forms.Form.TheVariants as form
 use Rattle.dalvik_defs.specs.declared.program.NamedBody.{NamedBody}
 use Rattle.insn_set.specs.declared.ops.Slot.{Slot}
-use Rattle.silence_law.specs.Results.{gives_result}
+use Rattle.program_laws.specs.Results.{gives_result}
 use Rattle.pass_defs.specs.Bare.{reads, writes, may_throw}
 use Rattle.pass_defs.specs.Remade.{retargeted}
 use Rattle.pass_defs.specs.Walks.{form_at, onward, caught, IsReached}
-use Rattle.frame_laws.specs.Alike.{gets_void}
+use Rattle.program_laws.specs.Alike.{gets_void}
 
 -- what is read of the registers at a position: all that the form there reads, and what is read further on unless it is
 -- written before

@@ -21,7 +21,7 @@ use Rattle.program_model.specs.declared.body.Region.{Region}
 use Rattle.program_model.specs.declared.body.Body.{Body}
 use Rattle.program_model.specs.declared.program.Program.{Program}
 use Rattle.pass_defs.specs.Thinned.{Fate, Stays, Empties, Goes, place, insn_retargeted, insns_left, handler_moved, region_moved, rest_before, body_thinned}
-use Rattle.silence_law.proofs.Lists.{and_left, and_both, all_map}
+use Rattle.program_laws.proofs.ChangedLists.{and_left, and_both, all_map}
 use Rattle.thin_law.proofs.Places.{IsLeft, place_next}
 use Rattle.thin_rules.specs.Tidy.{Catches, IsTidy}
 use Rattle.thin_rules.proofs.Kept.{encodable, registers, numbers, gives, enters, begins, aims, enter_begin}

@@ -15,7 +15,7 @@ use Rattle.program_model.specs.BodyRules.{ends, may_follow, follows, may_enter, 
 use Rattle.program_model.specs.declared.body.Body.{Body}
 use Rattle.program_model.specs.declared.program.Program.{Program}
 use Rattle.pass_defs.specs.Thinned.{Fate, Stays, Empties, Goes, place}
-use Rattle.silence_law.proofs.Lists.{and_left}
+use Rattle.program_laws.proofs.ChangedLists.{and_left}
 use Rattle.thin_law.proofs.Places.{IsLeft, place_next, place_gone}
 use Rattle.thin_rules.specs.Tidy.{Passes, On, Over, IsTidy}
 use Rattle.thin_rules.proofs.Kept.{flows_on, follow_enter}

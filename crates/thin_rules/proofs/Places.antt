@@ -9,7 +9,7 @@ use Rattle.insn_set.specs.declared.form.Insn.{Insn}
 use Rattle.insn_set.specs.declared.form.Insn.TheVariants as insn
 use Rattle.program_model.specs.Neighbours.{neighbours}
 use Rattle.pass_defs.specs.Thinned.{Fate, Stays, Empties, Goes, place, insn_retargeted, insns_left}
-use Rattle.silence_law.proofs.Lists.{and_left, and_both}
+use Rattle.program_laws.proofs.ChangedLists.{and_left, and_both}
 use Rattle.thin_law.proofs.Places.{IsLeft}
 
 -- ---- entries of lists

@@ -17,7 +17,7 @@ use Rattle.program_model.specs.declared.body.Handler.{Handler}
 use Rattle.program_model.specs.declared.body.Region.{Region}
 use Rattle.program_model.specs.declared.program.Program.{Program}
 use Rattle.pass_defs.specs.Thinned.{Fate, place, insns_left, handler_moved, region_moved, rest_before, region_has_room}
-use Rattle.silence_law.proofs.Lists.{and_left, and_both}
+use Rattle.program_laws.proofs.ChangedLists.{and_left, and_both}
 use Rattle.thin_rules.proofs.Places.{place_rises, place_end}
 
 -- a region's handlers begin where handlers may

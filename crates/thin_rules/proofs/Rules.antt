@@ -16,7 +16,7 @@ use Rattle.program_model.specs.declared.body.Body.{Body}
 use Rattle.program_model.specs.declared.body.Handler.{Handler}
 use Rattle.program_model.specs.declared.body.Region.{Region}
 use Rattle.program_model.specs.declared.program.Program.{Program}
-use Rattle.silence_law.proofs.Lists.{and_left}
+use Rattle.program_laws.proofs.ChangedLists.{and_left}
 use Rattle.thin_rules.proofs.Places.{get_none, numbered_at, beside}
 
 none_plus : (n : ℕ) → n ≡ 0 + n

@@ -27,8 +27,8 @@ use Rattle.program_model.specs.declared.program.Method.{Method}
 use Rattle.program_model.specs.declared.program.Class.{Class}
 use Rattle.program_model.specs.declared.program.Program.{Program}
 use Rattle.pass_defs.specs.Thinned.{Fate, Stays, Empties, Goes, place, insn_retargeted, insns_left, handler_moved, region_moved, region_has_room, body_thinned}
-use Rattle.silence_law.proofs.Lists.{and_left}
-use Rattle.bodies_law.specs.Others.{Pairwise}
+use Rattle.program_laws.proofs.ChangedLists.{and_left}
+use Rattle.program_laws.specs.Others.{Pairwise}
 use Rattle.formed_law.specs.Recoded.{Recodes, RecodedMethod, Untouched as StillUntouched, Recoded, RecodedClass, RecodedProgram}
 use Rattle.thin_rules.specs.Tidy.{IsTidy}
 use Rattle.thin_rules.specs.Tidied.{TidiedMethod, Untouched, Tidied, TidiedClass, TidiedProgram}

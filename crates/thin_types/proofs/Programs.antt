@@ -15,9 +15,9 @@ use Rattle.dalvik_defs.specs.declared.program.NamedProgram.{NamedProgram}
 use Rattle.pass_defs.specs.Thinned.{Fate, thinned}
 use Rattle.pass_defs.specs.Typed.{Table, IsTyping, IsTyped}
 use Rattle.pass_defs.specs.Walks.{form_at, onward, caught, successors, Walk, Stays as Arrives, Goes as Steps}
-use Rattle.bodies_law.specs.Others.{OtherBodies}
-use Rattle.bodies_law.proofs.Named.{others_weaker}
-use Rattle.bodies_law.proofs.Typed.{others_typed}
+use Rattle.program_laws.specs.Others.{OtherBodies}
+use Rattle.program_laws.proofs.Named.{others_weaker}
+use Rattle.program_laws.proofs.Typed.{others_typed}
 use Rattle.thin_law.specs.Squeezing.{IsSqueezing}
 use Rattle.thin_law.specs.Thins.{Thins, NoCode, Same, Thinned}
 use Rattle.thin_law.proofs.Programs.{squeezed_shown}

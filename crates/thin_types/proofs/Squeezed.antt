@@ -23,8 +23,8 @@ use Rattle.pass_defs.specs.Remade.{retargeted}
 use Rattle.pass_defs.specs.Thinned.{Fate, Stays, Empties, Goes, place, moved_handler, moved, thinned}
 use Rattle.pass_defs.specs.Typed.{begun, after, is_wrong, catch_all, catches_in, catches, edges, Table, state_at, each, at_state, arrives, IsTyping}
 use Rattle.pass_defs.specs.Walks.{form_at, region_at, onward, caught, next_position, listed, handlers_of, handlers_at}
-use Rattle.frame_laws.proofs.Walks.{goes_next}
-use Rattle.silence_law.proofs.Lists.{and_left, and_both, all_map}
+use Rattle.program_laws.proofs.Walks.{goes_next}
+use Rattle.program_laws.proofs.ChangedLists.{and_left, and_both, all_map}
 use Rattle.thin_law.specs.Squeezing.{IsSkipped, Nop, Over}
 use Rattle.thin_law.proofs.Places.{IsLeft, place_next, place_gone, left_as, form_left}
 use Rattle.thin_law.proofs.Regions.{end_of, region_before, region_same}

@@ -13,7 +13,7 @@ use Rattle.dalvik_defs.specs.declared.program.NamedField.{NamedField}
 use Rattle.dalvik_defs.specs.declared.program.NamedMethod.{NamedMethod}
 use Rattle.dalvik_defs.specs.declared.program.NamedClass.{NamedClass}
 use Rattle.dalvik_defs.specs.declared.program.NamedProgram.{NamedProgram}
-use Rattle.silence_law.proofs.Heads.{class_case}
+use Rattle.program_laws.proofs.Heads.{class_case}
 
 -- members without what no run asks for
 abbrev pub bare_method : NamedMethod → NamedMethod

@@ -27,7 +27,7 @@ use Rattle.dalvik_defs.specs.declared.tables.Framework.{Framework}
 use Rattle.dalvik_defs.specs.declared.tables.FrameworkType.{FrameworkType}
 use Rattle.dalvik_defs.specs.declared.tables.Floats.{Floats}
 use Rattle.dalvik_defs.specs.declared.script.Move.{Move}
-use Rattle.silence_law.proofs.Heads.{class_case}
+use Rattle.program_laws.proofs.Heads.{class_case}
 use Rattle.written_shown.proofs.Alike.{bare_method, bare_field, of_proto, AlikeClass, AlikeOption, AllAlike, LooksAlike, both, above_alike, flat_alike, all_alike, at_class, chain_alike, interface_alike}
 
 -- ---- members without what no run asks for

@@ -10,7 +10,7 @@ use Rattle.dex_defs.specs.Written.{insert, in_order, one_entry, entries}
 use Rattle.removal_law.specs.Left as left
 use Rattle.removal_law.proofs.Lists.{clash, found_in}
 use Rattle.removal_law.proofs.Outward.{any_here, any_where}
-use Rattle.remade_law.proofs.Founds.{is_found}
+use Rattle.program_laws.proofs.Founds.{is_found}
 use Rattle.written_tables.proofs.In.{In, in_map, Source, in_source, in_flat, in_got, has_in}
 use Rattle.written_order.specs.Behind.{AllBehind}
 use Rattle.written_order.proofs.Order.{has_append}

@@ -30,7 +30,7 @@ use Rattle.pass_defs.specs.Registers.{Kinds, kind_at, written, replace, all_belo
 use Rattle.pass_defs.specs.Demands.{Demand, Fits, Receiver, Holder, Constructed, is_constructed, holds_field, meets, found_class, receiver_demands, passed, call_demands, demands, place_allowed, is_allowed, is_constructor_name}
 use Rattle.pass_defs.specs.Typed.{is_constructor, receiver_kind, halves, parameter_kinds, begun, got, constructed, receiver_register, is_static_call, called, after, differ, wrong_field, is_text_or_type, begins_as_text_or_type, wrong_first, wrong_method, finds_static, wrong_super, passed_words, wrong_item, wrong_return, wrong_instance, ends_early, is_wrong, catch_all, catches_in, catches, edges, Table, state_at, each, at_state, arrives, IsTyping}
 use Rattle.std.specs.Option.{option_map}
-use Rattle.silence_law.proofs.Heads.{class_case}
+use Rattle.program_laws.proofs.Heads.{class_case}
 use Rattle.written_shown.proofs.Alike.{AlikeClass, AlikeOption, AllAlike, LooksAlike, above_alike, flat_alike, at_class, chain_alike}
 use Rattle.written_shown.proofs.Looks.{placed, first_alike, field_same, super_same}
 

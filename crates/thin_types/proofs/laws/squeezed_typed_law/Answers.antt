@@ -1,4 +1,4 @@
-use Rattle.kind_law.proofs.Transitive.{transitive}
+use Rattle.program_laws.proofs.Transitive.{transitive}
 use Rattle.dalvik_defs.specs.Naming.{named}
 use Rattle.thin_law.proofs.Programs.{named_thins}
 use Rattle.thin_types.specs.Squeezed.{Squeezes}

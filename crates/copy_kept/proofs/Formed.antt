@@ -32,8 +32,8 @@ use Rattle.copy_prop.specs.Rereading as pass
 use Rattle.form_laws.specs.Reread.{Copied, substituted}
 use Rattle.copy_prop.specs.Propagated.{IsPropagated, IsPropagatedMethod, IsPropagatedClass, IsPropagatedProgram}
 use Rattle.copy_prop.specs.Propagated as propagated
-use Rattle.place_rules.specs.Rewritten.{IsRewritten, RewritesBody, RewrittenMethod, Untouched, Rewritten, RewrittenClass}
-use Rattle.place_rules.proofs.Rewriting.{rewritten_formed}
+use Rattle.thin_laws.specs.Rewritten.{IsRewritten, RewritesBody, RewrittenMethod, Untouched, Rewritten, RewrittenClass}
+use Rattle.thin_laws.proofs.Rewriting.{rewritten_formed}
 use Rattle.kept_bridge.proofs.Compacting.{has_registers}
 use Rattle.verify.specs.declared.kinds.Kind.{Kind}
 use Rattle.verify.specs.declared.kinds.Kind.TheVariants.{WideLow, WideHigh}

@@ -44,13 +44,13 @@ use Rattle.body_graph.proofs.Members.{get_inside, get_some}
 use Rattle.body_graph.proofs.Links.{step_on, step_caught}
 use Rattle.live_regs.specs.Live.{is_live}
 use Rattle.program_laws.proofs.ChangedLists.{and_left, and_both}
-use Rattle.thin_law.specs.Squeezing.{IsSkipped, Nop}
-use Rattle.thin_law.specs.Cleaning.{IsDropped, Unread, IsCleaning}
-use Rattle.thin_types.specs.Squeezed.{IsTransitive, SqueezesMarked, squeezed_table}
-use Rattle.thin_types.proofs.Squeezed.{squeezed_typing}
+use Rattle.thin_laws.specs.Squeezing.{IsSkipped, Nop}
+use Rattle.thin_laws.specs.Cleaning.{IsDropped, Unread, IsCleaning}
+use Rattle.thin_laws.specs.Squeezed.{IsTransitive, SqueezesMarked, squeezed_table}
+use Rattle.thin_laws.proofs.SqueezedTypes.{squeezed_typing}
 use Rattle.thin_pass.specs.Wishing.{wish_at, goes, is_to_go, is_held}
-use Rattle.thin_rules.specs.Tidy.{IsTidy}
-use Rattle.thin_rules.proofs.Rules.{follows_at, next_there, target_there, caught_at, covers_at, may_begin_at, rest_of}
+use Rattle.thin_laws.specs.Tidy.{IsTidy}
+use Rattle.thin_laws.proofs.Rules.{follows_at, next_there, target_there, caught_at, covers_at, may_begin_at, rest_of}
 use Rattle.walk_bridge.proofs.Formed.{same_reads, same_writes, same_onward, same_caught, form_there}
 use Rattle.walk_bridge.proofs.Walked.{read_by_number, read_after_by_number}
 use Rattle.dead_code.specs.Dead.{is_pure, is_quiet_field, IsDead}

@@ -29,18 +29,18 @@ use Rattle.body_edit.specs.declared.fate.Fate.{Fate}
 use Rattle.program_laws.specs.Others.{OtherBodies}
 use Rattle.program_laws.specs.Numbered.{OtherNumberedBodies}
 use Rattle.program_laws.proofs.Typed.{others_typed}
-use Rattle.formed_law.proofs.Formed.{recoded_formed}
+use Rattle.thin_laws.proofs.Formed.{recoded_formed}
 use Rattle.program_laws.specs.Alike.{gets_void}
 use Rattle.program_laws.proofs.Transitive.{transitive}
 use Rattle.form_laws.specs.Solid.{IsSolid}
 use Rattle.form_laws.proofs.WellFormed.{well_formed_solid}
 use Rattle.removal_law.proofs.CallsLeft.{body_in}
 use Rattle.removal_law.proofs.Lists.{contained}
-use Rattle.thin_law.specs.Cleaning.{IsCleaning, IsSound}
-use Rattle.thin_law.specs.Thins.{Thins, NoCode, Same, Thinned, ThinsNumbered}
-use Rattle.thin_law.proofs.Programs.{cleaned_shown, named_thins}
+use Rattle.thin_laws.specs.Cleaning.{IsCleaning, IsSound}
+use Rattle.thin_laws.specs.Thins.{Thins, NoCode, Same, Thinned, ThinsNumbered}
+use Rattle.thin_laws.proofs.Programs.{cleaned_shown, named_thins}
 use Rattle.thin_pass.specs.Plans.{IsThinnedBy}
-use Rattle.thin_rules.proofs.Tidied.{code_rules, tidied_recoded}
+use Rattle.thin_laws.proofs.Tidied.{code_rules, tidied_recoded}
 use Rattle.dead_code.specs.Dead.{is_quiet_field}
 use Rattle.dead_code.specs.Wishes.{AreCleaned}
 use Rattle.thin_bridge.specs.Right.{fates_by}

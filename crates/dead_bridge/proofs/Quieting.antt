@@ -31,7 +31,7 @@ use Rattle.name_bridge.proofs.Above.{own_place}
 use Rattle.name_bridge.proofs.Fields.{field_resolves_by_number}
 use Rattle.name_bridge.proofs.Started.{trivial_by_number}
 use Rattle.pass_defs.specs.Pure as named
-use Rattle.thin_law.specs.Cleaning.{IsFine}
+use Rattle.thin_laws.specs.Cleaning.{IsFine}
 use Rattle.body_graph.proofs.Members.{get_inside}
 use Rattle.dead_code.specs.Dead.{is_quiet_field, is_pure}
 

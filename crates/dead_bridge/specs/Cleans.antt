@@ -6,8 +6,8 @@ use Rattle.dalvik_defs.specs.declared.program.NamedMethod.{NamedMethod}
 use Rattle.dalvik_defs.specs.declared.program.NamedProgram.{NamedProgram}
 use Rattle.pass_defs.specs.Thinned.{Fate, thinned}
 use Rattle.pass_defs.specs.Typed.{Table, IsTyping}
-use Rattle.thin_law.specs.Cleaning.{IsCleaning}
-use Rattle.thin_law.specs.Thins.{Right}
+use Rattle.thin_laws.specs.Cleaning.{IsCleaning}
+use Rattle.thin_laws.specs.Thins.{Right}
 
 abbrev pub KeepsTyping : NamedProgram → List Fate → NamedBody → Type 0
 KeepsTyping p fs b = (c : NamedClass) (m : NamedMethod) (t : Table) → IsTyping p c m b t → (u : Table) × IsTyping p c m (thinned fs b) u

@@ -22,7 +22,7 @@ use Rattle.dom_frame.specs.declared.frames.Frame.{Frame}
 use Rattle.lemmas.proofs.Bools.{and_right}
 use Rattle.program_laws.proofs.ChangedLists.{and_left, and_both}
 use Rattle.program_laws.specs.Others.{Pairwise}
-use Rattle.formed_law.proofs.Pairs.{length_pairs, all_pairs, sum_pairs}
+use Rattle.thin_laws.proofs.Pairs.{length_pairs, all_pairs, sum_pairs}
 use Rattle.const_prop.specs.declared.choices.Way.{Way}
 use Rattle.const_prop.specs.declared.choices.Way.TheVariants.{Open, Next, To}
 use Rattle.const_prop.specs.declared.numbers.Number.{Number}

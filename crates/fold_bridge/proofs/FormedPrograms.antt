@@ -24,8 +24,8 @@ use Rattle.verify.specs.Typings.{Table}
 use Rattle.lemmas.proofs.Bools.{and_right}
 use Rattle.program_laws.proofs.ChangedLists.{and_left, and_both}
 use Rattle.program_laws.specs.Others.{Pairwise}
-use Rattle.formed_law.specs.Recoded.{Recodes, RecodedMethod, Untouched, Recoded, RecodedClass, RecodedProgram}
-use Rattle.formed_law.proofs.Formed.{recoded_formed}
+use Rattle.thin_laws.specs.Recoded.{Recodes, RecodedMethod, Untouched, Recoded, RecodedClass, RecodedProgram}
+use Rattle.thin_laws.proofs.Formed.{recoded_formed}
 use Rattle.rewrite_pass.specs.declared.edit.Edit.{Edit}
 use Rattle.rewrite_pass.specs.Plans.{body_edited, code_edited, method_by, methods_by, class_by, program_by, word, HasEdits, HasPlan}
 use Rattle.facts.specs.Lent.{frame_at}

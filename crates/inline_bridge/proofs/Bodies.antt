@@ -27,7 +27,7 @@ use Rattle.program_model.specs.declared.body.Region.{Region}
 use Rattle.program_model.specs.declared.program.Class.{Class}
 use Rattle.program_model.specs.declared.program.Method.{Method}
 use Rattle.program_model.specs.declared.program.Program.{Program}
-use Rattle.thin_rules.proofs.Rules.{operands_at, target_there, covers_at, rest_of, may_begin_at}
+use Rattle.thin_laws.proofs.Rules.{operands_at, target_there, covers_at, rest_of, may_begin_at}
 use Rattle.splice_bridge.specs.Copied.{RegionWithin, IsWithin}
 
 -- ---- the rules of a method's code

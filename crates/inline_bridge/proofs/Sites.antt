@@ -69,7 +69,7 @@ use Rattle.stuck_law.specs.Regular.{reads_value, IsRegular}
 use Rattle.stuck_law.proofs.Here.{into_map}
 use Rattle.stuck_law.proofs.Sorts.{class_alone, not_wide}
 use Rattle.stuck_bridge.proofs.Formed.{regular_program}
-use Rattle.thin_rules.proofs.Rules.{first_begins, caught_at}
+use Rattle.thin_laws.proofs.Rules.{first_begins, caught_at}
 use Rattle.walk_bridge.proofs.Formed.{same_reads, same_writes}
 use Rattle.inline_law.specs.Accepted.{Suits}
 use Rattle.inline_law.specs.Inlining.{Passes, PassesNone, PassesOne, PassesTwo}

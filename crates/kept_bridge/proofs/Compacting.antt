@@ -29,8 +29,8 @@ use Rattle.compact.specs.Packed.{wides_written}
 use Rattle.compact.specs.Renamed.{HasRegisters, IsCompacted, IsCompactedMethod, IsCompactedClass, IsCompactedProgram}
 use Rattle.compact.specs.Renamed as compacted
 use Rattle.compact_bridge.proofs.Programs.{pairs}
-use Rattle.place_rules.specs.Rewritten.{IsRewritten, RewritesBody, RewrittenMethod, Untouched, Rewritten, RewrittenClass, RewrittenProgram}
-use Rattle.place_rules.proofs.Rewriting.{rewritten_formed}
+use Rattle.thin_laws.specs.Rewritten.{IsRewritten, RewritesBody, RewrittenMethod, Untouched, Rewritten, RewrittenClass, RewrittenProgram}
+use Rattle.thin_laws.proofs.Rewriting.{rewritten_formed}
 use Rattle.kept_bridge.proofs.Registers.{fits}
 
 pairs_mapped : {A : Type 0} (g : A → A) (R : A → A → Type 0) (xs : List A) → ((n : ℕ) (x : A) → slice_get xs n ≡ Some x → R x (g x)) → Pairwise R xs (map g xs)

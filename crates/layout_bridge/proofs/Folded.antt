@@ -28,8 +28,8 @@ use Rattle.const_prop.specs.Allowed.{IsAllowed, IsFold, Constant as ByNumber, Br
 use Rattle.const_prop.specs.Known.{way_by}
 use Rattle.const_prop.specs.Folds.{AreFolds, IsFoldedBy}
 use Rattle.const_prop.proofs.Constants.{choice_becomes}
-use Rattle.thin_rules.proofs.Rules.{leaves_at}
-use Rattle.thin_rules.proofs.Tidied.{code_rules}
+use Rattle.thin_laws.proofs.Rules.{leaves_at}
+use Rattle.thin_laws.proofs.Tidied.{code_rules}
 use Rattle.dex_defs.specs.LaysOut.{LaysOut}
 use Rattle.layout_law.specs.Shorter.{condition_of, is_goto, least_units, IsNoLonger, Plain, Taken, Switched}
 use Rattle.layout_law.proofs.Steps.{few_units}

@@ -25,8 +25,8 @@ use Rattle.pass_defs.specs.Thinned.{region_moved}
 use Rattle.splice.specs.declared.callee.Callee.{Callee}
 use Rattle.splice.specs.Shifted.{word, place_in}
 use Rattle.splice.specs.Pieces.{places_in}
-use Rattle.thin_rules.proofs.Rules.{rest_of, may_begin_at}
-use Rattle.thin_rules.proofs.Tidied.{code_rules}
+use Rattle.thin_laws.proofs.Rules.{rest_of, may_begin_at}
+use Rattle.thin_laws.proofs.Tidied.{code_rules}
 use Rattle.inline_calls.specs.declared.site.Caller.{Caller}
 use Rattle.inline_calls.specs.declared.caller.Inliner.{Inliner}
 use Rattle.inline_calls.specs.declared.editing.Edit.{Edit}

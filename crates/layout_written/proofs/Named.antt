@@ -27,7 +27,7 @@ use Rattle.program_model.specs.TableRules.{tables_fit}
 use Rattle.names_law.specs.Used.{IsUsed}
 use Rattle.names_law.proofs.Marking.{all_left, all_right}
 use Rattle.names_law.proofs.Closed.{names_used}
-use Rattle.thin_rules.proofs.Rules.{operands_at, all_regions_fit}
+use Rattle.thin_laws.proofs.Rules.{operands_at, all_regions_fit}
 use Rattle.layout_law.specs.Lower.{NumbersFall}
 use Rattle.layout_written.specs.Ascending.{TextsAscend}
 use Rattle.layout_written.proofs.Falling.{string_falls, type_falls}

@@ -28,8 +28,8 @@ use Rattle.dom_frame.specs.declared.frames.Frame.{Frame}
 use Rattle.facts.specs.Lent.{frame_at}
 use Rattle.program_laws.specs.Others.{Pairwise}
 use Rattle.program_laws.specs.Numbered.{OtherNumberedMethod, OtherNumberedClass, OtherNumberedBodies}
-use Rattle.formed_law.specs.Recoded.{Recodes, RecodedMethod, Untouched, Recoded, RecodedClass, RecodedProgram}
-use Rattle.formed_law.proofs.Formed.{recoded_formed}
+use Rattle.thin_laws.specs.Recoded.{Recodes, RecodedMethod, Untouched, Recoded, RecodedClass, RecodedProgram}
+use Rattle.thin_laws.proofs.Formed.{recoded_formed}
 use Rattle.rewrite_pass.specs.declared.edit.Edit.{Edit}
 use Rattle.rewrite_pass.specs.Plans.{body_edited, code_edited, method_by, each_by, class_by, program_by, word, HasEdits, HasPlan, IsPlan, IsRewrittenBy}
 use Rattle.quiet_code.specs.Idle.{takes_result, DoesNothing, IsIdle}

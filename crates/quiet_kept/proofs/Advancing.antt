@@ -86,7 +86,7 @@ use Rattle.cover_law.proofs.Stays.{Is, looks, there, arrays}
 use Rattle.cover_law.proofs.Suits.{suits}
 use Rattle.cover_law.proofs.Waiting.{formed}
 use Rattle.value_law.specs.Operators.{operators}
-use Rattle.thin_rules.proofs.Tidied.{code_rules}
+use Rattle.thin_laws.proofs.Tidied.{code_rules}
 use Rattle.thin_bridge.proofs.Inside.{some_position, get_contains}
 use Rattle.quiet_methods.specs.Forms.{quiet_if, starts_quietly, gets_quietly, method_demand, found_demand, call_demand, never_throws, form_demand, demand, ways}
 use Rattle.quiet_methods.specs.Settled.{rank_at, IsLower}
@@ -94,7 +94,7 @@ use Rattle.quiet_methods.specs.Bodies.{frame_in, demand_in, ways_in}
 use Rattle.quiet_methods.specs.Quiet.{is_on, frames_of, ranks_of, IsCode, IsMet, IsQuietAt, IsQuietBody, AreQuiet}
 use Rattle.quiet_methods.specs.Falling.{rank_of, Falls}
 use Rattle.quiet_methods.proofs.Falling.{ranks_fall}
-use Rattle.quiet_law.specs.Calls.{Rank, EntersQuietly, Advances, GoesOn, CallsOne, EndsIt}
+use Rattle.thin_laws.specs.Calls.{Rank, EntersQuietly, Advances, GoesOn, CallsOne, EndsIt}
 use Rattle.quiet_kept.proofs.Standing.{alone, Run, Stands, Framed, framed, same_code, form_same, form_there, code, insn as insn_of, method as method_of, body as code_of, A, T, S, settled, based, setting}
 use Rattle.quiet_kept.proofs.Ways.{IsBranch, OnTest, OnZero, Packed, Sparse, edge_in_ways, Listed, listed}
 use Rattle.quiet_kept.proofs.Dividing.{Writes, binary_writes, literal_writes}

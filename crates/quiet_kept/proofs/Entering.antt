@@ -105,7 +105,7 @@ use Rattle.rebind_bridge.proofs.Finding.{class_text, own_class, under_named, fou
 use Rattle.quiet_methods.specs.Forms.{starts_quietly}
 use Rattle.quiet_methods.specs.Quiet.{is_on, IsCode}
 use Rattle.quiet_code.specs.Calls.{is_constructor, is_called_so, is_quiet_at, is_quiet_target, is_quiet_found, is_quiet_named, is_quiet_for_all, is_quiet_under, is_quiet_virtual, is_no_null, holds_object, has_object, is_idle_call, is_init}
-use Rattle.quiet_law.specs.Calls.{EntersQuietly}
+use Rattle.thin_laws.specs.Calls.{EntersQuietly}
 use Rattle.quiet_kept.proofs.Agreed.{all_agree}
 use Rattle.quiet_kept.proofs.Standing.{Run, Stands, Framed, stands_there, framed, same_code, form_same, form_there, code, insn as insn_of, method as method_of, body as code_of, A, T, S, settled, based, Reaches, calm, setting, find}
 

@@ -55,13 +55,13 @@ use Rattle.cover_law.specs.Coverable.{IsCoverable, IsTabled}
 use Rattle.tabled_law.proofs.Apart.{tabled, tabled_apart}
 use Rattle.thin_bridge.specs.Kept.{AnyCode}
 use Rattle.thin_bridge.proofs.Rooted.{rooted}
-use Rattle.thin_law.specs.Cleaning.{IsSound}
+use Rattle.thin_laws.specs.Cleaning.{IsSound}
 use Rattle.fold_kept.specs.Kept.{IsKeptFor}
 use Rattle.fold_kept.proofs.Classes.{super_interface}
 use Rattle.quiet_code.specs.Quieted.{IsQuieted}
 use Rattle.quiet_bridge.specs.Nopped.{QuietedCode}
 use Rattle.quiet_bridge.proofs.Programs.{quieted_others, quieted_formed}
-use Rattle.quiet_law.proofs.Dropped.{emptied_shown}
+use Rattle.thin_laws.proofs.Dropped.{emptied_shown}
 use Rattle.quiet_kept.specs.Owed.{QuietedKept}
 use Rattle.quiet_kept.proofs.Runs.{quiet, gone, spare, rank, Met, runs_quietly, begins_met}
 use Rattle.quiet_kept.proofs.Named.{quieted_named}

@@ -63,7 +63,7 @@ use Rattle.quiet_methods.specs.Falling.{rank_of}
 use Rattle.quiet_code.specs.Calls.{is_idle_call}
 use Rattle.quiet_code.specs.Idle.{divides_well}
 use Rattle.quiet_code.specs.Quieted.{Frames}
-use Rattle.quiet_law.specs.Calls.{Rank, Gone, EntersQuietly, WorksAlone, QuietRuns}
+use Rattle.thin_laws.specs.Calls.{Rank, Gone, EntersQuietly, WorksAlone, QuietRuns}
 use Rattle.quiet_kept.proofs.Standing.{Run, Stands, stands_there, Framed, framed, same_code, form_same, form_there, A, T, S, settled, based, setting, Reaches, begins, keeps, method as method_of, body as code_of, insn as insn_of}
 use Rattle.quiet_kept.proofs.Dividing.{Writes, division_writes}
 use Rattle.quiet_kept.proofs.Entering.{QuietKey, now_is, idle_enters}

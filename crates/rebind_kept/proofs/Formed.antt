@@ -19,7 +19,7 @@ use Rattle.program_model.specs.declared.body.Body.{Body}
 use Rattle.program_model.specs.declared.program.Program.{Program}
 use Rattle.lemmas.proofs.Bools.{and_left, and_right, and_both}
 use Rattle.program_laws.specs.Others.{Pairwise}
-use Rattle.formed_law.proofs.Pairs.{length_pairs}
+use Rattle.thin_laws.proofs.Pairs.{length_pairs}
 
 -- a call becomes another one, of a method of the table, with the same registers
 pub record Recalls (p : Program) (f g : Insn) : Type 0 where

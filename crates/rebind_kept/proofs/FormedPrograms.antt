@@ -29,8 +29,8 @@ use Rattle.lemmas.proofs.Bools.{and_left, and_right}
 use Rattle.lemmas.proofs.Lists.{all_at, got_short}
 use Rattle.lemmas.proofs.Options.{none_some, some_same}
 use Rattle.program_laws.specs.Others.{Pairwise}
-use Rattle.formed_law.specs.Recoded.{Recodes, RecodedMethod, Untouched, Recoded, RecodedClass}
-use Rattle.formed_law.proofs.Formed.{recoded_formed}
+use Rattle.thin_laws.specs.Recoded.{Recodes, RecodedMethod, Untouched, Recoded, RecodedClass}
+use Rattle.thin_laws.proofs.Formed.{recoded_formed}
 use Rattle.rewrite_pass.specs.declared.edit.Edit.{Edit}
 use Rattle.rewrite_pass.specs.Plans.{body_edited, code_edited, method_by, class_by, program_by, word, HasEdits, HasPlan}
 use Rattle.devirt.specs.Rebound.{IsRebindingOf, IsRebinding, AreRebindings, AreRebindingsIn, IsReboundBy}

@@ -14,13 +14,13 @@ use Rattle.dalvik_defs.specs.Silence.{key_in}
 use Rattle.pass_defs.specs.Typed.{IsTyped}
 use Rattle.body_edit.specs.declared.fate.Fate.{Fate}
 use Rattle.program_laws.specs.Numbered.{OtherNumberedBodies}
-use Rattle.formed_law.proofs.Formed.{recoded_formed}
+use Rattle.thin_laws.proofs.Formed.{recoded_formed}
 use Rattle.program_laws.proofs.Transitive.{transitive}
-use Rattle.thin_law.specs.Thins.{ThinsNumbered}
-use Rattle.thin_law.proofs.Programs.{named_thins}
-use Rattle.thin_types.specs.Squeezed.{Squeezes}
-use Rattle.thin_types.proofs.Programs.{marked_shown, marked_typed}
-use Rattle.thin_rules.proofs.Tidied.{code_rules, tidied_recoded}
+use Rattle.thin_laws.specs.Thins.{ThinsNumbered}
+use Rattle.thin_laws.proofs.Programs.{named_thins}
+use Rattle.thin_laws.specs.Squeezed.{Squeezes}
+use Rattle.thin_laws.proofs.TypedPrograms.{marked_shown, marked_typed}
+use Rattle.thin_laws.proofs.Tidied.{code_rules, tidied_recoded}
 use Rattle.thin_pass.specs.Plans.{IsThinnedBy}
 use Rattle.walk_bridge.proofs.Formed.{form_there}
 use Rattle.squeeze.specs.Skipping.{AreSkips}

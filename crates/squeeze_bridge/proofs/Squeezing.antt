@@ -30,11 +30,11 @@ use Rattle.body_graph.specs.Graph.{covering}
 use Rattle.body_graph.proofs.Members.{get_inside}
 use Rattle.body_graph.proofs.Links.{step_on, step_caught}
 use Rattle.program_laws.proofs.ChangedLists.{and_left, and_both}
-use Rattle.thin_law.specs.Squeezing.{IsSkipped, Nop, Over}
-use Rattle.thin_types.specs.Squeezed.{SqueezesMarked}
+use Rattle.thin_laws.specs.Squeezing.{IsSkipped, Nop, Over}
+use Rattle.thin_laws.specs.Squeezed.{SqueezesMarked}
 use Rattle.thin_pass.specs.Wishing.{wish_at, goes, is_to_go, is_held}
-use Rattle.thin_rules.specs.Tidy.{IsTidy}
-use Rattle.thin_rules.proofs.Rules.{follows_at, target_there}
+use Rattle.thin_laws.specs.Tidy.{IsTidy}
+use Rattle.thin_laws.proofs.Rules.{follows_at, target_there}
 use Rattle.walk_bridge.proofs.Formed.{same_onward, same_caught, form_there}
 use Rattle.squeeze.specs.Skipping.{passes, wish_for, AreSkips}
 use Rattle.thin_bridge.specs.Right.{fates_by, PassesOn, On, Next, StillCatches, AreRight}

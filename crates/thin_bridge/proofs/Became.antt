@@ -19,13 +19,13 @@ use Rattle.body_edit.specs.Fates.{fates_of}
 use Rattle.body_edit.specs.declared.fate.Fate.{Fate}
 use Rattle.program_laws.specs.Others.{Pairwise}
 use Rattle.program_laws.specs.Numbered.{NumberedCodes, OtherNumberedMethod, OtherNumberedClass, OtherNumberedBodies}
-use Rattle.thin_law.specs.Thins.{Right, ThinsNumbered, NoBody, SameBody, ThinnedBody}
+use Rattle.thin_laws.specs.Thins.{Right, ThinsNumbered, NoBody, SameBody, ThinnedBody}
 use Rattle.thin_pass.specs.Wishing.{is_small, fates_from, FatesIf, HasFates}
 use Rattle.thin_pass.specs.Plans.{changed_in, lines_left, method_thinned, method_by, methods_by, class_by, classes_by, program_by, AreFor, AreForClasses, IsThinnedBy}
 use Rattle.thin_pass.proofs.Lighter.{method_same, stay_changes}
-use Rattle.thin_rules.specs.Tidy.{IsTidy}
-use Rattle.thin_rules.specs.Tidied.{TidiedMethod, Untouched, Tidied, TidiedClass, TidiedProgram}
-use Rattle.thin_rules.proofs.Tidied.{code_rules}
+use Rattle.thin_laws.specs.Tidy.{IsTidy}
+use Rattle.thin_laws.specs.Tidied.{TidiedMethod, Untouched, Tidied, TidiedClass, TidiedProgram}
+use Rattle.thin_laws.proofs.Tidied.{code_rules}
 use Rattle.thin_bridge.specs.Right.{fates_by}
 use Rattle.thin_bridge.specs.Kept.{AnyCode}
 use Rattle.thin_bridge.proofs.Lined.{lines_left_fit}

@@ -25,8 +25,8 @@ use Rattle.body_graph.proofs.Members.{first, there, get_inside}
 use Rattle.body_graph.proofs.Links.{step_insn, step_on, step_caught, caught_of, caught_by}
 use Rattle.pass_defs.specs.Walks as named
 use Rattle.program_laws.proofs.ChangedLists.{and_left}
-use Rattle.thin_rules.proofs.Kept.{enter_begin}
-use Rattle.thin_rules.proofs.Rules.{first_begins, next_there, target_there, may_begin_at, rest_of}
+use Rattle.thin_laws.proofs.Kept.{enter_begin}
+use Rattle.thin_laws.proofs.Rules.{first_begins, next_there, target_there, may_begin_at, rest_of}
 use Rattle.walk_bridge.proofs.Walked.{reached_by_number}
 
 -- ---- lists

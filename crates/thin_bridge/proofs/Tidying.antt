@@ -19,12 +19,12 @@ use Rattle.body_edit.specs.Fates.{fate_of}
 use Rattle.body_edit.specs.declared.fate.Fate.{Fate}
 use Rattle.body_edit.specs.declared.fate.Fate.TheVariants.{Stays, Empties, Goes}
 use Rattle.program_laws.proofs.ChangedLists.{and_left, and_both}
-use Rattle.thin_law.proofs.Places.{IsLeft, place_next, place_gone}
+use Rattle.thin_laws.proofs.Places.{IsLeft, place_next, place_gone}
 use Rattle.thin_pass.specs.Wishing.{wish_at, goes, is_to_go, is_between, leads_into, holds, is_held}
 use Rattle.thin_pass.specs.Wishing.{fate_of as chosen}
-use Rattle.thin_rules.specs.Tidy.{Passes, On, Over, Catches, IsTidy}
-use Rattle.thin_rules.proofs.Places.{place_rises}
-use Rattle.thin_rules.proofs.Rules.{leaves_at}
+use Rattle.thin_laws.specs.Tidy.{Passes, On, Over, Catches, IsTidy}
+use Rattle.thin_laws.proofs.PlacesLeft.{place_rises}
+use Rattle.thin_laws.proofs.Rules.{leaves_at}
 use Rattle.thin_bridge.specs.Right.{fates_by, PassesOn, On as PassesNext, Next, StillCatches, AreRight}
 use Rattle.thin_bridge.proofs.Chosen.{Chosen, long, goes_by, left_by, lost_by, stays_by, chosen_at, fate_there, insn_there, kept, not_gone, holds_next}
 

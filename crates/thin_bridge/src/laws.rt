@@ -9,7 +9,7 @@ ghost use Rattle.class_defs.specs.ClassGraph.{IsTwice, IsAncestor};
 ghost use Rattle.dalvik_defs.specs.Naming.{named};
 ghost use Rattle.body_edit.specs.declared.fate.Fate.{Fate};
 ghost use Rattle.program_laws.specs.Rooted.{IsRooted};
-ghost use Rattle.thin_rules.specs.Tidy.{IsTidy};
+ghost use Rattle.thin_laws.specs.Tidy.{IsTidy};
 ghost use Rattle.thin_bridge.specs.Right.{AreRight, fates_by};
 
 /// The fates that come of right wishes for a body that keeps the rules are tidy.

@@ -74,8 +74,8 @@ use Rattle.walk_bridge.proofs.Formed.{same_reads, same_writes}
 use Rattle.inline_law.specs.Accepted.{Suits}
 use Rattle.inline_law.specs.Inlining.{Passes, PassesNone, PassesOne, PassesTwo}
 use Rattle.inline_law.specs.Sound.{IsSoundCallee}
-use Rattle.callee_law.specs.Takes.{Takes, CatchesNone}
-use Rattle.callee_law.proofs.Reached.{arguments_alone, suits_all}
+use Rattle.inline_law.specs.Takes.{Takes, CatchesNone}
+use Rattle.inline_law.proofs.Reached.{arguments_alone, suits_all}
 use Rattle.splice.specs.declared.callee.Callee.{Callee}
 use Rattle.splice.specs.Callees.{taken_by, args_of}
 use Rattle.splice.specs.Moves.{parameters_in, parameters_of}

@@ -84,7 +84,7 @@ use Rattle.cover_law.specs.Coverable.{IsCoverable}
 use Rattle.cover_law.specs.Known.{RangedMove}
 use Rattle.cover_law.specs.States.{covered_states}
 use Rattle.value_law.specs.Operators.{operators}
-use Rattle.callee_law.proofs.Unread.{unread}
+use Rattle.inline_law.proofs.Unread.{unread}
 use Rattle.inline_law.specs.Entered.{Enterable, Statically, Directly, AreEnterable, FactsHold}
 use Rattle.program_laws.specs.Numbered.{OtherNumberedBodies}
 use Rattle.fold_bridge.specs.Folds.{AreNamed, StandsAt}

@@ -1,6 +1,6 @@
 use Rattle.std.specs.Prelude.{◌≡◌, true}
 use Rattle.inline_law.proofs.Programs.{inlining_shown}
-use Rattle.inline_law.proofs.laws.inlining_law.Goals as goal
+use Rattle.inline_law.proofs.inline_law.inlining_law.Goals as goal
 
 pub returns : goal.returns
 returns c = λ p q o accepted need level reached h others enterable facts start.

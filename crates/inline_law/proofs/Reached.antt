@@ -28,9 +28,9 @@ use Rattle.stuck_law.proofs.Here.{into_left, into_map}
 use Rattle.form_laws.proofs.Asked.{item_width}
 use Rattle.form_laws.proofs.Typings.{each_at, tested, allowed_at, right_at}
 use Rattle.inline_law.specs.Accepted.{Suits}
-use Rattle.callee_law.specs.Takes.{Takes, CatchesNone}
-use Rattle.callee_law.proofs.Written.{Lacks, after_lacks}
-use Rattle.callee_law.proofs.Unread.{unread}
+use Rattle.inline_law.specs.Takes.{Takes, CatchesNone}
+use Rattle.inline_law.proofs.Written.{Lacks, after_lacks}
+use Rattle.inline_law.proofs.Unread.{unread}
 
 -- one number is below another, or not
 data Below (n r : ℕ) : Type 0 where

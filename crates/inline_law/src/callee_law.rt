@@ -1,4 +1,8 @@
-//! The laws.
+//! What a typing says of a method that is inlined: a body without regions reads no register before it is written but those of its
+//! arguments, and each form that a walk reaches may stand in a copy of it, where what is taken of the call is as wide as what the
+//! method gives. `inline_law` asks both of what is copied. The one typing of the method serves, since a register that begins
+//! undefined stays so until it is written, and no form may read it. Its functions have an empty body, and their contracts are the
+//! laws (Dalvik bytecode, "Summary of bytecode set"; this project's profile).
 
 ghost use Rattle.std.specs.Prelude.{◌≡◌, ◌-◌, ◌≤◌, ℕ, [], Some};
 ghost use Rattle.dalvik_defs.specs.declared.forms.Form.{Form};
@@ -10,7 +14,7 @@ ghost use Rattle.pass_defs.specs.Inlined.{Taken};
 ghost use Rattle.pass_defs.specs.Typed.{Table, IsTyping};
 ghost use Rattle.pass_defs.specs.Walks.{form_at, IsReached, IsRead};
 ghost use Rattle.inline_law.specs.Accepted.{Suits};
-ghost use Rattle.callee_law.specs.Takes.{Takes, CatchesNone};
+ghost use Rattle.inline_law.specs.Takes.{Takes, CatchesNone};
 
 /// A typed body without regions reads no register before it is written but those of its arguments.
 pub fn arguments_law()

@@ -30,7 +30,7 @@ use Rattle.pass_defs.specs.Typed.{is_static_call, words_of, passed_words, wrong_
 use Rattle.form_laws.specs.Kinds.{is_whole}
 use Rattle.form_laws.proofs.Asked.{item_width}
 use Rattle.form_laws.proofs.Asking.{fits_whole, holder_whole, field_whole, constructed_whole}
-use Rattle.callee_law.proofs.Written.{Lacks}
+use Rattle.inline_law.proofs.Written.{Lacks}
 
 -- a demand that looks at the register's kind
 abbrev pub looks : Demand → Bool

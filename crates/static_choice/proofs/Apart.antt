@@ -40,7 +40,7 @@ use Rattle.removal_law.proofs.Outward.{any_here, any_where}
 use Rattle.removal_law.proofs.Walks.{text_same}
 use Rattle.stuck_bridge.proofs.Listed.{Image, image}
 use Rattle.stuck_bridge.proofs.Members.{class_known}
-use Rattle.static_names.specs.Static.{IsApart}
+use Rattle.static_law.specs.Static.{IsApart}
 use Rattle.loose_methods.specs.Loose.{classes_under, has_outward, has_rival, is_alone, is_in_interface, is_outer, is_outward, is_rival, lists_outer, places}
 use Rattle.static_choice.proofs.Made.{IsMethod}
 use Rattle.static_choice.proofs.Own.{four}

@@ -55,8 +55,8 @@ use Rattle.removal_law.proofs.Walks.{text_same}
 use Rattle.removal_bridge.proofs.Formed.{no_object}
 use Rattle.stuck_bridge.proofs.Listed.{Image, image}
 use Rattle.stuck_bridge.proofs.Members.{class_known}
-use Rattle.loosened_bridge.proofs.Classes.{contains_at}
-use Rattle.loosened_bridge.proofs.Targets.{key_there}
+use Rattle.static_law.proofs.Classes.{contains_at}
+use Rattle.static_law.proofs.Targets.{key_there}
 use Rattle.receivers.specs.Receiving.{interface_at, lists_above}
 use Rattle.loose_methods.specs.Loose.{class_candidates, class_of_entry, class_of_number, concerns, found_by, interface_there, is_among, is_it, is_nothing, is_plain_call, is_subclass, is_this, is_within, is_within_at, may_find, may_find_at, may_leave, misses, named_by, names_it, number_at, number_found, places, receivers, resolves_to, super_candidates}
 use Rattle.static_choice.proofs.Made.{IsMethod}

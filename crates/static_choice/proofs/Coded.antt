@@ -35,8 +35,8 @@ use Rattle.removal_law.proofs.Lists.{contained, found_in}
 use Rattle.removal_law.proofs.Members.{signature_sound}
 use Rattle.removal_law.proofs.Trees.{class_name, class_in}
 use Rattle.stuck_bridge.proofs.Listed.{Image, image, method_fits_at}
-use Rattle.loosened_bridge.proofs.Fitting.{body_of_code, insns_numbers, method_holds}
-use Rattle.loosened_bridge.proofs.Programs.{mapped_at}
+use Rattle.static_law.proofs.Fitting.{body_of_code, insns_numbers, method_holds}
+use Rattle.static_law.proofs.Programs.{mapped_at}
 
 -- a call that stands in a method's code, by number
 pub record CallAt (p : Program) (caller : MethodKey) (n : ℕ) (kind : InvokeKind) (k : MethodKey) (args : List ℕ) : Type 0 where

@@ -21,8 +21,8 @@ use Rattle.class_defs.specs.Finding.{resolves_method}
 use Rattle.class_defs.proofs.WellFormed.{Sound}
 use Rattle.program_laws.specs.Others.{Pairwise}
 use Rattle.facts.specs.declared.facts.Facts.{Facts}
-use Rattle.loosened_bridge.specs.Edited.{EditedClass, IsEdited, IsNewProto, body_edited, flags_edited, insn_edited, marks_edited, method_edited, name_edited, self_edited}
-use Rattle.loosened_bridge.specs.Edited as edit
+use Rattle.static_law.specs.Edited.{EditedClass, IsEdited, IsNewProto, body_edited, flags_edited, insn_edited, marks_edited, method_edited, name_edited, self_edited}
+use Rattle.static_law.specs.Edited as edit
 use Rattle.static_protos.specs.Tables.{Tables}
 use Rattle.staticise.specs.Judging.{judged}
 use Rattle.staticise.specs.Loosened.{AreEach, IsLoosenedBy, IsLoosenedClass, body_loosened, code_loosened, flags_loosened, given_at, insn_loosened, is_given, marks_loosened, method_loosened, name_with, names_with, self_loosened, target_at, target_of}

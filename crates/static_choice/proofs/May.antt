@@ -26,11 +26,11 @@ use Rattle.pass_defs.specs.Numbered.{tables_of}
 use Rattle.pass_defs.specs.Walks.{form_at}
 use Rattle.removal_law.specs.Reach.{IsRegular}
 use Rattle.removal_bridge.proofs.Formed.{regular_program}
-use Rattle.static_names.specs.Static.{IsApart, MayAllBeStatic, MayBeStatic, has_receiver}
-use Rattle.loosened_bridge.specs.Edited.{loose_in}
-use Rattle.loosened_bridge.proofs.Candidates.{candidate_static}
-use Rattle.loosened_bridge.proofs.Tables.{loose_from}
-use Rattle.loosened_bridge.proofs.Targets.{key_there}
+use Rattle.static_law.specs.Static.{IsApart, MayAllBeStatic, MayBeStatic, has_receiver}
+use Rattle.static_law.specs.Edited.{loose_in}
+use Rattle.static_law.proofs.Candidates.{candidate_static}
+use Rattle.static_law.proofs.Tables.{loose_from}
+use Rattle.static_law.proofs.Targets.{key_there}
 use Rattle.loose_methods.specs.Loose as number
 use Rattle.loose_methods.specs.Loose.{is_alone}
 use Rattle.staticise.specs.Called.{IsCall}

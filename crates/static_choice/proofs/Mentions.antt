@@ -13,8 +13,8 @@ use Rattle.program_model.specs.declared.value.Mark.{Mark}
 use Rattle.program_model.specs.declared.value.Note.{Note, out-Note, fold-Note, fold_out-Note}
 use Rattle.invariant_law.specs.Holds.{Each}
 use Rattle.removal_law.specs.Left.{In, here, there}
-use Rattle.loosened_bridge.specs.Edited.{LetsClass, layer_names, marks_name, note_names, value_names}
-use Rattle.loosened_bridge.proofs.Programs.{in_from}
+use Rattle.static_law.specs.Edited.{LetsClass, layer_names, marks_name, note_names, value_names}
+use Rattle.static_law.proofs.Programs.{in_from}
 use Rattle.loose_methods.specs.Mentioned.{class_methods, field_methods, first_methods, joined, mark_methods, marks_methods, method_methods, methods_of_element, methods_of_layer, methods_of_note, note_methods}
 
 module _ (P : ℕ → Type 0) where

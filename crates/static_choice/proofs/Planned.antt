@@ -18,11 +18,11 @@ use Rattle.facts.specs.declared.facts.Facts.{Facts}
 use Rattle.invariant_law.specs.Holds.{Each}
 use Rattle.removal_law.specs.Left.{In, here, there}
 use Rattle.removal_law.proofs.Outward.{any_here}
-use Rattle.loosened_bridge.specs.Candidates.{IsCandidate}
-use Rattle.loosened_bridge.specs.Edited.{IsOwn, IsPlanned, LetsClass, target_of}
-use Rattle.loosened_bridge.proofs.Classes.{contains_at}
-use Rattle.loosened_bridge.proofs.Programs.{in_from}
-use Rattle.loosened_bridge.proofs.Targets.{targets_planned}
+use Rattle.static_law.specs.Candidates.{IsCandidate}
+use Rattle.static_law.specs.Edited.{IsOwn, IsPlanned, LetsClass, target_of}
+use Rattle.static_law.proofs.Classes.{contains_at}
+use Rattle.static_law.proofs.Programs.{in_from}
+use Rattle.static_law.proofs.Targets.{targets_planned}
 use Rattle.loose_methods.specs.Candidates.{is_kept}
 use Rattle.static_protos.specs.Tables.{Tables}
 use Rattle.staticise.specs.Judging.{judged}

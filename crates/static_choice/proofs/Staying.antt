@@ -13,7 +13,7 @@ use Rattle.program_model.specs.declared.program.Method.{Method}
 use Rattle.program_model.specs.declared.program.Program.{Program}
 use Rattle.facts.specs.declared.facts.Facts.{Facts}
 use Rattle.stuck_bridge.proofs.Listed.{Image, image}
-use Rattle.loosened_bridge.proofs.Classes.{contains_at}
+use Rattle.static_law.proofs.Classes.{contains_at}
 use Rattle.static_protos.specs.Tables.{Tables}
 use Rattle.staticise.specs.Called.{IsUntouched}
 use Rattle.staticise.specs.Judging.{judged}

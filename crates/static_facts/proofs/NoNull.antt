@@ -63,7 +63,7 @@ use Rattle.value_law.specs.Operators.{operators}
 use Rattle.value_law.proofs.Sound.{value_sound}
 use Rattle.fold_bridge.specs.Folds.{AreNamed, StandsAt}
 use Rattle.fold_bridge.proofs.Covered.{covered_calm}
-use Rattle.static_names.specs.Receiving.{HoldNoNull}
+use Rattle.static_law.specs.Receiving.{HoldNoNull}
 use Rattle.static_facts.specs.Knows.{KnowsNotNull, holds_no_null, is_not_null}
 
 -- ---- lists

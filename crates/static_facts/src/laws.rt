@@ -15,7 +15,7 @@ ghost use Rattle.run_facts.specs.ValueAnalysis.{value_analysis};
 ghost use Rattle.cover_law.specs.Coverable.{IsTabled};
 ghost use Rattle.value_law.specs.Operators.{operators};
 ghost use Rattle.fold_bridge.specs.Folds.{AreNamed};
-ghost use Rattle.static_names.specs.Receiving.{HoldNoNull};
+ghost use Rattle.static_law.specs.Receiving.{HoldNoNull};
 ghost use Rattle.static_facts.specs.Knows.{KnowsNotNull};
 
 /// Registers that facts by number know as not null hold no null in the states of a run that begins with the calm classes done, where

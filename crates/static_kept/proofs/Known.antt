@@ -37,11 +37,11 @@ use Rattle.pass_defs.specs.Loose.{HasReceiver, concerns, names_it}
 use Rattle.pass_defs.specs.Walks.{form_at}
 use Rattle.removal_law.proofs.Declared.{method_same}
 use Rattle.stuck_bridge.proofs.Listed.{method_fits_at}
-use Rattle.static_names.specs.Receiving.{KnowsReceivers}
-use Rattle.loosened_bridge.specs.Edited.{loose_in}
-use Rattle.loosened_bridge.proofs.Classes.{contains_at}
-use Rattle.loosened_bridge.proofs.Fitting.{body_of_code, method_holds}
-use Rattle.loosened_bridge.proofs.Tables.{loose_from}
+use Rattle.static_law.specs.Receiving.{KnowsReceivers}
+use Rattle.static_law.specs.Edited.{loose_in}
+use Rattle.static_law.proofs.Classes.{contains_at}
+use Rattle.static_law.proofs.Fitting.{body_of_code, method_holds}
+use Rattle.static_law.proofs.Tables.{loose_from}
 use Rattle.loose_methods.specs.Loose as number
 use Rattle.static_choice.specs.Choice.{IsPlan, given_by}
 use Rattle.static_choice.proofs.Coded.{CallAt}

@@ -20,7 +20,7 @@ use Rattle.removal_law.proofs.Lists.{contained}
 use Rattle.program_laws.specs.Numbered.{NumberedCodes, OtherNumberedBodies}
 use Rattle.program_laws.specs.Others.{Codes, OtherBodies, OtherClass, OtherMethod, Pairwise}
 use Rattle.program_laws.proofs.Named.{others_named}
-use Rattle.loosened_bridge.proofs.Programs.{in_from}
+use Rattle.static_law.proofs.Programs.{in_from}
 use Rattle.program_laws.specs.Virtual.{HasVirtual, VirtualsStay}
 
 -- ---- removal

@@ -18,8 +18,8 @@ use Rattle.class_defs.specs.ClassGraph.{IsTwice}
 use Rattle.class_defs.proofs.WellFormed.{Sound, sound}
 use Rattle.name_bridge.proofs.Tables.{entry_at}
 use Rattle.facts.specs.declared.facts.Facts.{Facts}
-use Rattle.loosened_bridge.specs.Edited.{IsEdited, LetsClass, name_edited, target_of}
-use Rattle.loosened_bridge.proofs.Classes.{contains_at}
+use Rattle.static_law.specs.Edited.{IsEdited, LetsClass, name_edited, target_of}
+use Rattle.static_law.proofs.Classes.{contains_at}
 use Rattle.stay_law.specs.Stays.{NoMoreRegisters, Stands}
 use Rattle.staticise.specs.Called.{IsUntouched}
 use Rattle.staticise.specs.Judging.{judged}

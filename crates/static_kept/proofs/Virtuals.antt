@@ -21,11 +21,11 @@ use Rattle.removal_law.specs.Reach.{TellsApart}
 use Rattle.removal_law.proofs.Lists.{clash, contained}
 use Rattle.program_laws.specs.Remade.{Remethod, SameMethods, class_remade, remade}
 use Rattle.program_laws.proofs.Remade.{class_same}
-use Rattle.static_names.specs.Static.{IsSound, made_static}
-use Rattle.static_names.proofs.Declared.{from_map, turned_static}
-use Rattle.static_names.proofs.Methods.{stays}
-use Rattle.loosened_bridge.specs.Edited.{IsEdited, IsPlanned, loose_in}
-use Rattle.loosened_bridge.proofs.Programs.{in_from, named_now, new, same_methods}
+use Rattle.static_law.specs.Static.{IsSound, made_static}
+use Rattle.static_law.proofs.Declared.{from_map, turned_static}
+use Rattle.static_law.proofs.Methods.{stays}
+use Rattle.static_law.specs.Edited.{IsEdited, IsPlanned, loose_in}
+use Rattle.static_law.proofs.Programs.{in_from, named_now, new, same_methods}
 use Rattle.program_laws.specs.Virtual.{HasVirtual, VirtualsStay}
 
 module _ (p : NamedProgram) (loose : MethodKey → Bool) (sound : IsSound p loose) (tells : TellsApart p) (new : Remethod) (same : SameMethods new (staticised p loose)) where

@@ -58,9 +58,9 @@ use Rattle.stuck_law.proofs.Values.{instance_thing}
 use Rattle.stuck_law.proofs.Worlds.{at_typed}
 use Rattle.removal_law.proofs.Lists.{clash, and_left, and_behind}
 use Rattle.removal_law.proofs.Declared.{method_same, not_false}
-use Rattle.static_names.specs.Receiving.{HoldNoNull, KnowsReceivers}
-use Rattle.static_names.specs.Static.{MayAllBeStatic, ReceiverKnown, ReceiversReached}
-use Rattle.static_names.proofs.Called.{first_called}
+use Rattle.static_law.specs.Receiving.{HoldNoNull, KnowsReceivers}
+use Rattle.static_law.specs.Static.{MayAllBeStatic, ReceiverKnown, ReceiversReached}
+use Rattle.static_law.proofs.Called.{first_called}
 
 module _ (p : NamedProgram) (o : Outer) (f : Framework) (a : Floats) (script : List Move) (regular : IsRegular p) (fit : Fit p o f script) where
   reg : IsSettled p

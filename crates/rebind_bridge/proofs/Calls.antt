@@ -74,7 +74,7 @@ use Rattle.verify.specs.declared.kinds.Kind.TheVariants as kind
 use Rattle.verify.specs.declared.tables.Tables.{Tables}
 use Rattle.rebind_law.specs.Receivers.{Renames, FindsListed, BoundByPlaces}
 use Rattle.rebind_law.specs.Retyping.{Retypes}
-use Rattle.receiver_law.specs.Reasons.{BoundByKind, ByFacts, ByKind, Rebound}
+use Rattle.rebind_law.specs.Reasons.{BoundByKind, ByFacts, ByKind, Rebound}
 use Rattle.receivers.specs.Receiving.{interface_at}
 use Rattle.devirt.specs.Binding.{kind_for, is_in_class, receives}
 use Rattle.devirt.specs.Measure.{is_virtual_call}

@@ -46,9 +46,9 @@ use Rattle.value_law.specs.Operators.{operators}
 use Rattle.value_law.proofs.Sound.{value_sound}
 use Rattle.verify.specs.Methods.{TypesFor}
 use Rattle.verify.specs.Typings as typings
-use Rattle.receiver_law.specs.Reasons.{Rebound, ReboundBody, ReboundCode}
-use Rattle.receiver_law.specs.Reasons as reasons
-use Rattle.receiver_law.proofs.ByReasons.{reasons_shown, reasons_typed}
+use Rattle.rebind_law.specs.Reasons.{Rebound, ReboundBody, ReboundCode}
+use Rattle.rebind_law.specs.Reasons as reasons
+use Rattle.rebind_law.proofs.ByReasons.{reasons_shown, reasons_typed}
 use Rattle.devirt.specs.Rebound.{IsRebindingOf}
 use Rattle.rebind_bridge.specs.Rebound.{FramesAreNamed, IsReboundBody, ReboundSo, NoCode, Same}
 use Rattle.rebind_bridge.specs.Rebound as by_number

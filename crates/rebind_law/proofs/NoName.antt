@@ -17,7 +17,7 @@ use Rattle.pass_defs.specs.Demands.{is_constructor_name}
 use Rattle.invariant_law.specs.Holds.{Each}
 use Rattle.lemmas.proofs.Bools.{and_left}
 use Rattle.stuck_law.proofs.Climbs.{class_in}
-use Rattle.receiver_law.specs.Asking.{class_letters, letters, no_name, asking_key}
+use Rattle.rebind_law.specs.Asking.{class_letters, letters, no_name, asking_key}
 
 -- ---- sums
 

@@ -1,4 +1,10 @@
-//! The laws.
+//! What the kinds of a typing say of receivers: calls may name another method that all objects of the classes under the receiver's
+//! kind find, beside calls that may do so by facts (`specs/Reasons.antt`).
+//!
+//! A typing of a method says nothing of a run by itself, since a run is typed by some typing of each method. So the law goes by a
+//! second program, in which such a call names a method that no class has, of the class of the receiver's kind
+//! (`specs/Asking.antt`): all its typings give the receiver a kind under that class. Its typings hold of each state of a run of the
+//! first program, too (`proofs/Keeping.antt`).
 
 ghost use Rattle.std.specs.Prelude.{◌≡◌, Bool, List, true};
 ghost use Rattle.dalvik_defs.specs.Outer.{Outer};
@@ -15,7 +21,7 @@ ghost use Rattle.run_facts.specs.ValueAnalysis.{Numbers, value_analysis};
 ghost use Rattle.removal_law.specs.Reach.{IsAcyclic};
 ghost use Rattle.stuck_law.specs.Regular.{IsRegular};
 ghost use Rattle.cover_law.specs.Coverable.{IsCoverable};
-ghost use Rattle.receiver_law.specs.Reasons.{ReboundCode};
+ghost use Rattle.rebind_law.specs.Reasons.{ReboundCode};
 
 /// A regular program of which no class stands above itself shows the same, and stays typed, in which calls name another method,
 /// one with code that their receivers find by both names: the objects that closed facts allow, where these cover the program, or

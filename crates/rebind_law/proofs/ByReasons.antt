@@ -55,9 +55,9 @@ use Rattle.rebind_law.proofs.ByFacts.{binds}
 use Rattle.rebind_law.proofs.Places.{by_places}
 use Rattle.rebind_law.proofs.Rebinding.{rebound_shown}
 use Rattle.rebind_law.proofs.Retyping.{retyped_program}
-use Rattle.receiver_law.specs.Asking.{Asks, AskedCall, KnowsReceivers, AreAsked, asking_program}
-use Rattle.receiver_law.specs.Reasons.{BoundByKind, Reason, ByFacts, ByKind, Rebound, ReboundBody, ReboundCode, NoCode, Kept, Changed}
-use Rattle.receiver_law.proofs.Keeping.{asking_holds, receiver_asked}
+use Rattle.rebind_law.specs.Asking.{Asks, AskedCall, KnowsReceivers, AreAsked, asking_program}
+use Rattle.rebind_law.specs.Reasons.{BoundByKind, Reason, ByFacts, ByKind, Rebound, ReboundBody, ReboundCode, NoCode, Kept, Changed}
+use Rattle.rebind_law.proofs.Keeping.{asking_holds, receiver_asked}
 
 module _ (used : Type 0) (p q : NamedProgram) (t : Facts Parts) (regular : IsRegular p) (others : OtherBodies (ReboundCode used p t) p q) where
   abbrev R : MethodKey → Option NamedBody → Option NamedBody → Type 0

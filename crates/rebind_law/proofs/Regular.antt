@@ -36,9 +36,9 @@ use Rattle.program_laws.specs.Others.{OtherBodies}
 use Rattle.program_laws.proofs.Named.{others_changed}
 use Rattle.rebind_law.specs.Retyping.{Retypes, IsRetyped, Retyped, NoCode, Changed}
 use Rattle.rebind_law.proofs.Retyping.{retyped_program}
-use Rattle.receiver_law.specs.Asking.{Asks, asking, asking_key, asking_from, asking_body, asking_change, asking_program, no_name, AskedCall, KnowsReceivers, AreAsked}
-use Rattle.receiver_law.proofs.NoName.{ordinary_name, unresolved}
-use Rattle.receiver_law.proofs.Positions.{at_body, coded}
+use Rattle.rebind_law.specs.Asking.{Asks, asking, asking_key, asking_from, asking_body, asking_change, asking_program, no_name, AskedCall, KnowsReceivers, AreAsked}
+use Rattle.rebind_law.proofs.NoName.{ordinary_name, unresolved}
+use Rattle.rebind_law.proofs.Positions.{at_body, coded}
 
 -- a class's own kind fits it
 own_fits : (p : NamedProgram) (t : Text) → is_class_type t ≡ true → is_plain p t ≡ true → fits p (Class t) t ≡ true

@@ -19,7 +19,7 @@ use Rattle.program_laws.specs.Others.{Codes, OtherBodies}
 use Rattle.program_laws.proofs.Faces.{others_face}
 use Rattle.program_laws.proofs.Found.{others_found}
 use Rattle.program_laws.proofs.Named.{others_changed}
-use Rattle.receiver_law.specs.Asking.{Asks, asking, asking_from, asking_body, asking_change, asking_program, no_name}
+use Rattle.rebind_law.specs.Asking.{Asks, asking, asking_from, asking_body, asking_change, asking_program, no_name}
 
 pub at_from : (name : Text) (asks : ℕ → Option Text) (n k : ℕ) (fs : List Form) → slice_get (asking_from name asks n fs) k ≡ option_map (asking name (asks (n + k))) (slice_get fs k)
 at_from name asks n k [] = refl

@@ -49,11 +49,11 @@ use Rattle.stuck_law.proofs.Settled.{IsSettled, FindsRegularly}
 use Rattle.rebind_law.specs.Receivers.{Renames, finds_listed}
 use Rattle.rebind_law.proofs.ByClass.{reg, finds, received}
 use Rattle.rebind_law.proofs.Listed.{listed_both, listed_virtually}
-use Rattle.receiver_law.specs.Asking.{Asks, asking, asking_key, asking_body, asking_change, asking_program, no_name, AskedCall, AreAsked}
-use Rattle.receiver_law.proofs.NoName.{ordinary_name}
-use Rattle.receiver_law.proofs.Positions.{coded, asking_face, asking_found, asking_form, same_handler, same_back}
-use Rattle.receiver_law.proofs.Regular.{asking_regular, asking_acyclic, same_defines}
-use Rattle.receiver_law.proofs.Entering.{found_leads, null_leads}
+use Rattle.rebind_law.specs.Asking.{Asks, asking, asking_key, asking_body, asking_change, asking_program, no_name, AskedCall, AreAsked}
+use Rattle.rebind_law.proofs.NoName.{ordinary_name}
+use Rattle.rebind_law.proofs.Positions.{coded, asking_face, asking_found, asking_form, same_handler, same_back}
+use Rattle.rebind_law.proofs.Regular.{asking_regular, asking_acyclic, same_defines}
+use Rattle.rebind_law.proofs.Entering.{found_leads, null_leads}
 
 -- what a virtual or interface call does is decided by what its receiver finds
 searched : (face : Face) (need : Text → Need) (vs : List Value) (w : World) (g : Frame) (kind : InvokeKind) (k : MethodKey) → is_virtual_call kind ≡ true

@@ -33,7 +33,7 @@ use Rattle.value_ops.specs.Left.{is_nothing}
 use Rattle.value_ops.specs.Numbers.{binary_value, compared_value, literal_value, unary_value}
 use Rattle.pass_defs.specs.Analysis.{Analysis, Holds, on_number, on_sort}
 use Rattle.form_laws.specs.Changes.{Sets, changed}
-use Rattle.stuck_law.proofs.Forms.{sort_divides, sort_throws, divides_op, literal_divides}
+use Rattle.run_laws.proofs.Forms.{sort_divides, sort_throws, divides_op, literal_divides}
 use Rattle.run_facts.specs.ValueAnalysis.{datum_of, value_analysis}
 use Rattle.cover_law.specs.Sound.{IsSoundOn, IsSmall, IsWord, IsWide, NumberOf}
 use Rattle.value_law.specs.Operators.{operators}

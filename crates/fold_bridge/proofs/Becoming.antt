@@ -32,13 +32,13 @@ use Rattle.pass_defs.specs.Facts as by_name
 use Rattle.pass_defs.specs.Pure.{is_quiet_field}
 use Rattle.form_laws.specs.Changes.{In, here}
 use Rattle.form_laws.specs.Known.{Known}
-use Rattle.invariant_law.specs.Holds.{Each}
+use Rattle.run_laws.specs.Holds.{Each}
 use Rattle.run_facts.specs.ValueAnalysis.{value_analysis}
 use Rattle.cover_law.specs.Coverable.{IsCoverable}
 use Rattle.cover_law.specs.Known.{RangedMove}
 use Rattle.cover_law.proofs.Along.{Suits}
 use Rattle.cover_law.proofs.Ready.{IsReady}
-use Rattle.stuck_law.proofs.Settled.{IsSettled}
+use Rattle.run_laws.proofs.Settled.{IsSettled}
 use Rattle.value_law.specs.Operators.{operators}
 use Rattle.const_prop.specs.declared.choices.Way.{Way}
 use Rattle.const_prop.specs.Choices.{chosen}

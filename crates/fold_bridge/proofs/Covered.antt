@@ -18,11 +18,11 @@ use Rattle.dalvik_defs.specs.declared.tables.Framework.{Framework}
 use Rattle.pass_defs.specs.Analysis.{Analysis}
 use Rattle.pass_defs.specs.Facts.{Facts}
 use Rattle.pass_defs.specs.Live.{Family, IsClosedFamily, unconditional}
-use Rattle.invariant_law.specs.Holds.{Each, Holds as HoldsBy}
-use Rattle.invariant_law.specs.Invariant.{Invariant, both}
-use Rattle.invariant_law.proofs.Plain.{grown, keeps_plainly}
-use Rattle.invariant_law.proofs.Stacked.{keeps_both}
-use Rattle.invariant_law.proofs.Invariants.{holds_after}
+use Rattle.run_laws.specs.Holds.{Each, Holds as HoldsBy}
+use Rattle.run_laws.specs.Invariant.{Invariant, both}
+use Rattle.run_laws.proofs.Plain.{grown, keeps_plainly}
+use Rattle.run_laws.proofs.Stacked.{keeps_both}
+use Rattle.run_laws.proofs.Invariants.{holds_after}
 use Rattle.run_facts.specs.Covered.{CoversWorld, covering}
 use Rattle.removal_law.specs.Reach.{DefinesOnce, LeftAgrees, TellsProtos}
 use Rattle.removal_law.proofs.Acyclic.{regular as upright}
@@ -31,13 +31,13 @@ use Rattle.removal_law.proofs.Lists.{contained}
 use Rattle.removal_law.proofs.Protos.{told_apart, protos_told}
 use Rattle.removal_law.proofs.Removal.{faces_agree}
 use Rattle.removal_law.proofs.TypedCode.{typed_code}
-use Rattle.stuck_law.specs.Regular.{IsRegular}
-use Rattle.stuck_law.specs.TypedStates.{typed_states}
-use Rattle.stuck_law.proofs.Settled.{IsSettled, FindsRegularly}
-use Rattle.stuck_law.proofs.Registers.{and_left, and_right}
-use Rattle.stuck_law.proofs.Climbs.{class_in, none_some, some_one}
-use Rattle.stuck_law.proofs.Runs.{keeps_typed, typed_opening, settled}
-use Rattle.stuck_law.proofs.Searches.{finds_regularly}
+use Rattle.run_laws.specs.Regular.{IsRegular}
+use Rattle.run_laws.specs.TypedStates.{typed_states}
+use Rattle.run_laws.proofs.Settled.{IsSettled, FindsRegularly}
+use Rattle.run_laws.proofs.Registers.{and_left, and_right}
+use Rattle.run_laws.proofs.Climbs.{class_in, none_some, some_one}
+use Rattle.run_laws.proofs.Runs.{keeps_typed, typed_opening, settled}
+use Rattle.run_laws.proofs.Searches.{finds_regularly}
 use Rattle.cover_law.specs.Coverable.{IsCoverable}
 use Rattle.cover_law.specs.Known.{RangedMove, ranged_states, live_states}
 use Rattle.cover_law.specs.States.{covered_states}

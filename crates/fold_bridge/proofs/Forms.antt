@@ -52,13 +52,13 @@ use Rattle.pass_defs.specs.Pure.{is_quiet_field}
 use Rattle.pass_defs.specs.Walks.{form_at}
 use Rattle.form_laws.specs.Changes.{In, here, there, Sets, Jumps, changed, destination, width, width_if, Possible}
 use Rattle.form_laws.specs.Known.{Known, Becomes, Same, Folds}
-use Rattle.invariant_law.specs.Holds.{Each, Holds as HoldsBy}
+use Rattle.run_laws.specs.Holds.{Each, Holds as HoldsBy}
 use Rattle.run_facts.specs.Covered.{CoversTop, CoversWorld, TakesFrom}
 use Rattle.run_facts.specs.ValueAnalysis.{value_analysis}
-use Rattle.stuck_law.specs.TypedStates.{TypedFrame, TypedWorld}
-use Rattle.stuck_law.proofs.Settled.{IsSettled}
-use Rattle.stuck_law.proofs.Climbs.{some_one}
-use Rattle.stuck_law.proofs.Here.{at_form}
+use Rattle.run_laws.specs.TypedStates.{TypedFrame, TypedWorld}
+use Rattle.run_laws.proofs.Settled.{IsSettled}
+use Rattle.run_laws.proofs.Climbs.{some_one}
+use Rattle.run_laws.proofs.Here.{at_form}
 use Rattle.cover_law.specs.Coverable.{IsCoverable}
 use Rattle.cover_law.specs.Known.{KnownFrame, KnownWorld, RangedMove}
 use Rattle.cover_law.specs.States.{covered_states}

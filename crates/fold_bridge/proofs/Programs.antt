@@ -44,7 +44,7 @@ use Rattle.walk_bridge.proofs.Formed.{form_there}
 use Rattle.form_laws.specs.Known.{Becomes, IsFolded, IsFoldedRun, SameRun}
 use Rattle.form_laws.specs.Known as law
 use Rattle.form_laws.proofs.FoldedRuns.{folded_run}
-use Rattle.invariant_law.specs.Holds.{Each}
+use Rattle.run_laws.specs.Holds.{Each}
 use Rattle.run_facts.specs.ValueAnalysis.{value_analysis}
 use Rattle.cover_law.specs.Coverable.{IsCoverable}
 use Rattle.cover_law.specs.Known.{RangedMove}

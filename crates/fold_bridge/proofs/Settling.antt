@@ -49,10 +49,10 @@ use Rattle.pass_defs.specs.Typed.{wrong_item, wrong_field, wrong_first, differ}
 use Rattle.form_laws.specs.Changes.{Sets, changed, destination}
 use Rattle.run_facts.specs.Covered.{CoversTop, CoversWorld}
 use Rattle.run_facts.specs.ValueAnalysis.{datum_of, value_analysis}
-use Rattle.stuck_law.specs.TypedStates.{TypedFrame, TypedWorld}
-use Rattle.stuck_law.proofs.Settled.{IsSettled}
-use Rattle.stuck_law.proofs.Registers.{and_left}
-use Rattle.stuck_law.proofs.Forms.{low_held, halves_held, or_left, or_right}
+use Rattle.run_laws.specs.TypedStates.{TypedFrame, TypedWorld}
+use Rattle.run_laws.proofs.Settled.{IsSettled}
+use Rattle.run_laws.proofs.Registers.{and_left}
+use Rattle.run_laws.proofs.Forms.{low_held, halves_held, or_left, or_right}
 use Rattle.cover_law.specs.Known.{KnownFrame, KnownWorld}
 use Rattle.cover_law.proofs.Ready.{IsReady}
 use Rattle.cover_law.proofs.Fields.{static_seen}

@@ -42,8 +42,8 @@ use Rattle.pass_defs.specs.Facts.{Facts}
 use Rattle.form_laws.specs.Changes.{Sets, changed, destination, operands}
 use Rattle.run_facts.specs.Covered.{CoversTop, CoversWorld, TakesFrom}
 use Rattle.run_facts.specs.ValueAnalysis.{datum_of, value_analysis}
-use Rattle.stuck_law.specs.TypedStates.{TypedFrame, TypedWorld}
-use Rattle.stuck_law.proofs.Settled.{IsSettled}
+use Rattle.run_laws.specs.TypedStates.{TypedFrame, TypedWorld}
+use Rattle.run_laws.proofs.Settled.{IsSettled}
 use Rattle.cover_law.specs.Known.{KnownFrame, KnownWorld}
 use Rattle.cover_law.proofs.Ready.{IsReady}
 use Rattle.cover_law.proofs.Along.{Suits, Looks}

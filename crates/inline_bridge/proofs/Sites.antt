@@ -65,9 +65,9 @@ use Rattle.name_bridge.specs.Named.{found_at, finds, search_at}
 use Rattle.name_bridge.proofs.Flags.{static_flag}
 use Rattle.name_bridge.proofs.Found.{type_same, IsThere, found_there_is}
 use Rattle.name_bridge.proofs.Resolved.{static_by_number}
-use Rattle.stuck_law.specs.Regular.{reads_value, IsRegular}
-use Rattle.stuck_law.proofs.Here.{into_map}
-use Rattle.stuck_law.proofs.Sorts.{class_alone, not_wide}
+use Rattle.run_laws.specs.Regular.{reads_value, IsRegular}
+use Rattle.run_laws.proofs.Here.{into_map}
+use Rattle.run_laws.proofs.Sorts.{class_alone, not_wide}
 use Rattle.stuck_bridge.proofs.Formed.{regular_program}
 use Rattle.thin_laws.proofs.Rules.{first_begins, caught_at}
 use Rattle.walk_bridge.proofs.Formed.{same_reads, same_writes}

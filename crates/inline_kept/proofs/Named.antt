@@ -32,7 +32,7 @@ use Rattle.program_laws.proofs.Found.{others_found}
 use Rattle.program_laws.proofs.Named.{others_named}
 use Rattle.removal_law.proofs.CallsLeft.{body_in}
 use Rattle.removal_law.proofs.Lists.{contained}
-use Rattle.stuck_law.proofs.Here.{into_map}
+use Rattle.run_laws.proofs.Here.{into_map}
 use Rattle.inline_law.specs.Accepted.{Suits, AreAccepted}
 use Rattle.inline_law.specs.Entered.{sites_in}
 use Rattle.inline_law.specs.Sound.{IsSoundCallee}

@@ -64,17 +64,17 @@ use Rattle.pass_defs.specs.Kinds as kind
 use Rattle.pass_defs.specs.Registers.{kind_at}
 use Rattle.pass_defs.specs.Typed.{wrong_return, ends_early, IsTyped}
 use Rattle.pass_defs.specs.Walks.{form_at}
-use Rattle.invariant_law.specs.Holds.{Each, Holds as HoldsBy}
-use Rattle.invariant_law.proofs.Invariants.{holds_after}
-use Rattle.invariant_law.proofs.Plain.{grown, keeps_plainly}
+use Rattle.run_laws.specs.Holds.{Each, Holds as HoldsBy}
+use Rattle.run_laws.proofs.Invariants.{holds_after}
+use Rattle.run_laws.proofs.Plain.{grown, keeps_plainly}
 use Rattle.run_facts.specs.Covered.{CoversTop}
 use Rattle.run_facts.specs.ValueAnalysis.{datum_of, value_analysis}
-use Rattle.stuck_law.specs.TypedStates.{AllHold, TypedFrame, typed_states}
-use Rattle.stuck_law.proofs.Here.{At, at_form}
-use Rattle.stuck_law.proofs.Runs.{settled, keeps_typed, typed_opening, each_move}
-use Rattle.stuck_law.proofs.Searches.{finds_regularly}
-use Rattle.stuck_law.proofs.Settled.{IsSettled, FindsRegularly}
-use Rattle.stuck_law.proofs.Wides.{wides_held}
+use Rattle.run_laws.specs.TypedStates.{AllHold, TypedFrame, typed_states}
+use Rattle.run_laws.proofs.Here.{At, at_form}
+use Rattle.run_laws.proofs.Runs.{settled, keeps_typed, typed_opening, each_move}
+use Rattle.run_laws.proofs.Searches.{finds_regularly}
+use Rattle.run_laws.proofs.Settled.{IsSettled, FindsRegularly}
+use Rattle.run_laws.proofs.Wides.{wides_held}
 use Rattle.stuck_bridge.proofs.Formed.{regular_program}
 use Rattle.form_laws.proofs.Asking.{low_is, high_is}
 use Rattle.name_bridge.proofs.Above.{own_place}

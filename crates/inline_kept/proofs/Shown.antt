@@ -22,7 +22,7 @@ use Rattle.removal_bridge.proofs.Formed as upright
 use Rattle.run_facts.specs.ValueAnalysis.{value_analysis}
 use Rattle.cover_law.specs.Coverable.{IsTabled, IsCoverable}
 use Rattle.cover_law.proofs.Widths.{ranged_moves}
-use Rattle.stuck_law.specs.Regular.{IsRegular}
+use Rattle.run_laws.specs.Regular.{IsRegular}
 use Rattle.stuck_bridge.proofs.Formed as stuck
 use Rattle.tabled_law.proofs.Acyclic.{grounded_acyclic}
 use Rattle.value_law.specs.Operators.{operators}

@@ -44,8 +44,8 @@ use Rattle.type_bridge.proofs.Programs.{program, ground}
 use Rattle.program_laws.specs.Numbered.{OtherNumberedMethod, OtherNumberedBodies}
 use Rattle.program_laws.proofs.Named.{others_named}
 use Rattle.program_laws.proofs.Typed.{others_typed}
-use Rattle.stuck_law.specs.Regular.{IsRegular}
-use Rattle.stuck_law.proofs.Here.{into_map}
+use Rattle.run_laws.specs.Regular.{IsRegular}
+use Rattle.run_laws.proofs.Here.{into_map}
 use Rattle.stuck_bridge.proofs.Formed.{regular_program}
 use Rattle.splice.specs.declared.callee.Callee.{Callee}
 use Rattle.splice.specs.declared.spliced.Spliced.{Spliced}

@@ -24,7 +24,7 @@ use Rattle.pass_defs.specs.Kinds.{Kind, Undefined, is_below}
 use Rattle.pass_defs.specs.Registers.{Kinds, kind_at, all_below, kinds_below, state_below}
 use Rattle.pass_defs.specs.Typed.{argument_kinds, begun, after, edges, catches, wrong_return, ends_early, is_wrong, Table, state_at, each, at_state, arrives, IsTyping}
 use Rattle.pass_defs.specs.Walks.{form_at, is_covered, region_at, handlers_of, handlers_at, onward, caught, successors, Walk, Stays, Goes, IsReached, IsReadAt, Here, Onward, Caught, IsRead}
-use Rattle.stuck_law.proofs.Here.{into_left, into_map}
+use Rattle.run_laws.proofs.Here.{into_left, into_map}
 use Rattle.form_laws.proofs.Asked.{item_width}
 use Rattle.form_laws.proofs.Typings.{each_at, tested, allowed_at, right_at}
 use Rattle.inline_law.specs.Accepted.{Suits}

@@ -11,7 +11,7 @@ use Rattle.pass_defs.specs.Kinds.{Kind, Low, kind_of}
 use Rattle.pass_defs.specs.Typed.{halves, parameter_kinds, receiver_kind, argument_kinds, words_of}
 use Rattle.form_laws.specs.Changes.{width_if}
 use Rattle.form_laws.proofs.Widths.{Takes, type_takes}
-use Rattle.stuck_law.specs.Regular.{taken}
+use Rattle.run_laws.specs.Regular.{taken}
 
 -- so many registers as the kind takes
 halves_long : (k : Kind) (n : ℕ) → Takes k n → length (halves k) ≡ n

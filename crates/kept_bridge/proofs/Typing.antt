@@ -15,7 +15,7 @@ use Rattle.program_laws.proofs.Typed.{others_typed}
 use Rattle.form_laws.proofs.WellFormed.{well_formed_solid}
 use Rattle.form_laws.specs.TypedRegisters.{IsTypedRenamed}
 use Rattle.form_laws.proofs.TypedRenaming.{table, typed_renamed}
-use Rattle.stuck_law.specs.Regular.{IsRegular}
+use Rattle.run_laws.specs.Regular.{IsRegular}
 use Rattle.stuck_bridge.proofs.Formed.{regular_program}
 use Rattle.compact.specs.Narrow.{has_narrow_classes}
 use Rattle.compact.specs.Renamed.{IsCompactedProgram}

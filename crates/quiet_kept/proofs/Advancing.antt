@@ -69,7 +69,7 @@ use Rattle.dead_bridge.proofs.Quieting.{pure_named}
 use Rattle.pass_defs.specs.Analysis.{Analysis}
 use Rattle.pass_defs.specs.Facts as by_name
 use Rattle.pass_defs.specs.Pure.{is_quiet_field}
-use Rattle.invariant_law.proofs.Fine.{each_get}
+use Rattle.run_laws.proofs.Fine.{each_get}
 use Rattle.lemmas.proofs.Bools.{and_left, and_right}
 use Rattle.lemmas.proofs.Lists.{contains_here, get_there, got_short}
 use Rattle.lemmas.proofs.Options.{none_some, some_same}
@@ -77,7 +77,7 @@ use Rattle.removal_bridge.proofs.Formed.{no_object}
 use Rattle.form_laws.specs.Changes.{operands}
 use Rattle.run_facts.specs.Closed as name
 use Rattle.run_facts.specs.ValueAnalysis.{datum_of, value_analysis}
-use Rattle.stuck_law.proofs.Settled.{IsSettled}
+use Rattle.run_laws.proofs.Settled.{IsSettled}
 use Rattle.cover_law.specs.Coverable.{IsFormed}
 use Rattle.cover_law.specs.Sound.{NumberOf, IsSmall}
 use Rattle.cover_law.proofs.Along.{Along, Looks, IsTold, Suits, act_along}

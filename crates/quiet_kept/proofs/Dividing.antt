@@ -29,7 +29,7 @@ use Rattle.value_ops.specs.Left.{is_nothing}
 use Rattle.program_laws.specs.Agree.{Agree}
 use Rattle.program_laws.proofs.Agree.{agree_on, agree_write}
 use Rattle.lemmas.proofs.Bools.{not_true, or_cases, or_false_left, or_false_right}
-use Rattle.stuck_law.proofs.Forms.{sort_divides, sort_throws, divides_op, literal_divides}
+use Rattle.run_laws.proofs.Forms.{sort_divides, sort_throws, divides_op, literal_divides}
 use Rattle.run_facts.specs.ValueAnalysis.{datum_of}
 use Rattle.cover_law.specs.Sound.{IsSmall, IsWord, NumberOf}
 use Rattle.const_prop.specs.declared.numbers.Number.TheVariants.{Word, Wide}

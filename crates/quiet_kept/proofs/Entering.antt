@@ -62,8 +62,8 @@ use Rattle.dom_frame.specs.declared.frames.Frame.{Frame as Values}
 use Rattle.facts.specs.Lent.{frame_at}
 use Rattle.facts.specs.declared.facts.Facts.{Facts}
 use Rattle.hierarchy.specs.Touring.{subclasses_of}
-use Rattle.invariant_law.proofs.Invariants.{Entered}
-use Rattle.invariant_law.proofs.Plain.{grown, LeadsPlainly}
+use Rattle.run_laws.proofs.Invariants.{Entered}
+use Rattle.run_laws.proofs.Plain.{grown, LeadsPlainly}
 use Rattle.lemmas.proofs.Bools.{and_left, and_right, and_both, not_true, not_of_false}
 use Rattle.lemmas.proofs.Lists.{contains_here, contains_there, got_short}
 use Rattle.lemmas.proofs.Options.{none_some, some_same}
@@ -76,12 +76,12 @@ use Rattle.name_bridge.proofs.Started.{trivial_by_number}
 use Rattle.name_bridge.proofs.Tables.{method_is}
 use Rattle.pass_defs.specs.Demands.{is_constructor_name}
 use Rattle.pass_defs.specs.Kinds.{is_plain}
-use Rattle.stuck_law.specs.TypedStates.{TypedFrame, TypedWorld, typed_states}
-use Rattle.stuck_law.proofs.Climbs.{class_in, name_of}
-use Rattle.stuck_law.proofs.Here.{At, into_map}
-use Rattle.stuck_law.proofs.Runs.{keeps_typed}
-use Rattle.stuck_law.proofs.Searches.{finds_regularly}
-use Rattle.stuck_law.proofs.Settled.{IsSettled}
+use Rattle.run_laws.specs.TypedStates.{TypedFrame, TypedWorld, typed_states}
+use Rattle.run_laws.proofs.Climbs.{class_in, name_of}
+use Rattle.run_laws.proofs.Here.{At, into_map}
+use Rattle.run_laws.proofs.Runs.{keeps_typed}
+use Rattle.run_laws.proofs.Searches.{finds_regularly}
+use Rattle.run_laws.proofs.Settled.{IsSettled}
 use Rattle.stuck_bridge.proofs.Listed.{image, Image}
 use Rattle.pass_defs.specs.Analysis.{Analysis}
 use Rattle.pass_defs.specs.Facts as by_name

@@ -22,7 +22,7 @@ use Rattle.lemmas.proofs.Options.{none_some, some_same}
 use Rattle.pass_defs.specs.Quiet.{takes_result}
 use Rattle.pass_defs.specs.Walks.{form_at}
 use Rattle.program_laws.proofs.WellFormed.{well_placed}
-use Rattle.stuck_law.proofs.Here.{into_map}
+use Rattle.run_laws.proofs.Here.{into_map}
 use Rattle.program_laws.specs.Others.{OtherBodies}
 use Rattle.program_laws.specs.Numbered.{OtherNumberedBodies}
 use Rattle.program_laws.proofs.Named.{others_named}

@@ -53,12 +53,12 @@ use Rattle.closed_bridge.specs.Names.{named_facts, values}
 use Rattle.closed_bridge.proofs.Numbers.{IsNumber}
 use Rattle.closed_bridge.proofs.Defining.{same_number as one_number}
 use Rattle.closed_bridge.proofs.Places.{CodedAt, Here, here_at, looked_up}
-use Rattle.invariant_law.specs.Holds.{Each, Holds as HoldsBy}
+use Rattle.run_laws.specs.Holds.{Each, Holds as HoldsBy}
 use Rattle.run_facts.specs.Covered.{CoversTop, CoversWorld}
 use Rattle.run_facts.specs.ValueAnalysis.{value_analysis}
-use Rattle.stuck_law.specs.TypedStates.{TypedFrame, TypedWorld}
-use Rattle.stuck_law.proofs.Settled.{IsSettled}
-use Rattle.stuck_law.proofs.Here.{at_form}
+use Rattle.run_laws.specs.TypedStates.{TypedFrame, TypedWorld}
+use Rattle.run_laws.proofs.Settled.{IsSettled}
+use Rattle.run_laws.proofs.Here.{at_form}
 use Rattle.cover_law.specs.Coverable.{IsCoverable}
 use Rattle.cover_law.specs.Known.{KnownFrame, KnownWorld, RangedMove}
 use Rattle.cover_law.specs.States.{covered_states}

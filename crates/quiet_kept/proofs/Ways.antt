@@ -11,7 +11,7 @@ use Rattle.dom_frame.specs.Steps.{branched, switched, unswitched}
 use Rattle.facts.specs.declared.facts.Facts.{Facts}
 use Rattle.closed_facts.specs.Edges.{arm, both_ways, cases_from, edges}
 use Rattle.lemmas.proofs.Lists.{contains_here, contains_there}
-use Rattle.stuck_law.proofs.Here.{into_left, into_right}
+use Rattle.run_laws.proofs.Here.{into_left, into_right}
 use Rattle.cover_law.proofs.Standing.{split_in}
 use Rattle.quiet_methods.specs.Forms.{one_if, cases_upto, switch_ways, branch_ways, ways}
 

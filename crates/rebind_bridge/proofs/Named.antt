@@ -36,8 +36,8 @@ use Rattle.removal_law.specs.Reach.{IsAcyclic}
 use Rattle.removal_bridge.proofs.Formed as upright
 use Rattle.run_facts.specs.ValueAnalysis.{value_analysis}
 use Rattle.cover_law.specs.Coverable.{IsTabled}
-use Rattle.stuck_law.specs.Regular.{IsRegular}
-use Rattle.stuck_law.proofs.Here.{into_map}
+use Rattle.run_laws.specs.Regular.{IsRegular}
+use Rattle.run_laws.proofs.Here.{into_map}
 use Rattle.stuck_bridge.proofs.Formed as stuck
 use Rattle.tabled_law.proofs.Acyclic.{grounded_acyclic}
 use Rattle.type_bridge.specs.Views.{method_table}

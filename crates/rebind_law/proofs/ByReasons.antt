@@ -35,13 +35,13 @@ use Rattle.pass_defs.specs.Kinds.{Class}
 use Rattle.pass_defs.specs.Registers.{Kinds, kind_at}
 use Rattle.pass_defs.specs.Typed.{Table, state_at, IsTyping, IsTyped}
 use Rattle.pass_defs.specs.Walks.{form_at}
-use Rattle.invariant_law.specs.Holds.{Holds}
+use Rattle.run_laws.specs.Holds.{Holds}
 use Rattle.removal_law.specs.Reach.{IsAcyclic}
 use Rattle.run_facts.specs.ValueAnalysis.{Numbers, value_analysis}
 use Rattle.cover_law.specs.Coverable.{IsCoverable}
-use Rattle.stuck_law.specs.Regular.{IsRegular}
-use Rattle.stuck_law.specs.TypedStates.{typed_states}
-use Rattle.stuck_law.proofs.Climbs.{none_some, some_one}
+use Rattle.run_laws.specs.Regular.{IsRegular}
+use Rattle.run_laws.specs.TypedStates.{typed_states}
+use Rattle.run_laws.proofs.Climbs.{none_some, some_one}
 use Rattle.program_laws.specs.Others.{OtherBodies}
 use Rattle.program_laws.proofs.Faces.{others_face}
 use Rattle.program_laws.proofs.Found.{others_found}

@@ -32,15 +32,15 @@ use Rattle.pass_defs.specs.Demands.{Demand, Fits, Constructed, meets, passed, is
 use Rattle.pass_defs.specs.Kinds.{Kind, is_plain}
 use Rattle.pass_defs.specs.Kinds as kind
 use Rattle.pass_defs.specs.Typed.{argument_kinds, parameter_kinds, receiver_kind, is_constructor, words_of, passed_words, wrong_method, wrong_super}
-use Rattle.invariant_law.specs.Invariant.{Callee}
-use Rattle.stuck_law.specs.TypedStates.{AllHold, IsObject, KindHolds, TypedFrame, TypedWorld}
-use Rattle.stuck_law.proofs.Settled.{IsSettled, FindsRegularly, IsFound}
-use Rattle.stuck_law.proofs.Registers.{and_right, no_low}
-use Rattle.stuck_law.proofs.Climbs.{plain_by, under_self}
-use Rattle.stuck_law.proofs.Here.{At}
-use Rattle.stuck_law.proofs.Forms.{or_right, Leads, throws_new}
-use Rattle.stuck_law.proofs.FieldForms.{waits}
-use Rattle.stuck_law.proofs.Calls.{arguments, entered, Enter, receiver_whole, kind_object, virtual_flags}
+use Rattle.run_laws.specs.Invariant.{Callee}
+use Rattle.run_laws.specs.TypedStates.{AllHold, IsObject, KindHolds, TypedFrame, TypedWorld}
+use Rattle.run_laws.proofs.Settled.{IsSettled, FindsRegularly, IsFound}
+use Rattle.run_laws.proofs.Registers.{and_right, no_low}
+use Rattle.run_laws.proofs.Climbs.{plain_by, under_self}
+use Rattle.run_laws.proofs.Here.{At}
+use Rattle.run_laws.proofs.Forms.{or_right, Leads, throws_new}
+use Rattle.run_laws.proofs.FieldForms.{waits}
+use Rattle.run_laws.proofs.Calls.{arguments, entered, Enter, receiver_whole, kind_object, virtual_flags}
 
 untrue : (b : Bool) → not b ≡ false → b ≡ true
 untrue true e = refl

@@ -34,18 +34,18 @@ use Rattle.dalvik_defs.specs.declared.tables.Framework.{Framework}
 use Rattle.dalvik_defs.proofs.Same.{fits_less}
 use Rattle.pass_defs.specs.Bindable.{is_virtual_call}
 use Rattle.pass_defs.specs.Kinds.{is_plain}
-use Rattle.invariant_law.specs.Holds.{Holds}
-use Rattle.invariant_law.specs.Invariant.{Invariant}
-use Rattle.invariant_law.proofs.Invariants.{Entered, Landed, holds_after, opens_with}
-use Rattle.invariant_law.proofs.Plain.{grown, LeadsPlainly, KeptPlainly, keeps_plainly}
+use Rattle.run_laws.specs.Holds.{Holds}
+use Rattle.run_laws.specs.Invariant.{Invariant}
+use Rattle.run_laws.proofs.Invariants.{Entered, Landed, holds_after, opens_with}
+use Rattle.run_laws.proofs.Plain.{grown, LeadsPlainly, KeptPlainly, keeps_plainly}
 use Rattle.removal_law.specs.Reach.{IsAcyclic}
 use Rattle.program_laws.proofs.Heads.{plain_same, under_same, finds_at_same}
-use Rattle.stuck_law.specs.Regular.{IsRegular}
-use Rattle.stuck_law.specs.TypedStates.{TypedFrame, TypedWorld, typed_states}
-use Rattle.stuck_law.proofs.Climbs.{class_in, name_of, none_some, some_one, plain_defined}
-use Rattle.stuck_law.proofs.Here.{At, at_form}
-use Rattle.stuck_law.proofs.Runs.{keeps_typed, typed_opening, each_move}
-use Rattle.stuck_law.proofs.Settled.{IsSettled, FindsRegularly}
+use Rattle.run_laws.specs.Regular.{IsRegular}
+use Rattle.run_laws.specs.TypedStates.{TypedFrame, TypedWorld, typed_states}
+use Rattle.run_laws.proofs.Climbs.{class_in, name_of, none_some, some_one, plain_defined}
+use Rattle.run_laws.proofs.Here.{At, at_form}
+use Rattle.run_laws.proofs.Runs.{keeps_typed, typed_opening, each_move}
+use Rattle.run_laws.proofs.Settled.{IsSettled, FindsRegularly}
 use Rattle.rebind_law.specs.Receivers.{Renames, finds_listed}
 use Rattle.rebind_law.proofs.ByClass.{reg, finds, received}
 use Rattle.rebind_law.proofs.Listed.{listed_both, listed_virtually}

@@ -14,9 +14,9 @@ use Rattle.dalvik_defs.specs.declared.program.NamedClass.{NamedClass}
 use Rattle.dalvik_defs.specs.declared.program.NamedMethod.{NamedMethod}
 use Rattle.dalvik_defs.specs.declared.program.NamedProgram.{NamedProgram}
 use Rattle.pass_defs.specs.Demands.{is_constructor_name}
-use Rattle.invariant_law.specs.Holds.{Each}
+use Rattle.run_laws.specs.Holds.{Each}
 use Rattle.lemmas.proofs.Bools.{and_left}
-use Rattle.stuck_law.proofs.Climbs.{class_in}
+use Rattle.run_laws.proofs.Climbs.{class_in}
 use Rattle.rebind_law.specs.Asking.{class_letters, letters, no_name, asking_key}
 
 -- ---- sums

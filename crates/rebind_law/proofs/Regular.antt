@@ -23,15 +23,15 @@ use Rattle.pass_defs.specs.Registers.{Kinds, kind_at}
 use Rattle.pass_defs.specs.Typed.{state_at, IsTyped, differ, is_static_call}
 use Rattle.pass_defs.specs.Walks.{form_at}
 use Rattle.pass_defs.proofs.Writes.{itself_below}
-use Rattle.invariant_law.specs.Holds.{Each}
+use Rattle.run_laws.specs.Holds.{Each}
 use Rattle.removal_law.specs.Left.{In}
 use Rattle.removal_law.specs.Reach.{IsAcyclic}
 use Rattle.program_laws.specs.Bodies.{Change, class_changed, method_changed}
 use Rattle.program_laws.proofs.Heads.{class_same, at_class, plain_same, under_same, method_same}
 use Rattle.program_laws.proofs.Moved.{image}
-use Rattle.stuck_law.specs.Regular.{IsRegular, InterfacesStandFree, taken, reads_value, suits}
-use Rattle.stuck_law.proofs.Climbs.{none_some, some_one, plain_defined}
-use Rattle.stuck_law.proofs.Sorts.{class_alone, not_word}
+use Rattle.run_laws.specs.Regular.{IsRegular, InterfacesStandFree, taken, reads_value, suits}
+use Rattle.run_laws.proofs.Climbs.{none_some, some_one, plain_defined}
+use Rattle.run_laws.proofs.Sorts.{class_alone, not_word}
 use Rattle.program_laws.specs.Others.{OtherBodies}
 use Rattle.program_laws.proofs.Named.{others_changed}
 use Rattle.rebind_law.specs.Retyping.{Retypes, IsRetyped, Retyped, NoCode, Changed}

@@ -21,7 +21,7 @@ ghost use Rattle.pass_defs.specs.Typed.{IsTyped};
 ghost use Rattle.program_laws.specs.Others.{OtherBodies};
 ghost use Rattle.run_facts.specs.ValueAnalysis.{Numbers, value_analysis};
 ghost use Rattle.removal_law.specs.Reach.{IsAcyclic};
-ghost use Rattle.stuck_law.specs.Regular.{IsRegular};
+ghost use Rattle.run_laws.specs.Regular.{IsRegular};
 ghost use Rattle.cover_law.specs.Coverable.{IsCoverable};
 ghost use Rattle.rebind_law.specs.Rebinding.{AllRebound};
 ghost use Rattle.rebind_law.specs.Receivers.{BoundByFacts, BoundByClass, BoundByPlaces, ChangesCode, AreChanged};

@@ -28,7 +28,7 @@ use Rattle.dalvik_defs.specs.declared.names.MethodKey.{MethodKey}
 use Rattle.dalvik_defs.specs.declared.program.NamedBody.{NamedBody}
 use Rattle.dalvik_defs.specs.declared.program.NamedClass.{NamedClass}
 use Rattle.dalvik_defs.specs.declared.program.NamedMethod.{NamedMethod}
-use Rattle.invariant_law.specs.Holds.{Each}
+use Rattle.run_laws.specs.Holds.{Each}
 use Rattle.name_bridge.proofs.Tables.{entry_at}
 use Rattle.pass_defs.specs.Walks.{form_at}
 use Rattle.removal_law.proofs.Lists.{contained, found_in}

@@ -11,7 +11,7 @@ use Rattle.program_model.specs.declared.value.EncValue.TheFolds as folds
 use Rattle.program_model.specs.declared.value.EncValue.TheOpen as layer
 use Rattle.program_model.specs.declared.value.Mark.{Mark}
 use Rattle.program_model.specs.declared.value.Note.{Note, out-Note, fold-Note, fold_out-Note}
-use Rattle.invariant_law.specs.Holds.{Each}
+use Rattle.run_laws.specs.Holds.{Each}
 use Rattle.removal_law.specs.Left.{In, here, there}
 use Rattle.static_law.specs.Edited.{LetsClass, layer_names, marks_name, note_names, value_names}
 use Rattle.static_law.proofs.Programs.{in_from}

@@ -15,7 +15,7 @@ use Rattle.class_defs.specs.ClassGraph.{IsTwice}
 use Rattle.class_defs.proofs.Positions.{number_test}
 use Rattle.class_defs.proofs.WellFormed.{Sound}
 use Rattle.facts.specs.declared.facts.Facts.{Facts}
-use Rattle.invariant_law.specs.Holds.{Each}
+use Rattle.run_laws.specs.Holds.{Each}
 use Rattle.removal_law.specs.Left.{In, here, there}
 use Rattle.removal_law.proofs.Outward.{any_here}
 use Rattle.static_law.specs.Candidates.{IsCandidate}

@@ -8,7 +8,7 @@ ghost use Rattle.class_defs.specs.ClassGraph.{IsAncestor, IsTwice};
 ghost use Rattle.dalvik_defs.specs.Naming.{named};
 ghost use Rattle.dalvik_defs.specs.Outer.{outer_of};
 ghost use Rattle.facts.specs.declared.facts.Facts.{Facts};
-ghost use Rattle.invariant_law.specs.Holds.{Each};
+ghost use Rattle.run_laws.specs.Holds.{Each};
 ghost use Rattle.pass_defs.specs.Numbered.{tables_of};
 ghost use Rattle.static_law.specs.Static.{MayAllBeStatic};
 ghost use Rattle.static_law.specs.Edited.{IsEdited, IsPlanned, loose_in, target_of};

@@ -42,19 +42,19 @@ use Rattle.facts.specs.Lent.{frame_at}
 use Rattle.facts.specs.declared.facts.Facts.{Facts}
 use Rattle.pass_defs.specs.Analysis.{Analysis}
 use Rattle.pass_defs.specs.Facts as by_name
-use Rattle.invariant_law.specs.Fine.{fine_states}
-use Rattle.invariant_law.specs.Holds.{Each, Holds}
-use Rattle.invariant_law.specs.Invariant.{Invariant, both}
-use Rattle.invariant_law.specs.Sized.{IsSized, sized_states}
-use Rattle.invariant_law.proofs.FineFirsts.{firsts_there}
-use Rattle.invariant_law.proofs.FineRuns.{fine_kept, fine_opening}
-use Rattle.invariant_law.proofs.Invariants.{holds_after}
-use Rattle.invariant_law.proofs.Plain.{grown, keeps_plainly}
-use Rattle.invariant_law.proofs.SizedRuns.{sized_kept}
-use Rattle.invariant_law.proofs.Stacked.{keeps_both}
+use Rattle.run_laws.specs.Fine.{fine_states}
+use Rattle.run_laws.specs.Holds.{Each, Holds}
+use Rattle.run_laws.specs.Invariant.{Invariant, both}
+use Rattle.run_laws.specs.Sized.{IsSized, sized_states}
+use Rattle.run_laws.proofs.FineFirsts.{firsts_there}
+use Rattle.run_laws.proofs.FineRuns.{fine_kept, fine_opening}
+use Rattle.run_laws.proofs.Invariants.{holds_after}
+use Rattle.run_laws.proofs.Plain.{grown, keeps_plainly}
+use Rattle.run_laws.proofs.SizedRuns.{sized_kept}
+use Rattle.run_laws.proofs.Stacked.{keeps_both}
 use Rattle.run_facts.specs.Covered.{CoversTop}
 use Rattle.run_facts.specs.ValueAnalysis.{datum_of, value_analysis}
-use Rattle.stuck_law.proofs.Here.{into_map}
+use Rattle.run_laws.proofs.Here.{into_map}
 use Rattle.cover_law.specs.Coverable.{IsCoverable, IsTabled}
 use Rattle.cover_law.specs.Known.{RangedMove}
 use Rattle.cover_law.specs.States.{covered_states}

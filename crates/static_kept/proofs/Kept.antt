@@ -37,7 +37,7 @@ use Rattle.pass_defs.specs.Numbered.{tables_of}
 use Rattle.pass_defs.specs.Typed.{IsTyped}
 use Rattle.removal_law.specs.Reach.{ShutsHold, TellsApart}
 use Rattle.removal_law.proofs.Protos.{told_apart}
-use Rattle.stuck_law.specs.Regular.{IsRegular}
+use Rattle.run_laws.specs.Regular.{IsRegular}
 use Rattle.stuck_bridge.proofs.Formed as stuck
 use Rattle.static_law.specs.Receiving.{HoldNoNull}
 use Rattle.static_law.specs.Static.{AreInTables, IsSound, MayAllBeStatic}

@@ -32,7 +32,7 @@ use Rattle.dalvik_defs.specs.declared.program.NamedBody.{NamedBody}
 use Rattle.dalvik_defs.specs.declared.program.NamedClass.{NamedClass}
 use Rattle.dalvik_defs.specs.declared.program.NamedField.{NamedField}
 use Rattle.dalvik_defs.specs.declared.program.NamedMethod.{NamedMethod}
-use Rattle.invariant_law.specs.Holds.{Each}
+use Rattle.run_laws.specs.Holds.{Each}
 use Rattle.name_bridge.proofs.Tables.{Sound, method_is}
 use Rattle.pass_defs.specs.Loose.{loosened, new_key, new_parameter_marks, new_signature, static_body, static_class, static_method}
 use Rattle.stuck_bridge.proofs.Listed.{Image, image, field_fits_at, method_fits_at}

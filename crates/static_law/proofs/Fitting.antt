@@ -19,7 +19,7 @@ use Rattle.program_model.specs.declared.program.Method.{Method}
 use Rattle.program_model.specs.declared.program.Program.{Program}
 use Rattle.program_model.specs.declared.value.Mark.{Mark}
 use Rattle.class_defs.proofs.WellFormed.{and_left, and_right}
-use Rattle.invariant_law.specs.Holds.{Each}
+use Rattle.run_laws.specs.Holds.{Each}
 
 module _ (p : Program) where
   -- ---- annotations

@@ -25,7 +25,7 @@ use Rattle.dalvik_defs.specs.declared.names.MethodKey.{MethodKey}
 use Rattle.dalvik_defs.specs.declared.program.NamedBody.{NamedBody}
 use Rattle.dalvik_defs.specs.declared.program.NamedHandler.{NamedHandler}
 use Rattle.dalvik_defs.specs.declared.program.NamedRegion.{NamedRegion}
-use Rattle.invariant_law.specs.Holds.{Each}
+use Rattle.run_laws.specs.Holds.{Each}
 use Rattle.name_bridge.proofs.Tables.{Sound}
 use Rattle.pass_defs.specs.Loose.{called_statically, new_key, resolved, static_body}
 use Rattle.removal_law.proofs.Lists.{clash}

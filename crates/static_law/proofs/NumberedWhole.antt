@@ -19,7 +19,7 @@ use Rattle.dalvik_defs.specs.declared.script.Move.{Move}
 use Rattle.dalvik_defs.specs.declared.tables.Floats.{Floats}
 use Rattle.dalvik_defs.specs.declared.tables.Framework.{Framework}
 use Rattle.dalvik_defs.proofs.Same.{same_shown_on}
-use Rattle.invariant_law.specs.Holds.{Each}
+use Rattle.run_laws.specs.Holds.{Each}
 use Rattle.name_bridge.proofs.Tables.{Sound}
 use Rattle.pass_defs.specs.Loose.{static_class, staticised}
 use Rattle.pass_defs.specs.Numbered.{tables_of}
@@ -31,7 +31,7 @@ use Rattle.removal_law.proofs.OuterTables.{tables_agree}
 use Rattle.removal_law.proofs.Protos.{told_apart}
 use Rattle.removal_law.proofs.Trees.{defines_none}
 use Rattle.removal_bridge.proofs.Formed.{no_object, regular_program as upright_program}
-use Rattle.stuck_law.specs.Regular.{IsRegular}
+use Rattle.run_laws.specs.Regular.{IsRegular}
 use Rattle.stuck_bridge.proofs.Formed as stuck
 use Rattle.program_laws.specs.Remade.{Remethod, SameMethods, remade}
 use Rattle.program_laws.proofs.Remade.{class_same, defines_same}

@@ -22,7 +22,7 @@ use Rattle.dalvik_defs.specs.declared.names.Signature.{Signature}
 use Rattle.dalvik_defs.specs.declared.program.NamedClass.{NamedClass}
 use Rattle.dalvik_defs.specs.declared.program.NamedMethod.{NamedMethod}
 use Rattle.dalvik_defs.specs.declared.program.NamedProgram.{NamedProgram}
-use Rattle.invariant_law.specs.Holds.{Each}
+use Rattle.run_laws.specs.Holds.{Each}
 use Rattle.name_bridge.proofs.Tables.{Sound}
 use Rattle.pass_defs.specs.Loose.{new_key, new_signature, static_class, static_method, staticised}
 use Rattle.pass_defs.specs.Numbered.{tables_of}

@@ -32,7 +32,7 @@ use Rattle.dalvik_defs.specs.declared.names.Signature.{Signature}
 use Rattle.dalvik_defs.specs.declared.program.NamedBody.{NamedBody}
 use Rattle.dalvik_defs.specs.declared.program.NamedClass.{NamedClass}
 use Rattle.dalvik_defs.specs.declared.program.NamedMethod.{NamedMethod}
-use Rattle.invariant_law.specs.Holds.{Each}
+use Rattle.run_laws.specs.Holds.{Each}
 use Rattle.name_bridge.proofs.Found.{text_same as same_text}
 use Rattle.name_bridge.proofs.Tables.{Sound, and_right, all_at, below, entry_at, method_is, proto_parameters}
 use Rattle.pass_defs.specs.Numbered.{tables_of}

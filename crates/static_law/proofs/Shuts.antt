@@ -13,7 +13,7 @@ use Rattle.dalvik_defs.specs.Naming.{method_at, named, signature_at, text_at, ty
 use Rattle.dalvik_defs.specs.Outer.{Outer, methods_in, outer_of}
 use Rattle.dalvik_defs.specs.declared.names.MethodKey.{MethodKey}
 use Rattle.dalvik_defs.specs.declared.program.NamedProgram.{NamedProgram}
-use Rattle.invariant_law.specs.Holds.{Each}
+use Rattle.run_laws.specs.Holds.{Each}
 use Rattle.name_bridge.proofs.Tables.{Sound, method_once}
 use Rattle.pass_defs.specs.Loose.{new_key, staticised}
 use Rattle.pass_defs.specs.Numbered.{tables_of}

@@ -25,7 +25,7 @@ use Rattle.removal_law.proofs.Levels.{enough_steps}
 use Rattle.removal_law.proofs.Lists.{contained}
 use Rattle.removal_law.proofs.Protos.{told_apart}
 use Rattle.removal_law.proofs.Trees.{class_in, defined}
-use Rattle.stuck_law.specs.Regular.{IsRegular}
+use Rattle.run_laws.specs.Regular.{IsRegular}
 use Rattle.static_law.specs.Static.{AreInTables, FreeInterfaces, MayAllBeStatic}
 use Rattle.static_law.proofs.Judged.{may_be_static}
 use Rattle.static_law.proofs.Upright.{ends_within}

@@ -16,7 +16,7 @@ use Rattle.removal_law.specs.Reach as reach
 use Rattle.removal_law.proofs.Acyclic.{regular as upright}
 use Rattle.removal_law.proofs.Lists.{clash, all_in, contained}
 use Rattle.removal_law.proofs.Trees.{class_in}
-use Rattle.stuck_law.specs.Regular.{IsRegular}
+use Rattle.run_laws.specs.Regular.{IsRegular}
 
 -- the superclasses of a class end
 pub ends_within : (p : NamedProgram) (n : ℕ) (t : Text) → ends p n t ≡ true → EndsWithin p n t

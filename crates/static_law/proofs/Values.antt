@@ -24,7 +24,7 @@ use Rattle.dalvik_defs.specs.declared.encoded.NamedMark.{NamedMark}
 use Rattle.dalvik_defs.specs.declared.encoded.NamedNote.{NamedNote, roll-NamedNote}
 use Rattle.dalvik_defs.specs.declared.encoded.NamedValue.{NamedValue}
 use Rattle.dalvik_defs.specs.declared.encoded.NamedValue.TheVariants as value
-use Rattle.invariant_law.specs.Holds.{Each}
+use Rattle.run_laws.specs.Holds.{Each}
 use Rattle.name_bridge.proofs.Tables.{Sound}
 use Rattle.pass_defs.specs.Loose.{new_key}
 use Rattle.removal_law.proofs.Lists.{clash}

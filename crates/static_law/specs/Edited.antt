@@ -28,7 +28,7 @@ use Rattle.dalvik_defs.specs.Names.{method_eq}
 use Rattle.dalvik_defs.specs.Naming.{method_at, named}
 use Rattle.dalvik_defs.specs.declared.names.MethodKey.{MethodKey}
 use Rattle.program_laws.specs.Others.{Pairwise}
-use Rattle.invariant_law.specs.Holds.{Each}
+use Rattle.run_laws.specs.Holds.{Each}
 
 -- ---- what becomes of a program
 

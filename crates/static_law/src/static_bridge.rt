@@ -18,7 +18,7 @@ ghost use Rattle.dalvik_defs.specs.declared.names.MethodKey.{MethodKey};
 ghost use Rattle.dalvik_defs.specs.declared.script.Move.{Move};
 ghost use Rattle.dalvik_defs.specs.declared.tables.Floats.{Floats};
 ghost use Rattle.dalvik_defs.specs.declared.tables.Framework.{Framework};
-ghost use Rattle.invariant_law.specs.Holds.{Each};
+ghost use Rattle.run_laws.specs.Holds.{Each};
 ghost use Rattle.pass_defs.specs.Numbered.{tables_of};
 ghost use Rattle.pass_defs.specs.Typed.{IsTyped};
 ghost use Rattle.static_law.specs.Receiving.{HoldNoNull, KnowsReceivers};

@@ -17,7 +17,7 @@ ghost use Rattle.dalvik_defs.specs.declared.program.NamedProgram.{NamedProgram};
 ghost use Rattle.pass_defs.specs.Loose.{AreLoose, staticised};
 ghost use Rattle.pass_defs.specs.Numbered.{tables_of};
 ghost use Rattle.removal_law.specs.Reach.{IsRegular, IsAcyclic, AgreesInside, DefinesOnce, IsDescribed};
-ghost use Rattle.stuck_law.specs.Regular as regular;
+ghost use Rattle.run_laws.specs.Regular as regular;
 ghost use Rattle.static_law.specs.Receiving.{HoldNoNull};
 ghost use Rattle.static_law.specs.Static.{AreInTables, MayAllBeStatic, NamesDescribed, ReceiversReached};
 

@@ -17,7 +17,7 @@ ghost use Rattle.pass_defs.specs.Typed.{IsTyped};
 ghost use Rattle.removal_law.specs.Reach.{IsRegular, IsAcyclic, DefinesOnce, IsDescribed, NamesOnce, TellsApart};
 ghost use Rattle.program_laws.specs.Remade.{Remethod, SameMethods, remade};
 ghost use Rattle.program_laws.specs.Rooted.{IsRooted};
-ghost use Rattle.stuck_law.specs.Regular as regular;
+ghost use Rattle.run_laws.specs.Regular as regular;
 ghost use Rattle.static_law.specs.Static.{AreInTables, FitsUpward, FreeInterfaces, MayAllBeStatic};
 
 /// A typed program stays typed in which methods are static that may be, where what fits a class fits the plain ones above it.

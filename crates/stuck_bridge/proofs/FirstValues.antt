@@ -32,7 +32,7 @@ use Rattle.dalvik_defs.specs.declared.encoded.NamedValue.TheOpen as named_layer
 use Rattle.dalvik_defs.specs.declared.encoded.NamedValue.TheVariants as variant
 use Rattle.dalvik_defs.specs.declared.state.Value.{Value}
 use Rattle.dalvik_defs.specs.declared.state.Value.TheVariants.{Word, Low, Literal, Class}
-use Rattle.stuck_law.specs.Regular.{suits}
+use Rattle.run_laws.specs.Regular.{suits}
 use Rattle.name_bridge.proofs.Tables.{field_is}
 use Rattle.stuck_bridge.proofs.Members.{letter_same}
 

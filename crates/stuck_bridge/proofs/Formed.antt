@@ -23,8 +23,8 @@ use Rattle.dalvik_defs.specs.declared.program.NamedClass.{NamedClass}
 use Rattle.dalvik_defs.specs.declared.program.NamedField.{NamedField}
 use Rattle.dalvik_defs.specs.declared.program.NamedMethod.{NamedMethod}
 use Rattle.pass_defs.specs.Typed.{IsTyped}
-use Rattle.stuck_law.specs.Regular.{IsRegular, reads_value, suits, taken}
-use Rattle.stuck_law.proofs.Climbs.{name_of, class_in}
+use Rattle.run_laws.specs.Regular.{IsRegular, reads_value, suits, taken}
+use Rattle.run_laws.proofs.Climbs.{name_of, class_in}
 use Rattle.stuck_bridge.proofs.Listed.{Image, image, some_same, none_same, field_fits_at, name_fits}
 use Rattle.stuck_bridge.proofs.Members.{class_known, method_known, taken_known, reads_known}
 use Rattle.stuck_bridge.proofs.FirstValues.{first_suits}

@@ -18,12 +18,12 @@ use Rattle.dalvik_defs.specs.Naming.{type_at, named_class, named}
 use Rattle.dalvik_defs.specs.Under.{class_named}
 use Rattle.dalvik_defs.specs.declared.program.NamedClass.{NamedClass}
 use Rattle.pass_defs.specs.Kinds.{is_plain}
-use Rattle.invariant_law.specs.Holds.{Each}
+use Rattle.run_laws.specs.Holds.{Each}
 use Rattle.name_bridge.specs.Named.{class_at}
 use Rattle.name_bridge.proofs.Classes.{class_by_number}
 use Rattle.name_bridge.proofs.Flags.{interface_flag}
-use Rattle.stuck_law.specs.Regular.{InterfacesStandFree}
-use Rattle.stuck_law.proofs.Climbs.{class_in}
+use Rattle.run_laws.specs.Regular.{InterfacesStandFree}
+use Rattle.run_laws.proofs.Climbs.{class_in}
 use Rattle.stuck_bridge.proofs.Listed.{Image, image}
 
 -- ---- tests

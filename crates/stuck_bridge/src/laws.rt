@@ -14,8 +14,8 @@ ghost use Rattle.dalvik_defs.specs.declared.script.Move.{Move};
 ghost use Rattle.dalvik_defs.specs.declared.tables.Floats.{Floats};
 ghost use Rattle.dalvik_defs.specs.declared.tables.Framework.{Framework};
 ghost use Rattle.pass_defs.specs.Typed.{IsTyped};
-ghost use Rattle.stuck_law.specs.NeverStuck.{IsNeverStuck};
-ghost use Rattle.stuck_law.specs.Regular.{IsRegular};
+ghost use Rattle.run_laws.specs.NeverStuck.{IsNeverStuck};
+ghost use Rattle.run_laws.specs.Regular.{IsRegular};
 
 /// The named program of a typed and well-formed program, of which no class is defined twice, is regular.
 pub fn regular_law()

@@ -18,7 +18,7 @@ use Rattle.pass_defs.specs.Facts.{may_be_made}
 use Rattle.pass_defs.specs.Live.{is_concrete, is_constructor}
 use Rattle.removal_law.specs.Reach.{IsAcyclic, IsDescribed, IsSoundTable}
 use Rattle.program_laws.specs.Results.{AllTakeInPlace}
-use Rattle.stuck_law.specs.Regular.{IsRegular}
+use Rattle.run_laws.specs.Regular.{IsRegular}
 use Rattle.cover_law.specs.Coverable.{IsFormed}
 
 -- A kept constructor of a class that can have objects is one that the class defines. Without this the framework may make an

@@ -32,7 +32,7 @@ use Rattle.domains.specs.declared.numbers.Word.TheVariants as word
 use Rattle.domains.specs.declared.numbers.Word.{Word as Known}
 use Rattle.pass_defs.specs.Analysis.{Analysis, Holds, IsNone, on_number, on_sort}
 use Rattle.run_facts.specs.ValueAnalysis.{datum_of, value_analysis}
-use Rattle.stuck_law.proofs.Climbs.{none_some, some_one}
+use Rattle.run_laws.proofs.Climbs.{none_some, some_one}
 use Rattle.value_ops.specs.Left.{any_number, number_in}
 use Rattle.value_ops.specs.Numbers.{binary_value, boolean_range, byte_range, char_range, compared_known, comparison_of, cut_value, kept_value, literal_value, number_value, short_range, sorted_value, unary_known, unary_value, unknown_answer}
 use Rattle.value_ops.specs.Sound.{HoldsSome, AreWords, IsNone as IsNoneOf}

@@ -9,7 +9,7 @@ use Rattle.dalvik_defs.specs.declared.tables.Floats.{Floats}
 use Rattle.dalvik_defs.specs.declared.tables.Framework.{Framework}
 use Rattle.removal_law.specs.Reach.{IsAcyclic}
 use Rattle.run_facts.specs.ValueAnalysis.{value_analysis}
-use Rattle.stuck_law.specs.Regular.{IsRegular}
+use Rattle.run_laws.specs.Regular.{IsRegular}
 use Rattle.cover_law.specs.Apart.{IsSoundApart}
 use Rattle.cover_law.specs.Sound.{IsSoundOn}
 use Rattle.cover_law.proofs.ValueSound.{values_apart}

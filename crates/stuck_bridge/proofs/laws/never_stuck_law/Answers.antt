@@ -1,5 +1,5 @@
 use Rattle.dalvik_defs.specs.Naming.{named}
-use Rattle.stuck_law.proofs.Runs.{never_stuck_regular}
+use Rattle.run_laws.proofs.Runs.{never_stuck_regular}
 use Rattle.stuck_bridge.proofs.Formed.{regular_program}
 use Rattle.stuck_bridge.proofs.laws.never_stuck_law.Goals as goal
 

@@ -18,7 +18,7 @@ use Rattle.dalvik_defs.specs.declared.names.MethodKey.{MethodKey}
 use Rattle.pass_defs.specs.Analysis.{Analysis}
 use Rattle.pass_defs.specs.Facts.{Facts}
 use Rattle.run_facts.specs.ValueAnalysis.{value_analysis}
-use Rattle.value_law.specs.Operators.{operators}
+use Rattle.cover_law.specs.Operators.{operators}
 
 -- the name of an entry, and the number of a name
 abbrev pub method_key_of : Program → MethodName → MethodKey

@@ -36,7 +36,7 @@ use Rattle.form_laws.specs.Changes.{Sets, changed}
 use Rattle.run_laws.proofs.Forms.{sort_divides, sort_throws, divides_op, literal_divides}
 use Rattle.run_facts.specs.ValueAnalysis.{datum_of, value_analysis}
 use Rattle.cover_law.specs.Sound.{IsSoundOn, IsSmall, IsWord, IsWide, NumberOf}
-use Rattle.value_law.specs.Operators.{operators}
+use Rattle.cover_law.specs.Operators.{operators}
 use Rattle.const_prop.specs.declared.numbers.Number.{Number}
 use Rattle.const_prop.specs.declared.numbers.Number.TheVariants.{Word, Wide}
 use Rattle.const_prop.specs.Known.{number_of, is_other_than_zero, never_throws}

@@ -39,7 +39,7 @@ use Rattle.cover_law.specs.Known.{RangedMove}
 use Rattle.cover_law.proofs.Along.{Suits}
 use Rattle.cover_law.proofs.Ready.{IsReady}
 use Rattle.run_laws.proofs.Settled.{IsSettled}
-use Rattle.value_law.specs.Operators.{operators}
+use Rattle.cover_law.specs.Operators.{operators}
 use Rattle.const_prop.specs.declared.choices.Way.{Way}
 use Rattle.const_prop.specs.Choices.{chosen}
 use Rattle.const_prop.specs.Given.{given}

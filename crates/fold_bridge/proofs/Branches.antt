@@ -31,7 +31,7 @@ use Rattle.pass_defs.specs.Analysis.{Analysis, Holds, HoldsBoth}
 use Rattle.pass_defs.specs.Demands.{is_equality}
 use Rattle.run_facts.specs.ValueAnalysis.{datum_of, value_analysis}
 use Rattle.cover_law.specs.Sound.{IsSoundOn, IsWord, TestedOf}
-use Rattle.value_law.specs.Operators.{operators}
+use Rattle.cover_law.specs.Operators.{operators}
 use Rattle.const_prop.specs.declared.choices.Way.{Way}
 use Rattle.const_prop.specs.declared.choices.Way.TheVariants.{Open, Next, To}
 use Rattle.const_prop.specs.declared.numbers.Number.{Number}

@@ -48,7 +48,7 @@ use Rattle.run_laws.specs.Holds.{Each}
 use Rattle.run_facts.specs.ValueAnalysis.{value_analysis}
 use Rattle.cover_law.specs.Coverable.{IsCoverable}
 use Rattle.cover_law.specs.Known.{RangedMove}
-use Rattle.value_law.specs.Operators.{operators}
+use Rattle.cover_law.specs.Operators.{operators}
 use Rattle.const_prop.specs.Known.{is_always_pure}
 use Rattle.const_prop.specs.Given.{given}
 use Rattle.const_prop.specs.Allowed.{IsAllowed, insn_before}

@@ -56,7 +56,7 @@ use Rattle.run_laws.proofs.Forms.{low_held, halves_held, or_left, or_right}
 use Rattle.cover_law.specs.Known.{KnownFrame, KnownWorld}
 use Rattle.cover_law.proofs.Ready.{IsReady}
 use Rattle.cover_law.proofs.Fields.{static_seen}
-use Rattle.value_law.specs.Operators.{operators}
+use Rattle.cover_law.specs.Operators.{operators}
 use Rattle.const_prop.specs.declared.numbers.Number.{Number}
 use Rattle.const_prop.specs.declared.numbers.Number.TheVariants.{Word, Wide}
 use Rattle.const_prop.specs.Constants.{result_of}

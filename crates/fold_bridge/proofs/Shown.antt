@@ -18,8 +18,8 @@ use Rattle.pass_defs.specs.Facts as by_name
 use Rattle.run_facts.specs.ValueAnalysis.{value_analysis}
 use Rattle.cover_law.specs.Coverable.{IsTabled}
 use Rattle.cover_law.proofs.Widths.{ranged_moves}
-use Rattle.value_law.specs.Operators.{operators}
-use Rattle.value_law.proofs.Sound.{value_sound}
+use Rattle.cover_law.specs.Operators.{operators}
+use Rattle.cover_law.proofs.Sound.{value_sound}
 use Rattle.thin_bridge.proofs.Rooted.{rooted}
 use Rattle.dead_bridge.proofs.Quieting.{pure_named}
 use Rattle.form_laws.specs.Known.{SameRun}

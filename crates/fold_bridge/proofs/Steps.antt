@@ -51,7 +51,7 @@ use Rattle.cover_law.proofs.Suits.{suits}
 use Rattle.cover_law.proofs.Stays.{Is, looks, there, arrays}
 use Rattle.cover_law.proofs.Standing.{own_form}
 use Rattle.cover_law.proofs.Waiting.{formed}
-use Rattle.value_law.specs.Operators.{operators}
+use Rattle.cover_law.specs.Operators.{operators}
 use Rattle.const_prop.specs.declared.numbers.Number.{Number}
 use Rattle.const_prop.specs.declared.numbers.Number.TheVariants.{Word, Wide}
 use Rattle.const_prop.specs.Constants.{result_of}

@@ -26,7 +26,7 @@ use Rattle.pass_defs.specs.Facts as by_name
 use Rattle.pass_defs.specs.Facts.{own_key}
 use Rattle.run_facts.specs.Closed.{Results}
 use Rattle.run_facts.specs.ValueAnalysis.{value_analysis}
-use Rattle.value_law.specs.Operators.{operators}
+use Rattle.cover_law.specs.Operators.{operators}
 use Rattle.const_prop.specs.Given.{behind}
 use Rattle.const_prop.specs.Known.{field_value}
 use Rattle.const_prop.specs.Allowed.{IsAllowed, insn_before}

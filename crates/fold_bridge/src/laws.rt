@@ -17,7 +17,7 @@ ghost use Rattle.facts.specs.declared.facts.Facts.{Facts};
 ghost use Rattle.pass_defs.specs.Facts as by_name;
 ghost use Rattle.run_facts.specs.ValueAnalysis.{value_analysis};
 ghost use Rattle.cover_law.specs.Coverable.{IsTabled};
-ghost use Rattle.value_law.specs.Operators.{operators};
+ghost use Rattle.cover_law.specs.Operators.{operators};
 ghost use Rattle.reach.specs.Kept.{size_of};
 ghost use Rattle.thin_pass.specs.Weights.{weight_of};
 ghost use Rattle.form_laws.specs.Known.{SameRun};

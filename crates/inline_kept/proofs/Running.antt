@@ -83,7 +83,7 @@ use Rattle.thin_bridge.proofs.Rooted.{rooted}
 use Rattle.cover_law.specs.Coverable.{IsCoverable}
 use Rattle.cover_law.specs.Known.{RangedMove}
 use Rattle.cover_law.specs.States.{covered_states}
-use Rattle.value_law.specs.Operators.{operators}
+use Rattle.cover_law.specs.Operators.{operators}
 use Rattle.inline_law.proofs.Unread.{unread}
 use Rattle.inline_law.specs.Entered.{Enterable, Statically, Directly, AreEnterable, FactsHold}
 use Rattle.program_laws.specs.Numbered.{OtherNumberedBodies}

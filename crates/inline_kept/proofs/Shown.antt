@@ -25,8 +25,8 @@ use Rattle.cover_law.proofs.Widths.{ranged_moves}
 use Rattle.run_laws.specs.Regular.{IsRegular}
 use Rattle.stuck_bridge.proofs.Formed as stuck
 use Rattle.tabled_law.proofs.Acyclic.{grounded_acyclic}
-use Rattle.value_law.specs.Operators.{operators}
-use Rattle.value_law.proofs.Sound.{value_sound}
+use Rattle.cover_law.specs.Operators.{operators}
+use Rattle.cover_law.proofs.Sound.{value_sound}
 use Rattle.inline_law.proofs.Entering.{facts_shown}
 use Rattle.inline_law.proofs.Found.{reading}
 use Rattle.fold_bridge.specs.Folds.{AreNamed}

@@ -85,7 +85,7 @@ use Rattle.cover_law.proofs.Ready.{IsReady}
 use Rattle.cover_law.proofs.Stays.{Is, looks, there, arrays}
 use Rattle.cover_law.proofs.Suits.{suits}
 use Rattle.cover_law.proofs.Waiting.{formed}
-use Rattle.value_law.specs.Operators.{operators}
+use Rattle.cover_law.specs.Operators.{operators}
 use Rattle.thin_laws.proofs.Tidied.{code_rules}
 use Rattle.thin_bridge.proofs.Inside.{some_position, get_contains}
 use Rattle.quiet_methods.specs.Forms.{quiet_if, starts_quietly, gets_quietly, method_demand, found_demand, call_demand, never_throws, form_demand, demand, ways}

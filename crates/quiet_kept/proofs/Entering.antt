@@ -86,7 +86,7 @@ use Rattle.stuck_bridge.proofs.Listed.{image, Image}
 use Rattle.pass_defs.specs.Analysis.{Analysis}
 use Rattle.pass_defs.specs.Facts as by_name
 use Rattle.run_facts.specs.ValueAnalysis.{datum_of, value_analysis}
-use Rattle.value_law.specs.Operators.{operators}
+use Rattle.cover_law.specs.Operators.{operators}
 use Rattle.cover_law.proofs.Ready.{IsReady}
 use Rattle.cover_law.proofs.Stays.{looks, Is}
 use Rattle.closed_bridge.specs.Names.{named_facts, values_of}

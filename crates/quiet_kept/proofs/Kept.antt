@@ -49,8 +49,8 @@ use Rattle.form_laws.proofs.WellFormed.{well_formed_solid}
 use Rattle.receivers.specs.Receiving.{is_straight}
 use Rattle.receivers.proofs.Straightly.{straight_of}
 use Rattle.run_facts.specs.ValueAnalysis.{value_analysis}
-use Rattle.value_law.specs.Operators.{operators}
-use Rattle.value_law.proofs.Sound.{value_sound}
+use Rattle.cover_law.specs.Operators.{operators}
+use Rattle.cover_law.proofs.Sound.{value_sound}
 use Rattle.cover_law.specs.Coverable.{IsCoverable, IsTabled}
 use Rattle.tabled_law.proofs.Apart.{tabled, tabled_apart}
 use Rattle.thin_bridge.specs.Kept.{AnyCode}

@@ -49,7 +49,7 @@ use Rattle.pass_defs.specs.Bare.{writes}
 use Rattle.closed_bridge.specs.Names.{method_number, named_facts}
 use Rattle.closed_bridge.proofs.Numbers.{IsNumber}
 use Rattle.run_facts.specs.ValueAnalysis.{datum_of, value_analysis}
-use Rattle.value_law.specs.Operators.{operators}
+use Rattle.cover_law.specs.Operators.{operators}
 use Rattle.cover_law.specs.Coverable.{IsCoverable, IsFormed}
 use Rattle.cover_law.proofs.Stays.{Is, looks}
 use Rattle.cover_law.proofs.Suits.{suits}

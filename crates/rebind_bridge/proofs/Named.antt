@@ -42,8 +42,8 @@ use Rattle.stuck_bridge.proofs.Formed as stuck
 use Rattle.tabled_law.proofs.Acyclic.{grounded_acyclic}
 use Rattle.type_bridge.specs.Views.{method_table}
 use Rattle.type_bridge.proofs.Least.{least_method}
-use Rattle.value_law.specs.Operators.{operators}
-use Rattle.value_law.proofs.Sound.{value_sound}
+use Rattle.cover_law.specs.Operators.{operators}
+use Rattle.cover_law.proofs.Sound.{value_sound}
 use Rattle.verify.specs.Methods.{TypesFor}
 use Rattle.verify.specs.Typings as typings
 use Rattle.rebind_law.specs.Reasons.{Rebound, ReboundBody, ReboundCode}

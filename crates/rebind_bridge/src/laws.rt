@@ -19,7 +19,7 @@ ghost use Rattle.pass_defs.specs.Typed.{IsTyped};
 ghost use Rattle.program_laws.specs.Numbered.{OtherNumberedBodies};
 ghost use Rattle.run_facts.specs.ValueAnalysis.{value_analysis};
 ghost use Rattle.cover_law.specs.Coverable.{IsTabled};
-ghost use Rattle.value_law.specs.Operators.{operators};
+ghost use Rattle.cover_law.specs.Operators.{operators};
 ghost use Rattle.rebind_bridge.specs.Rebound.{FramesAreNamed, ReboundSo};
 
 /// A well-formed and typed program, of which no class is its own ancestor, shows the same in which calls name what their receivers

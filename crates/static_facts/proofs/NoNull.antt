@@ -59,8 +59,8 @@ use Rattle.cover_law.specs.Coverable.{IsCoverable, IsTabled}
 use Rattle.cover_law.specs.Known.{RangedMove}
 use Rattle.cover_law.specs.States.{covered_states}
 use Rattle.cover_law.proofs.Widths.{ranged_moves}
-use Rattle.value_law.specs.Operators.{operators}
-use Rattle.value_law.proofs.Sound.{value_sound}
+use Rattle.cover_law.specs.Operators.{operators}
+use Rattle.cover_law.proofs.Sound.{value_sound}
 use Rattle.fold_bridge.specs.Folds.{AreNamed, StandsAt}
 use Rattle.fold_bridge.proofs.Covered.{covered_calm}
 use Rattle.static_law.specs.Receiving.{HoldNoNull}

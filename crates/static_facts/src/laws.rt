@@ -13,7 +13,7 @@ ghost use Rattle.facts.specs.declared.facts.Facts.{Facts};
 ghost use Rattle.pass_defs.specs.Facts as by_name;
 ghost use Rattle.run_facts.specs.ValueAnalysis.{value_analysis};
 ghost use Rattle.cover_law.specs.Coverable.{IsTabled};
-ghost use Rattle.value_law.specs.Operators.{operators};
+ghost use Rattle.cover_law.specs.Operators.{operators};
 ghost use Rattle.fold_bridge.specs.Folds.{AreNamed};
 ghost use Rattle.static_law.specs.Receiving.{HoldNoNull};
 ghost use Rattle.static_facts.specs.Knows.{KnowsNotNull};

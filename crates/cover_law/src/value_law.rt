@@ -1,4 +1,6 @@
-//! That the product domain is sound.
+//! The law of values: the product domain, with what value_ops makes of numbers and of tests (`specs/Operators.antt`), is a sound
+//! analysis on operands as the typing of a program has them, under a framework that fits. So a closed table of its facts covers
+//! every state of every run, by cover_law.
 
 ghost use Rattle.std.specs.Prelude.{◌≡◌, ◌⊎◌, ℕ, List};
 ghost use Rattle.dalvik_defs.specs.Face.{bodies_of};
@@ -20,7 +22,7 @@ ghost use Rattle.run_laws.specs.Regular.{IsRegular};
 ghost use Rattle.cover_law.specs.Coverable.{IsTabled};
 ghost use Rattle.cover_law.specs.States.{covered_states};
 ghost use Rattle.cover_law.specs.Sound.{IsSoundOn};
-ghost use Rattle.value_law.specs.Operators.{operators};
+ghost use Rattle.cover_law.specs.Operators.{operators};
 
 /// The product domain with the operators and the tests of value_ops is sound on operands as the typing has them, under a
 /// framework that fits a regular program of which no class stands above itself, whatever floats answer.

@@ -43,7 +43,7 @@ use Rattle.value_ops.proofs.Lefts.{between_so, both_something, constant_holds, i
 use Rattle.cover_law.specs.Sound.{AreSmall, IsSmall, IsWord, NumberOf, Storable}
 use Rattle.cover_law.proofs.Numbers.{MaybeLess, NumberLess, answer_less, compared_less, cut, float_less, literal_less, unary_less}
 use Rattle.cover_law.proofs.Ranges.{small_bits}
-use Rattle.value_law.specs.Operators.{operators}
+use Rattle.cover_law.specs.Operators.{operators}
 
 -- ---- numbers of 32 bits
 

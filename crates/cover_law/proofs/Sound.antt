@@ -13,9 +13,9 @@ use Rattle.run_laws.specs.Regular.{IsRegular}
 use Rattle.cover_law.specs.Apart.{IsSoundApart}
 use Rattle.cover_law.specs.Sound.{IsSoundOn}
 use Rattle.cover_law.proofs.ValueSound.{values_apart}
-use Rattle.value_law.specs.Operators.{operators}
-use Rattle.value_law.proofs.Numbers.{unaries, binaries, literals, comparisons, stores, keys, others}
-use Rattle.value_law.proofs.Tests.{tests}
+use Rattle.cover_law.specs.Operators.{operators}
+use Rattle.cover_law.proofs.ValueNumbers.{unaries, binaries, literals, comparisons, stores, keys, others}
+use Rattle.cover_law.proofs.Tests.{tests}
 
 pub value_sound : (p : NamedProgram) (o : Outer) (f : Framework) (floats : Floats) (script : List Move) → IsRegular p → IsAcyclic p → Fit p o f script → IsSoundOn (value_analysis p operators) (is_under p f) floats
 value_sound p o f floats script regular acyclic fit = record {

@@ -1,8 +1,8 @@
 use Rattle.run_facts.specs.ValueAnalysis.{value_analysis}
 use Rattle.cover_law.proofs.Runs.{covered_regular}
-use Rattle.value_law.proofs.Sound.{value_sound}
-use Rattle.value_law.specs.Operators.{operators}
-use Rattle.value_law.proofs.laws.values_cover.Goals as goal
+use Rattle.cover_law.proofs.Sound.{value_sound}
+use Rattle.cover_law.specs.Operators.{operators}
+use Rattle.cover_law.proofs.value_law.values_cover.Goals as goal
 
 pub returns : goal.returns
 returns c = λ p o f floats facts script n h fit.

@@ -18,7 +18,7 @@ use Rattle.value_ops.specs.Sound.{AreOther, AreSame, HoldsBoth as BothHold, IsNa
 use Rattle.value_ops.specs.Tests.{different_values, equal_values, tested_values}
 use Rattle.value_ops.proofs.Asked.{different_so, equal_so, words_asked}
 use Rattle.cover_law.specs.Sound.{IsNarrow, IsWord, TestedOf}
-use Rattle.value_law.specs.Operators.{operators}
+use Rattle.cover_law.specs.Operators.{operators}
 
 module _ (p : NamedProgram) where
   abbrev a : Analysis Parts

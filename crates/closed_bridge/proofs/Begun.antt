@@ -49,7 +49,7 @@ use Rattle.dalvik_defs.proofs.Calm.{text_sound}
 use Rattle.domains.specs.Values.{any_value, constant_value, wide_value}
 use Rattle.name_bridge.proofs.Flags.{static_flag}
 use Rattle.name_bridge.proofs.Tables.{field_is, field_once}
-use Rattle.stuck_bridge.proofs.Members.{letter_same}
+use Rattle.removal_bridge.proofs.Members.{letter_same}
 use Rattle.facts.specs.declared.facts.Facts as table
 use Rattle.closed_facts.specs.Edges.{value_by}
 use Rattle.closed_facts.specs.Fields as number

@@ -27,7 +27,7 @@ use Rattle.name_bridge.proofs.Above.{own_place}
 use Rattle.name_bridge.proofs.Candidates.{coded_test}
 use Rattle.name_bridge.proofs.Found.{found_parts, found_there_is, looked_up}
 use Rattle.name_bridge.proofs.Resolved.{static_by_number, super_by_number}
-use Rattle.stuck_bridge.proofs.Members.{class_known, method_known}
+use Rattle.removal_bridge.proofs.Members.{class_known, method_known}
 use Rattle.domains.specs.Values.{Parts}
 use Rattle.call_targets.specs.declared.table.Targets.{Targets}
 use Rattle.closed_facts.specs.Found as number

@@ -25,7 +25,7 @@ use Rattle.dalvik_defs.proofs.Calm.{text_sound}
 use Rattle.name_bridge.proofs.Tables.{method_once}
 use Rattle.removal_law.proofs.Lists.{In}
 use Rattle.removal_law.proofs.Outward.{any_here, any_where}
-use Rattle.stuck_bridge.proofs.Listed.{name_fits}
+use Rattle.removal_bridge.proofs.Listed.{name_fits}
 use Rattle.closed_bridge.proofs.Numbers.{IsNumber, method_same, method_sound, signature_sound}
 use Rattle.closed_bridge.proofs.Places.{found_at, looked_up, own_key}
 

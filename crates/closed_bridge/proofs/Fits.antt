@@ -20,7 +20,7 @@ use Rattle.program_model.specs.declared.program.MethodAt.{MethodAt}
 use Rattle.program_model.specs.declared.program.Program.{Program}
 use Rattle.class_defs.proofs.WellFormed.{and_left, and_right, Sound}
 use Rattle.facts.specs.declared.facts.Facts.{Facts}
-use Rattle.stuck_bridge.proofs.Listed.{method_fits_at}
+use Rattle.removal_bridge.proofs.Listed.{method_fits_at}
 use Rattle.closed_bridge.specs.Flows.{AllFit}
 
 -- what is true of all entries with their places is true of each at some place

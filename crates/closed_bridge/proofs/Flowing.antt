@@ -4,7 +4,7 @@ use Rattle.std.specs.Prelude.{map, if◌then◌else◌, is_some, Contains}
 use Rattle.program_model.specs.declared.program.Program.{Program}
 use Rattle.class_defs.specs.ClassGraph.{IsTwice}
 use Rattle.class_defs.proofs.WellFormed.{Sound}
-use Rattle.walk_bridge.proofs.Formed.{same_caught}
+use Rattle.removal_bridge.proofs.WalkedForms.{same_caught}
 use Rattle.dalvik_defs.specs.Face.{bodies_of}
 use Rattle.dalvik_defs.specs.Names.{object_type}
 use Rattle.dalvik_defs.specs.Naming.{body_of, form_of, named}

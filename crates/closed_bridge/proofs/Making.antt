@@ -25,7 +25,7 @@ use Rattle.pass_defs.specs.Live.{is_concrete, is_constructor}
 use Rattle.reach_bridge.proofs.Keeping.{concrete_can}
 use Rattle.removal_law.proofs.Lists.{In, contained}
 use Rattle.removal_law.proofs.Outward.{any_where}
-use Rattle.stuck_bridge.proofs.Members.{class_known, method_known}
+use Rattle.removal_bridge.proofs.Members.{class_known, method_known}
 use Rattle.premises.specs.Makers.{MakersAreOwn}
 use Rattle.closed_bridge.proofs.Defining.{named_class_type, past_empty}
 use Rattle.closed_bridge.proofs.Made.{concrete_class}

@@ -60,7 +60,7 @@ use Rattle.removal_law.proofs.Lists.{In, all_in, here, there, contained, in_eith
 use Rattle.removal_law.proofs.Finds.{in_unfiltered, out_of_flat}
 use Rattle.removal_law.proofs.Outward.{any_here, any_where}
 use Rattle.removal_law.proofs.Trees.{defined}
-use Rattle.stuck_bridge.proofs.Members.{class_known}
+use Rattle.removal_bridge.proofs.Members.{class_known}
 use Rattle.facts.specs.declared.facts.Facts as table
 use Rattle.closed_facts.specs.Entries as number
 use Rattle.closed_facts.specs.Found as found

@@ -8,7 +8,7 @@ use Rattle.dalvik_defs.specs.Naming.{form_of, region_of}
 use Rattle.insn_regs.specs.Remade as remake
 use Rattle.pass_defs.specs.Remade as renew
 use Rattle.pass_defs.specs.Packed as named
-use Rattle.walk_bridge.proofs.Walked.{read_by_number}
+use Rattle.removal_bridge.proofs.Walked.{read_by_number}
 use Rattle.operand_bridge.proofs.Remaking.{remade_by_number}
 use Rattle.compact_bridge.proofs.Tests.{wides_same, uses_same, used_same, free_same}
 use Rattle.compact_bridge.proofs.Conflicts.{IsOf, insn_for, conflict_to, conflict_from}

@@ -12,8 +12,8 @@ use Rattle.pass_defs.specs.Walks as walks
 use Rattle.body_graph.specs.Walks.{insn_at}
 use Rattle.compact.specs.Packed as numbered
 use Rattle.pass_defs.specs.Packed as named
-use Rattle.walk_bridge.proofs.Formed.{same_writes, same_onward, form_there}
-use Rattle.walk_bridge.proofs.Walked.{read_by_number}
+use Rattle.removal_bridge.proofs.WalkedForms.{same_writes, same_onward, form_there}
+use Rattle.removal_bridge.proofs.Walked.{read_by_number}
 
 -- the instruction of a form
 pub record IsOf (p : Program) (b : Body) (n : ℕ) (f : Form) : Type 0 where

@@ -12,7 +12,7 @@ use Rattle.dalvik_defs.specs.Naming.{form_of, body_of}
 use Rattle.insn_regs.specs.Wides.{widths_of}
 use Rattle.compact.specs.Packed as numbered
 use Rattle.pass_defs.specs.Packed as named
-use Rattle.walk_bridge.proofs.Formed.{same_reads, same_writes}
+use Rattle.removal_bridge.proofs.WalkedForms.{same_reads, same_writes}
 use Rattle.operand_bridge.proofs.Widths.{first_same, wides_by_number}
 
 pub any_same : {A B : Type 0} (f : A → B) (s : B → Bool) (t : A → Bool) → ((x : A) → s (f x) ≡ t x) → (xs : List A) → list_any s (map f xs) ≡ list_any t xs

@@ -22,8 +22,8 @@ use Rattle.pass_defs.specs.Walks as walks
 use Rattle.body_graph.specs.Walks.{insn_at}
 use Rattle.pass_defs.specs.Stale as named
 use Rattle.copy_prop.specs.Stale as numbered
-use Rattle.walk_bridge.proofs.Formed.{same_reads, same_writes, same_onward, same_successors, form_there}
-use Rattle.walk_bridge.proofs.Walked.{reached_by_number}
+use Rattle.removal_bridge.proofs.WalkedForms.{same_reads, same_writes, same_onward, same_successors, form_there}
+use Rattle.removal_bridge.proofs.Walked.{reached_by_number}
 use Rattle.operand_bridge.proofs.Widths.{wides_by_number}
 
 -- ---- the instruction of a form

@@ -5,7 +5,7 @@ use Rattle.program_model.specs.declared.program.Program.{Program}
 use Rattle.dalvik_defs.specs.Naming.{form_of, body_of}
 use Rattle.pass_defs.specs.Walks as named
 use Rattle.body_graph.specs.Walks as numbered
-use Rattle.walk_bridge.proofs.Formed.{same_reads, same_writes, same_onward, same_caught}
+use Rattle.removal_bridge.proofs.WalkedForms.{same_reads, same_writes, same_onward, same_caught}
 use Rattle.copy_bridge.proofs.Forms.{form_for}
 
 pub read_at_from : (p : Program) (b : Body) (r n k : ℕ) → numbered.IsReadAt b r n k → named.IsReadAt (body_of p b) r n k

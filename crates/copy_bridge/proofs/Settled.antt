@@ -10,7 +10,7 @@ use Rattle.program_model.specs.declared.program.Program.{Program}
 use Rattle.dalvik_defs.specs.Naming.{form_of, body_of, named_method, named_class, named}
 use Rattle.insn_regs.specs.Wides.{widths_of}
 use Rattle.walk_marks.specs.Walks.{is_on}
-use Rattle.walk_bridge.proofs.Formed.{same_reads, same_writes}
+use Rattle.removal_bridge.proofs.WalkedForms.{same_reads, same_writes}
 use Rattle.form_laws.specs.Solid as solid
 use Rattle.form_laws.proofs.WellFormed.{well_formed_solid}
 use Rattle.copy_prop.specs.Propagated.{AreEach, RewritesBody, IsPropagated, IsPropagatedMethod, IsPropagatedClass, IsPropagatedProgram}

@@ -12,8 +12,8 @@ use Rattle.insn_regs.specs.Wides.{widths_of}
 use Rattle.pass_defs.specs.Bare.{bare}
 use Rattle.pass_defs.specs.Stale as named
 use Rattle.copy_prop.specs.Stale as numbered
-use Rattle.walk_bridge.proofs.Formed.{same_successors}
-use Rattle.walk_bridge.proofs.Walked.{reached_by_number}
+use Rattle.removal_bridge.proofs.WalkedForms.{same_successors}
+use Rattle.removal_bridge.proofs.Walked.{reached_by_number}
 use Rattle.operand_bridge.proofs.Remaking.{remade_by_number, same_encodable, still_short, still_short_back}
 use Rattle.copy_bridge.proofs.Forms.{IsOf, insn_for, form_for, move_of, cast_same, reads_as_same, spoilt_to, spoilt_from}
 use Rattle.copy_bridge.proofs.Reading.{read_at_from}

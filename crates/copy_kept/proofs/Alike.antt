@@ -23,7 +23,7 @@ use Rattle.pass_defs.specs.Kinds as name
 use Rattle.pass_defs.specs.Registers as by_name
 use Rattle.pass_defs.specs.Typed.{state_at}
 use Rattle.form_laws.proofs.Widths.{narrow_kind}
-use Rattle.stuck_bridge.proofs.Listed.{some_same, none_same}
+use Rattle.removal_bridge.proofs.Listed.{some_same, none_same}
 use Rattle.insn_regs.specs.Wides.{is_wide_type}
 use Rattle.operand_bridge.proofs.Widths.{wide_same}
 use Rattle.compact.specs.Narrow.{has_narrow_classes}

@@ -8,7 +8,7 @@ use Rattle.program_model.specs.declared.body.Body.{Body}
 use Rattle.flow_cfg.specs.Walks.{next_of, successors_of}
 use Rattle.body_graph.specs.Walks.{insn_at, onward, caught, Walk, IsReached}
 use Rattle.body_graph.proofs.Links.{step_insn}
-use Rattle.stuck_bridge.proofs.Listed.{Image, image}
+use Rattle.removal_bridge.proofs.Listed.{Image, image}
 use Rattle.verify.specs.declared.kinds.Kind.{Kind}
 use Rattle.verify.specs.declared.setting.Setting.{Setting}
 use Rattle.verify.specs.Flow.{place_at, form_after}

@@ -29,8 +29,8 @@ use Rattle.form_laws.specs.Kinds.{HasNarrowClass}
 use Rattle.form_laws.specs.Solid.{HasRoom}
 use Rattle.form_laws.proofs.WellFormed.{well_formed_solid}
 use Rattle.run_laws.specs.Regular.{IsRegular}
-use Rattle.stuck_bridge.proofs.Formed.{regular_program}
-use Rattle.stuck_bridge.proofs.Listed.{Image, image, some_same, none_same}
+use Rattle.removal_bridge.proofs.TypedFormed.{regular_program}
+use Rattle.removal_bridge.proofs.Listed.{Image, image, some_same, none_same}
 use Rattle.kept_bridge.proofs.Taking.{class_narrow}
 use Rattle.program_laws.specs.Others.{OtherBodies}
 use Rattle.compact.specs.Narrow.{has_narrow_classes}

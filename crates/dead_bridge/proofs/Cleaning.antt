@@ -51,8 +51,8 @@ use Rattle.thin_laws.proofs.SqueezedTypes.{squeezed_typing}
 use Rattle.thin_pass.specs.Wishing.{wish_at, goes, is_to_go, is_held}
 use Rattle.thin_laws.specs.Tidy.{IsTidy}
 use Rattle.thin_laws.proofs.Rules.{follows_at, next_there, target_there, caught_at, covers_at, may_begin_at, rest_of}
-use Rattle.walk_bridge.proofs.Formed.{same_reads, same_writes, same_onward, same_caught, form_there}
-use Rattle.walk_bridge.proofs.Walked.{read_by_number, read_after_by_number}
+use Rattle.removal_bridge.proofs.WalkedForms.{same_reads, same_writes, same_onward, same_caught, form_there}
+use Rattle.removal_bridge.proofs.Walked.{read_by_number, read_after_by_number}
 use Rattle.dead_code.specs.Dead.{is_pure, is_quiet_field, IsDead}
 use Rattle.dead_code.specs.Wishes.{begins, wish_for, AreCleaned}
 use Rattle.thin_bridge.specs.Right.{fates_by, PassesOn, On, Next, StillCatches, AreRight}

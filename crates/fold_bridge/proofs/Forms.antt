@@ -65,7 +65,7 @@ use Rattle.cover_law.specs.States.{covered_states}
 use Rattle.cover_law.proofs.Living.{made_things, live_method}
 use Rattle.cover_law.proofs.Ready.{IsReady}
 use Rattle.cover_law.specs.Operators.{operators}
-use Rattle.walk_bridge.proofs.Formed.{form_there}
+use Rattle.removal_bridge.proofs.WalkedForms.{form_there}
 use Rattle.const_prop.specs.declared.choices.Way.{Way}
 use Rattle.const_prop.specs.declared.choices.Way.TheVariants.{Open, Next, To}
 use Rattle.const_prop.specs.declared.numbers.Number.{Number}

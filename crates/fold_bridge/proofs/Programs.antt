@@ -40,7 +40,7 @@ use Rattle.program_laws.proofs.Named.{others_named}
 use Rattle.form_laws.specs.Solid.{IsSolid, AllSolid}
 use Rattle.form_laws.proofs.Bodies.{replaced}
 use Rattle.form_laws.proofs.WellFormed.{well_formed_solid}
-use Rattle.walk_bridge.proofs.Formed.{form_there}
+use Rattle.removal_bridge.proofs.WalkedForms.{form_there}
 use Rattle.form_laws.specs.Known.{Becomes, IsFolded, IsFoldedRun, SameRun}
 use Rattle.form_laws.specs.Known as law
 use Rattle.form_laws.proofs.FoldedRuns.{folded_run}

@@ -28,8 +28,8 @@ use Rattle.program_laws.specs.Numbered.{OtherNumberedMethod, OtherNumberedClass,
 use Rattle.program_laws.proofs.Named.{others_named}
 use Rattle.program_laws.proofs.Typed.{others_typed}
 use Rattle.program_laws.proofs.Transitive.{transitive}
-use Rattle.stuck_bridge.proofs.Listed.{Image, image}
-use Rattle.stuck_bridge.proofs.Members.{class_known, method_known}
+use Rattle.removal_bridge.proofs.Listed.{Image, image}
+use Rattle.removal_bridge.proofs.Members.{class_known, method_known}
 use Rattle.thin_bridge.proofs.Rooted.{rooted}
 use Rattle.premises.specs.Numbers.{AllHaveWords}
 use Rattle.facts.specs.declared.facts.Facts.{Facts}

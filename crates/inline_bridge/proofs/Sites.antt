@@ -68,9 +68,9 @@ use Rattle.name_bridge.proofs.Resolved.{static_by_number}
 use Rattle.run_laws.specs.Regular.{reads_value, IsRegular}
 use Rattle.run_laws.proofs.Here.{into_map}
 use Rattle.run_laws.proofs.Sorts.{class_alone, not_wide}
-use Rattle.stuck_bridge.proofs.Formed.{regular_program}
+use Rattle.removal_bridge.proofs.TypedFormed.{regular_program}
 use Rattle.thin_laws.proofs.Rules.{first_begins, caught_at}
-use Rattle.walk_bridge.proofs.Formed.{same_reads, same_writes}
+use Rattle.removal_bridge.proofs.WalkedForms.{same_reads, same_writes}
 use Rattle.inline_law.specs.Accepted.{Suits}
 use Rattle.inline_law.specs.Inlining.{Passes, PassesNone, PassesOne, PassesTwo}
 use Rattle.inline_law.specs.Sound.{IsSoundCallee}

@@ -75,7 +75,7 @@ use Rattle.run_laws.proofs.Runs.{settled, keeps_typed, typed_opening, each_move}
 use Rattle.run_laws.proofs.Searches.{finds_regularly}
 use Rattle.run_laws.proofs.Settled.{IsSettled, FindsRegularly}
 use Rattle.run_laws.proofs.Wides.{wides_held}
-use Rattle.stuck_bridge.proofs.Formed.{regular_program}
+use Rattle.removal_bridge.proofs.TypedFormed.{regular_program}
 use Rattle.form_laws.proofs.Asking.{low_is, high_is}
 use Rattle.name_bridge.proofs.Above.{own_place}
 use Rattle.name_bridge.proofs.Started.{trivial_by_number}

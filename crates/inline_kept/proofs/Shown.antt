@@ -23,7 +23,7 @@ use Rattle.run_facts.specs.ValueAnalysis.{value_analysis}
 use Rattle.cover_law.specs.Coverable.{IsTabled, IsCoverable}
 use Rattle.cover_law.proofs.Widths.{ranged_moves}
 use Rattle.run_laws.specs.Regular.{IsRegular}
-use Rattle.stuck_bridge.proofs.Formed as stuck
+use Rattle.removal_bridge.proofs.TypedFormed as stuck
 use Rattle.tabled_law.proofs.Acyclic.{grounded_acyclic}
 use Rattle.cover_law.specs.Operators.{operators}
 use Rattle.cover_law.proofs.Sound.{value_sound}

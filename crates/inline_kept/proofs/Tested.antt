@@ -46,7 +46,7 @@ use Rattle.program_laws.proofs.Named.{others_named}
 use Rattle.program_laws.proofs.Typed.{others_typed}
 use Rattle.run_laws.specs.Regular.{IsRegular}
 use Rattle.run_laws.proofs.Here.{into_map}
-use Rattle.stuck_bridge.proofs.Formed.{regular_program}
+use Rattle.removal_bridge.proofs.TypedFormed.{regular_program}
 use Rattle.splice.specs.declared.callee.Callee.{Callee}
 use Rattle.splice.specs.declared.spliced.Spliced.{Spliced}
 use Rattle.inline_calls.specs.declared.site.Caller.{Caller}

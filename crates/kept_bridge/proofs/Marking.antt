@@ -24,7 +24,7 @@ use Rattle.form_laws.proofs.Reading.{reads_some}
 use Rattle.form_laws.specs.TypedRegisters.{Marks}
 use Rattle.insn_regs.specs.Wides.{is_wide_type, widths_of}
 use Rattle.operand_bridge.proofs.Widths.{wide_same}
-use Rattle.walk_bridge.proofs.Walked.{read_by_number}
+use Rattle.removal_bridge.proofs.Walked.{read_by_number}
 use Rattle.compact.specs.Narrow.{has_narrow_classes}
 use Rattle.compact.specs.Renamed.{HasRegisters, IsCompacted}
 use Rattle.compact_bridge.specs.Renames.{Compacts}

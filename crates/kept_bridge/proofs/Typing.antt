@@ -16,7 +16,7 @@ use Rattle.form_laws.proofs.WellFormed.{well_formed_solid}
 use Rattle.form_laws.specs.TypedRegisters.{IsTypedRenamed}
 use Rattle.form_laws.proofs.TypedRenaming.{table, typed_renamed}
 use Rattle.run_laws.specs.Regular.{IsRegular}
-use Rattle.stuck_bridge.proofs.Formed.{regular_program}
+use Rattle.removal_bridge.proofs.TypedFormed.{regular_program}
 use Rattle.compact.specs.Narrow.{has_narrow_classes}
 use Rattle.compact.specs.Renamed.{IsCompactedProgram}
 use Rattle.compact_bridge.specs.Renames.{Compacts}

@@ -82,7 +82,7 @@ use Rattle.run_laws.proofs.Here.{At, into_map}
 use Rattle.run_laws.proofs.Runs.{keeps_typed}
 use Rattle.run_laws.proofs.Searches.{finds_regularly}
 use Rattle.run_laws.proofs.Settled.{IsSettled}
-use Rattle.stuck_bridge.proofs.Listed.{image, Image}
+use Rattle.removal_bridge.proofs.Listed.{image, Image}
 use Rattle.pass_defs.specs.Analysis.{Analysis}
 use Rattle.pass_defs.specs.Facts as by_name
 use Rattle.run_facts.specs.ValueAnalysis.{datum_of, value_analysis}

@@ -29,8 +29,8 @@ use Rattle.program_laws.proofs.Named.{others_named}
 use Rattle.closed_bridge.proofs.Numbers.{IsNumber}
 use Rattle.closed_bridge.proofs.Places.{own_key}
 use Rattle.thin_bridge.proofs.Inside.{get_contains}
-use Rattle.walk_bridge.proofs.Formed.{form_there}
-use Rattle.walk_bridge.proofs.Walked.{read_after_by_number}
+use Rattle.removal_bridge.proofs.WalkedForms.{form_there}
+use Rattle.removal_bridge.proofs.Walked.{read_after_by_number}
 use Rattle.quiet_methods.specs.Quiet.{IsCode}
 use Rattle.quiet_code.specs.Idle.{DoesNothing, IsIdle}
 use Rattle.quiet_code.specs.Idle as number

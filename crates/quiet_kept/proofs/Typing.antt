@@ -57,8 +57,8 @@ use Rattle.program_laws.specs.Numbered.{OtherNumberedBodies}
 use Rattle.program_laws.proofs.Named.{others_named}
 use Rattle.program_laws.proofs.Typed.{others_typed}
 use Rattle.program_laws.proofs.Walks.{goes_next, goes_onward}
-use Rattle.walk_bridge.proofs.Formed.{form_there}
-use Rattle.walk_bridge.proofs.Walked.{read_after_by_number, read_by_number}
+use Rattle.removal_bridge.proofs.WalkedForms.{form_there}
+use Rattle.removal_bridge.proofs.Walked.{read_after_by_number, read_by_number}
 use Rattle.dead_bridge.specs.Veiled.{or_nop, emptied_forms, emptied, veiled_table}
 use Rattle.dead_bridge.proofs.Plain.{pure_keeps}
 use Rattle.receivers.specs.Receiving.{interface_at, is_overridden}

@@ -57,7 +57,7 @@ use Rattle.pass_defs.specs.Kinds.{is_plain, is_below, is_initialised, fits, fits
 use Rattle.pass_defs.specs.Registers.{Kinds, kind_at}
 use Rattle.pass_defs.specs.Typed.{state_at, wrong_method, differ, is_static_call}
 use Rattle.run_laws.proofs.Sorts.{class_alone, not_word}
-use Rattle.stuck_bridge.proofs.Listed.{image, Image}
+use Rattle.removal_bridge.proofs.Listed.{image, Image}
 use Rattle.type_bridge.specs.Views.{kind_named, kinds_named, class_kind, method_table}
 use Rattle.type_bridge.proofs.Frames.{at_named}
 use Rattle.type_bridge.proofs.Judged.{state_is}

@@ -40,7 +40,7 @@ use Rattle.removal_law.proofs.Climbs.{climb_under}
 use Rattle.removal_law.proofs.Lists.{In, here, there, in_map}
 use Rattle.removal_law.proofs.Outward.{any_here, any_where}
 use Rattle.removal_law.proofs.Walks.{text_same}
-use Rattle.stuck_bridge.proofs.Members.{class_known}
+use Rattle.removal_bridge.proofs.Members.{class_known}
 use Rattle.removal_bridge.proofs.Formed as upright
 use Rattle.rebind_law.specs.Receivers.{finds_listed}
 use Rattle.receivers.specs.Receiving.{lists, under_place, stands_under, only, found_by}

@@ -38,7 +38,7 @@ use Rattle.run_facts.specs.ValueAnalysis.{value_analysis}
 use Rattle.cover_law.specs.Coverable.{IsTabled}
 use Rattle.run_laws.specs.Regular.{IsRegular}
 use Rattle.run_laws.proofs.Here.{into_map}
-use Rattle.stuck_bridge.proofs.Formed as stuck
+use Rattle.removal_bridge.proofs.TypedFormed as stuck
 use Rattle.tabled_law.proofs.Acyclic.{grounded_acyclic}
 use Rattle.type_bridge.specs.Views.{method_table}
 use Rattle.type_bridge.proofs.Least.{least_method}

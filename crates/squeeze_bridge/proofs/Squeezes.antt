@@ -22,7 +22,7 @@ use Rattle.thin_laws.specs.Squeezed.{Squeezes}
 use Rattle.thin_laws.proofs.TypedPrograms.{marked_shown, marked_typed}
 use Rattle.thin_laws.proofs.Tidied.{code_rules, tidied_recoded}
 use Rattle.thin_pass.specs.Plans.{IsThinnedBy}
-use Rattle.walk_bridge.proofs.Formed.{form_there}
+use Rattle.removal_bridge.proofs.WalkedForms.{form_there}
 use Rattle.squeeze.specs.Skipping.{AreSkips}
 use Rattle.thin_bridge.specs.Right.{fates_by}
 use Rattle.thin_bridge.specs.Kept.{IsKept}

@@ -35,7 +35,7 @@ use Rattle.thin_laws.specs.Squeezed.{SqueezesMarked}
 use Rattle.thin_pass.specs.Wishing.{wish_at, goes, is_to_go, is_held}
 use Rattle.thin_laws.specs.Tidy.{IsTidy}
 use Rattle.thin_laws.proofs.Rules.{follows_at, target_there}
-use Rattle.walk_bridge.proofs.Formed.{same_onward, same_caught, form_there}
+use Rattle.removal_bridge.proofs.WalkedForms.{same_onward, same_caught, form_there}
 use Rattle.squeeze.specs.Skipping.{passes, wish_for, AreSkips}
 use Rattle.thin_bridge.specs.Right.{fates_by, PassesOn, On, Next, StillCatches, AreRight}
 use Rattle.thin_bridge.proofs.Chosen.{Chosen, long, chosen_at, lost_by}

@@ -38,8 +38,8 @@ use Rattle.removal_law.proofs.Finds.{in_filter, in_unfiltered, into_filter}
 use Rattle.removal_law.proofs.Lists.{In, contained}
 use Rattle.removal_law.proofs.Outward.{any_here, any_where}
 use Rattle.removal_law.proofs.Walks.{text_same}
-use Rattle.stuck_bridge.proofs.Listed.{Image, image}
-use Rattle.stuck_bridge.proofs.Members.{class_known}
+use Rattle.removal_bridge.proofs.Listed.{Image, image}
+use Rattle.removal_bridge.proofs.Members.{class_known}
 use Rattle.static_law.specs.Static.{IsApart}
 use Rattle.loose_methods.specs.Loose.{classes_under, has_outward, has_rival, is_alone, is_in_interface, is_outer, is_outward, is_rival, lists_outer, places}
 use Rattle.static_choice.proofs.Made.{IsMethod}

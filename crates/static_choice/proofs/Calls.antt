@@ -53,8 +53,8 @@ use Rattle.removal_law.proofs.Lists.{In, here, there, in_either, in_front, in_ba
 use Rattle.removal_law.proofs.Outward.{any_here, any_where}
 use Rattle.removal_law.proofs.Walks.{text_same}
 use Rattle.removal_bridge.proofs.Formed.{no_object}
-use Rattle.stuck_bridge.proofs.Listed.{Image, image}
-use Rattle.stuck_bridge.proofs.Members.{class_known}
+use Rattle.removal_bridge.proofs.Listed.{Image, image}
+use Rattle.removal_bridge.proofs.Members.{class_known}
 use Rattle.static_law.proofs.Classes.{contains_at}
 use Rattle.static_law.proofs.Targets.{key_there}
 use Rattle.receivers.specs.Receiving.{interface_at, lists_above}

@@ -34,7 +34,7 @@ use Rattle.pass_defs.specs.Walks.{form_at}
 use Rattle.removal_law.proofs.Lists.{contained, found_in}
 use Rattle.removal_law.proofs.Members.{signature_sound}
 use Rattle.removal_law.proofs.Trees.{class_name, class_in}
-use Rattle.stuck_bridge.proofs.Listed.{Image, image, method_fits_at}
+use Rattle.removal_bridge.proofs.Listed.{Image, image, method_fits_at}
 use Rattle.static_law.proofs.Fitting.{body_of_code, insns_numbers, method_holds}
 use Rattle.static_law.proofs.Programs.{mapped_at}
 

@@ -23,7 +23,7 @@ use Rattle.class_defs.proofs.Positions.{FirstPlace, PlaceFits, number_of, number
 use Rattle.class_defs.proofs.WellFormed.{MethodFits, Sound, class_parts}
 use Rattle.name_bridge.proofs.Above.{own_place}
 use Rattle.name_bridge.proofs.Tables.{same_number}
-use Rattle.stuck_bridge.proofs.Listed.{methods_differ}
+use Rattle.removal_bridge.proofs.Listed.{methods_differ}
 use Rattle.facts.specs.declared.facts.Facts.{Facts}
 use Rattle.loose_methods.specs.Loose.{calls_allow, is_alone, is_this, named_by, names_it, number_at}
 use Rattle.loose_methods.specs.Mentioned.{is_mentioned}

@@ -12,7 +12,7 @@ use Rattle.program_model.specs.declared.program.Class.{Class}
 use Rattle.program_model.specs.declared.program.Method.{Method}
 use Rattle.program_model.specs.declared.program.Program.{Program}
 use Rattle.facts.specs.declared.facts.Facts.{Facts}
-use Rattle.stuck_bridge.proofs.Listed.{Image, image}
+use Rattle.removal_bridge.proofs.Listed.{Image, image}
 use Rattle.static_law.proofs.Classes.{contains_at}
 use Rattle.static_protos.specs.Tables.{Tables}
 use Rattle.staticise.specs.Called.{IsUntouched}

@@ -33,7 +33,7 @@ use Rattle.removal_law.proofs.Lists.{In, here, there}
 use Rattle.removal_law.proofs.Outward.{any_here, any_where}
 use Rattle.removal_law.proofs.Walks.{text_same}
 use Rattle.removal_bridge.proofs.Formed as upright
-use Rattle.stuck_bridge.proofs.Members.{class_known}
+use Rattle.removal_bridge.proofs.Members.{class_known}
 use Rattle.receivers.specs.Receiving.{lists, lists_above}
 
 -- ---- places

@@ -38,7 +38,7 @@ use Rattle.pass_defs.specs.Typed.{IsTyped}
 use Rattle.removal_law.specs.Reach.{ShutsHold, TellsApart}
 use Rattle.removal_law.proofs.Protos.{told_apart}
 use Rattle.run_laws.specs.Regular.{IsRegular}
-use Rattle.stuck_bridge.proofs.Formed as stuck
+use Rattle.removal_bridge.proofs.TypedFormed as stuck
 use Rattle.static_law.specs.Receiving.{HoldNoNull}
 use Rattle.static_law.specs.Static.{AreInTables, IsSound, MayAllBeStatic}
 use Rattle.static_law.proofs.Given.{sound as sound_names}

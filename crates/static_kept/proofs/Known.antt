@@ -36,7 +36,7 @@ use Rattle.pass_defs.specs.Calls.{may_find}
 use Rattle.pass_defs.specs.Loose.{HasReceiver, concerns, names_it}
 use Rattle.pass_defs.specs.Walks.{form_at}
 use Rattle.removal_law.proofs.Declared.{method_same}
-use Rattle.stuck_bridge.proofs.Listed.{method_fits_at}
+use Rattle.removal_bridge.proofs.Listed.{method_fits_at}
 use Rattle.static_law.specs.Receiving.{KnowsReceivers}
 use Rattle.static_law.specs.Edited.{loose_in}
 use Rattle.static_law.proofs.Classes.{contains_at}

@@ -50,8 +50,8 @@ use Rattle.removal_law.proofs.Members.{signature_sound}
 use Rattle.removal_law.proofs.Outward.{any_here, any_where}
 use Rattle.removal_law.proofs.Trees.{defined}
 use Rattle.static_law.specs.Static.{IsApart, MayBeStatic, has_receiver}
-use Rattle.stuck_bridge.proofs.Listed.{Image, image}
-use Rattle.stuck_bridge.proofs.Members.{class_known, method_known}
+use Rattle.removal_bridge.proofs.Listed.{Image, image}
+use Rattle.removal_bridge.proofs.Members.{class_known, method_known}
 use Rattle.static_law.specs.Candidates.{IsCandidate}
 use Rattle.static_law.specs.Edited.{IsOwn}
 use Rattle.static_law.proofs.Forms.{not_below}

@@ -35,7 +35,7 @@ use Rattle.dalvik_defs.specs.declared.program.NamedMethod.{NamedMethod}
 use Rattle.run_laws.specs.Holds.{Each}
 use Rattle.name_bridge.proofs.Tables.{Sound, method_is}
 use Rattle.pass_defs.specs.Loose.{loosened, new_key, new_parameter_marks, new_signature, static_body, static_class, static_method}
-use Rattle.stuck_bridge.proofs.Listed.{Image, image, field_fits_at, method_fits_at}
+use Rattle.removal_bridge.proofs.Listed.{Image, image, field_fits_at, method_fits_at}
 use Rattle.static_law.specs.Edited.{EditedClass, IsEdited, IsPlanned, LetsClass, body_edited, flags_edited, loose_in, marks_edited, marks_name, method_edited, self_edited}
 use Rattle.static_law.proofs.Fitting.{body_of_code, class_marks, class_source, field_holds, insns_numbers, method_holds}
 use Rattle.static_law.proofs.Tables.{field_same, loose_number, method_same_at, text_same, type_same}

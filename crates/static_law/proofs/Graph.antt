@@ -19,7 +19,7 @@ use Rattle.dalvik_defs.specs.Naming.{type_at}
 use Rattle.hierarchy.specs.Splitting.{NoSplit}
 use Rattle.name_bridge.proofs.Found.{text_same as same_text, type_same as same_type}
 use Rattle.name_bridge.proofs.Tables.{Sound, method_name}
-use Rattle.stuck_bridge.proofs.Listed.{Image, image}
+use Rattle.removal_bridge.proofs.Listed.{Image, image}
 use Rattle.static_law.specs.Edited.{EditedClass, IsEdited, IsPlanned, flags_edited, marks_edited, body_edited, method_edited, name_edited}
 use Rattle.static_law.proofs.Classes.{contains_at}
 use Rattle.static_law.proofs.Programs.{partner_of}

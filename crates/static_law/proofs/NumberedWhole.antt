@@ -32,7 +32,7 @@ use Rattle.removal_law.proofs.Protos.{told_apart}
 use Rattle.removal_law.proofs.Trees.{defines_none}
 use Rattle.removal_bridge.proofs.Formed.{no_object, regular_program as upright_program}
 use Rattle.run_laws.specs.Regular.{IsRegular}
-use Rattle.stuck_bridge.proofs.Formed as stuck
+use Rattle.removal_bridge.proofs.TypedFormed as stuck
 use Rattle.program_laws.specs.Remade.{Remethod, SameMethods, remade}
 use Rattle.program_laws.proofs.Remade.{class_same, defines_same}
 use Rattle.program_laws.proofs.Order.{order_shown}

@@ -46,7 +46,7 @@ use Rattle.removal_law.proofs.Lists.{contained, in_map}
 use Rattle.removal_law.proofs.Outward.{any_where}
 use Rattle.removal_law.proofs.Trees.{class_in, class_name}
 use Rattle.static_law.specs.Static.{AreInTables, NamesDescribed}
-use Rattle.stuck_bridge.proofs.Listed.{Image, image, method_fits_at}
+use Rattle.removal_bridge.proofs.Listed.{Image, image, method_fits_at}
 use Rattle.static_law.proofs.Fitting.{body_of_code, insns_numbers, method_holds}
 use Rattle.static_law.proofs.Programs.{in_from, mapped_at}
 

@@ -25,7 +25,7 @@ use Rattle.dalvik_defs.specs.declared.program.NamedProgram.{NamedProgram}
 use Rattle.name_bridge.specs.Named.{found_at, found_of, found_there}
 use Rattle.name_bridge.proofs.Resolved.{resolves_by_number}
 use Rattle.name_bridge.proofs.Tables.{Sound, method_is}
-use Rattle.stuck_bridge.proofs.Members.{class_known, method_known}
+use Rattle.removal_bridge.proofs.Members.{class_known, method_known}
 use Rattle.static_law.specs.Edited.{IsOwn, IsPlanned, LetsClass, loose_in, target_at, target_method, target_of}
 use Rattle.static_law.proofs.Classes.{placed_below}
 use Rattle.static_law.proofs.Tables.{loose_number}

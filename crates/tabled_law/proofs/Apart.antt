@@ -17,7 +17,7 @@ use Rattle.removal_law.specs.Reach.{ShutsHold}
 use Rattle.removal_law.proofs.OuterTables.{tables_agree}
 use Rattle.removal_bridge.proofs.Formed.{regular_program}
 use Rattle.program_laws.proofs.WellFormed.{well_placed}
-use Rattle.stuck_bridge.proofs.Formed as stuck
+use Rattle.removal_bridge.proofs.TypedFormed as stuck
 use Rattle.cover_law.specs.Coverable.{IsTabled}
 use Rattle.tabled_law.specs.Apart.{ConstructsByOwn, IsTabledApart}
 use Rattle.premises.specs.Numbers.{AllHaveWords}

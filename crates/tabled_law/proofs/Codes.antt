@@ -26,7 +26,7 @@ use Rattle.dalvik_defs.specs.declared.names.MethodKey.{MethodKey}
 use Rattle.dalvik_defs.specs.declared.program.NamedBody.{NamedBody}
 use Rattle.removal_law.proofs.CallsLeft.{body_in}
 use Rattle.removal_law.proofs.Lists.{contained}
-use Rattle.stuck_bridge.proofs.Listed.{image, some_same, none_same, method_fits_at}
+use Rattle.removal_bridge.proofs.Listed.{image, some_same, none_same, method_fits_at}
 use Rattle.cover_law.specs.Coverable.{IsFormed}
 use Rattle.premises.specs.Numbers.{AllHaveWords, HasWords}
 use Rattle.tabled_law.proofs.Described.{field_values}

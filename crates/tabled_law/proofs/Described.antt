@@ -20,8 +20,8 @@ use Rattle.removal_law.specs.Left.{In}
 use Rattle.removal_law.specs.Reach.{IsDescribed}
 use Rattle.removal_law.proofs.Lists.{contained}
 use Rattle.removal_law.proofs.Trees.{class_in}
-use Rattle.stuck_bridge.proofs.Listed.{image}
-use Rattle.stuck_bridge.proofs.Members.{reads_known}
+use Rattle.removal_bridge.proofs.Listed.{image}
+use Rattle.removal_bridge.proofs.Members.{reads_known}
 use Rattle.insn_set.specs.declared.form.Insn.TheVariants as insn
 use Rattle.insn_set.specs.declared.ops.Item.TheVariants as item
 use Rattle.cover_law.specs.Coverable.{has_values}

@@ -38,7 +38,7 @@ use Rattle.dalvik_defs.specs.declared.state.Value.TheVariants.{Word, Low, Litera
 use Rattle.pass_defs.specs.Analysis.{IsRanged}
 use Rattle.removal_law.proofs.Lists.{contained, found_in}
 use Rattle.removal_law.proofs.Trees.{class_in}
-use Rattle.stuck_bridge.proofs.Listed.{image, none_same, field_fits_at}
+use Rattle.removal_bridge.proofs.Listed.{image, none_same, field_fits_at}
 use Rattle.premises.specs.Numbers.{AllHaveWords, LayerHasWords, ValueHasWords}
 use Rattle.tabled_law.proofs.Small.{bits}
 

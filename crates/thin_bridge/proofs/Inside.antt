@@ -27,7 +27,7 @@ use Rattle.pass_defs.specs.Walks as named
 use Rattle.program_laws.proofs.ChangedLists.{and_left}
 use Rattle.thin_laws.proofs.Kept.{enter_begin}
 use Rattle.thin_laws.proofs.Rules.{first_begins, next_there, target_there, may_begin_at, rest_of}
-use Rattle.walk_bridge.proofs.Walked.{reached_by_number}
+use Rattle.removal_bridge.proofs.Walked.{reached_by_number}
 
 -- ---- lists
 

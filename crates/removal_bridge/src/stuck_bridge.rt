@@ -1,4 +1,5 @@
-//! Laws of well-formed programs.
+//! That a program which was read, and whose code is typed, is never stuck: what `stuck_law` asks of a program by names holds of a
+//! well-formed program by numbers.
 
 ghost use Rattle.std.specs.Prelude.{◌≡◌, ℕ, List, true};
 ghost use Rattle.program_model.specs.ProgramRules.{is_well_formed};

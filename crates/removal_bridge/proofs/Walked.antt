@@ -11,8 +11,8 @@ use Rattle.flow_cfg.specs.Walks.{successors_of}
 use Rattle.pass_defs.specs.Bare.{reads, writes}
 use Rattle.pass_defs.specs.Walks as named
 use Rattle.body_graph.specs.Walks as numbered
-use Rattle.walk_bridge.specs.Bridged.{IsReachedByNumber, IsReadByNumber, IsReadAfterByNumber}
-use Rattle.walk_bridge.proofs.Formed.{same_reads, same_writes, same_onward, same_caught, same_successors, form_there}
+use Rattle.removal_bridge.specs.Bridged.{IsReachedByNumber, IsReadByNumber, IsReadAfterByNumber}
+use Rattle.removal_bridge.proofs.WalkedForms.{same_reads, same_writes, same_onward, same_caught, same_successors, form_there}
 
 -- ---- what is reached
 

@@ -41,7 +41,7 @@ use Rattle.name_bridge.proofs.Flags.{static_flag}
 use Rattle.name_bridge.proofs.Classes.{class_by_number, method_by_number}
 use Rattle.name_bridge.proofs.Found.{type_same}
 use Rattle.run_laws.specs.Regular.{reads_value, taken}
-use Rattle.stuck_bridge.proofs.Listed.{find_alone, some_same, method_fits_at, methods_differ}
+use Rattle.removal_bridge.proofs.Listed.{find_alone, some_same, method_fits_at, methods_differ}
 
 module _ (p : Program) (s : Sound p) where
   -- ---- letters

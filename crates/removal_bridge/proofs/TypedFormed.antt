@@ -25,10 +25,10 @@ use Rattle.dalvik_defs.specs.declared.program.NamedMethod.{NamedMethod}
 use Rattle.pass_defs.specs.Typed.{IsTyped}
 use Rattle.run_laws.specs.Regular.{IsRegular, reads_value, suits, taken}
 use Rattle.run_laws.proofs.Climbs.{name_of, class_in}
-use Rattle.stuck_bridge.proofs.Listed.{Image, image, some_same, none_same, field_fits_at, name_fits}
-use Rattle.stuck_bridge.proofs.Members.{class_known, method_known, taken_known, reads_known}
-use Rattle.stuck_bridge.proofs.FirstValues.{first_suits}
-use Rattle.stuck_bridge.proofs.Standing.{interfaces_free}
+use Rattle.removal_bridge.proofs.Listed.{Image, image, some_same, none_same, field_fits_at, name_fits}
+use Rattle.removal_bridge.proofs.Members.{class_known, method_known, taken_known, reads_known}
+use Rattle.removal_bridge.proofs.FirstValues.{first_suits}
+use Rattle.removal_bridge.proofs.Standing.{interfaces_free}
 
 module _ (p : Program) (fits : is_well_formed p ≡ true) (twice : (class : ℕ) → IsTwice p class → ⊥) where
   s : Sound p

@@ -34,7 +34,7 @@ use Rattle.dalvik_defs.specs.declared.state.Value.{Value}
 use Rattle.dalvik_defs.specs.declared.state.Value.TheVariants.{Word, Low, Literal, Class}
 use Rattle.run_laws.specs.Regular.{suits}
 use Rattle.name_bridge.proofs.Tables.{field_is}
-use Rattle.stuck_bridge.proofs.Members.{letter_same}
+use Rattle.removal_bridge.proofs.Members.{letter_same}
 
 -- a layer of a value by names
 element_of : Program → Element → NamedElement

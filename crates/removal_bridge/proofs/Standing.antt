@@ -24,7 +24,7 @@ use Rattle.name_bridge.proofs.Classes.{class_by_number}
 use Rattle.name_bridge.proofs.Flags.{interface_flag}
 use Rattle.run_laws.specs.Regular.{InterfacesStandFree}
 use Rattle.run_laws.proofs.Climbs.{class_in}
-use Rattle.stuck_bridge.proofs.Listed.{Image, image}
+use Rattle.removal_bridge.proofs.Listed.{Image, image}
 
 -- ---- tests
 

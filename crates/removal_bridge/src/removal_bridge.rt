@@ -1,4 +1,4 @@
-//! Laws of well-formed programs.
+//! What the law of removal asks of a program, a well-formed program has.
 
 ghost use Rattle.std.specs.Prelude.{◌≡◌, ℕ, true};
 ghost use Rattle.dalvik_defs.specs.Outer.{Outer};

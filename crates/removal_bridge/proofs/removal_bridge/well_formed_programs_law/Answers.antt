@@ -1,5 +1,5 @@
 use Rattle.removal_bridge.proofs.Formed.{regular_program, apart_program, protos_program}
-use Rattle.removal_bridge.proofs.laws.well_formed_programs_law.Goals as goal
+use Rattle.removal_bridge.proofs.removal_bridge.well_formed_programs_law.Goals as goal
 
 pub returns-clause-regular : goal.returns-clause-regular
 returns-clause-regular c = regular_program

@@ -18,10 +18,10 @@ use Rattle.code_read.specs.Code.{code_of}
 use Rattle.dex_defs.specs.LaysOut.{step_of, IsNear, list_begins, LaysOutBody}
 use Rattle.dex_defs.specs.Sweep.{Piece, Places, instructions, starts_of, places_of}
 use Rattle.dex_defs.specs.Handlers.{Try, IsTry, covers, covering, first_position, end_position, IsRegion, AreRegions}
-use Rattle.code_laws.specs.Code.{IsBody}
-use Rattle.code_laws.specs.Regions.{AreRegionsAt}
-use Rattle.code_laws.proofs.Bodies.{founds_code}
-use Rattle.code_laws.proofs.Trying.{founds_regions}
+use Rattle.file_laws.specs.Code.{IsBody}
+use Rattle.file_laws.specs.Regions.{AreRegionsAt}
+use Rattle.file_laws.proofs.Bodies.{founds_code}
+use Rattle.file_laws.proofs.Trying.{founds_regions}
 use Rattle.read_laws.proofs.Bounds.{AreBytes, taken, dropped}
 use Rattle.read_laws.proofs.FieldBounds.{AreUnits}
 use Rattle.layout_law.specs.Shorter.{condition_of}

@@ -21,7 +21,7 @@ use Rattle.cover_law.proofs.Widths.{ranged_moves}
 use Rattle.cover_law.specs.Operators.{operators}
 use Rattle.cover_law.proofs.Sound.{value_sound}
 use Rattle.thin_bridge.proofs.Rooted.{rooted}
-use Rattle.dead_bridge.proofs.Quieting.{pure_named}
+use Rattle.thin_bridge.proofs.Quieting.{pure_named}
 use Rattle.form_laws.specs.Known.{SameRun}
 use Rattle.const_prop.specs.Folds.{IsFoldedBy}
 use Rattle.fold_bridge.specs.Folds.{AreNamed}

@@ -27,8 +27,8 @@ use Rattle.thin_bridge.specs.Kept.{AnyCode, IsKept}
 use Rattle.fold_kept.specs.Kept.{IsKeptFor}
 use Rattle.fold_kept.proofs.Kept.{folded_kept}
 use Rattle.fold_kept.proofs.NamedFacts.{are_named}
-use Rattle.squeeze_bridge.proofs.Squeezes.{squeezed_kept}
-use Rattle.dead_bridge.proofs.Cleans.{cleaned_kept}
+use Rattle.thin_bridge.proofs.Squeezes.{squeezed_kept}
+use Rattle.thin_bridge.proofs.Cleans.{cleaned_kept}
 use Rattle.compact.specs.Narrow.{has_narrow_classes}
 use Rattle.compact.specs.Renamed.{IsCompactedProgram}
 use Rattle.kept_bridge.proofs.Compacted.{compacted_kept}

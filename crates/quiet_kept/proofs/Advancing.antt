@@ -65,7 +65,7 @@ use Rattle.closed_bridge.proofs.Fielding.{gets_same}
 use Rattle.closed_bridge.proofs.Fits.{Owner, owner_of, all_fit}
 use Rattle.closed_bridge.proofs.Numbers.{IsNumber, number_of_method}
 use Rattle.closed_bridge.proofs.Defining.{same_number}
-use Rattle.dead_bridge.proofs.Quieting.{pure_named}
+use Rattle.thin_bridge.proofs.Quieting.{pure_named}
 use Rattle.pass_defs.specs.Analysis.{Analysis}
 use Rattle.pass_defs.specs.Facts as by_name
 use Rattle.pass_defs.specs.Pure.{is_quiet_field}

@@ -1,2 +1,4 @@
 pub mod Right
 pub mod Kept
+pub mod Veiled
+pub mod Cleans

@@ -29,8 +29,8 @@ use Rattle.thin_bridge.specs.Kept.{IsKept}
 use Rattle.thin_bridge.proofs.Became.{any_others, thinned_others, tidied}
 use Rattle.thin_bridge.proofs.Inside.{mapped_in}
 use Rattle.thin_bridge.proofs.Rooted.{rooted}
-use Rattle.squeeze_bridge.proofs.Entered.{no_entry}
-use Rattle.squeeze_bridge.proofs.Squeezing.{marks, skips_tidy, skips_marked}
+use Rattle.thin_bridge.proofs.Entered.{no_entry}
+use Rattle.thin_bridge.proofs.Squeezing.{marks, skips_tidy, skips_marked}
 
 module _ (admitted : List Bool) (p : Program) (c : Changed) (fits : is_well_formed p ≡ true) (typed : IsTyped (named p)) (t : IsThinnedBy AreSkips admitted p c) where
   -- no body begins with a MoveException

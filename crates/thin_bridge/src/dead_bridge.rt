@@ -1,4 +1,8 @@
-//! Laws of programs without dead code.
+//! A program without its dead code is kept: what `dead_code` ensures by number is what the laws of thinning ask by name.
+//!
+//! A dead position computes what no walk reads, so it goes on to what is left and nothing is seen of it. Its body is typed again: a
+//! register that nobody reads before it is written may hold anything, so the typing forgets its kind (`specs/Veiled.antt`), and a
+//! nop may stand for what wrote it.
 
 ghost use Rattle.std.specs.Prelude.{◌≡◌, ℕ, Bool, true, List};
 ghost use Rattle.program_model.specs.ProgramRules.{is_well_formed};
@@ -15,7 +19,7 @@ ghost use Rattle.dead_code.specs.Dead.{is_quiet_field};
 ghost use Rattle.dead_code.specs.Wishes.{AreCleaned};
 ghost use Rattle.thin_bridge.specs.Kept.{IsKept};
 ghost use Rattle.thin_pass.specs.Plans.{IsThinnedBy};
-ghost use Rattle.dead_bridge.specs.Veiled.{veiled_table, emptied, Hides};
+ghost use Rattle.thin_bridge.specs.Veiled.{veiled_table, emptied, Hides};
 
 /// A body with nops for its dead positions has a typing where the body has one: the same, without the kinds of registers
 /// that nobody reads.

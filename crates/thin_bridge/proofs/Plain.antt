@@ -24,7 +24,7 @@ use Rattle.pass_defs.specs.Demands.{meets, demands, slot_demand, is_moved, resul
 use Rattle.pass_defs.specs.Pure.{is_pure}
 use Rattle.pass_defs.specs.Typed.{number_kind, constant_kind, moved, after, wrong_item, wrong_field, wrong_first, is_wrong}
 use Rattle.program_laws.proofs.ChangedLists.{and_left}
-use Rattle.dead_bridge.proofs.Agreeing.{written_or, written_long}
+use Rattle.thin_bridge.proofs.Agreeing.{written_or, written_long}
 
 pub record Keeps (f : Form) (a b : Kinds) : Type 0 where
   pub long : length b.registers ≡ length a.registers

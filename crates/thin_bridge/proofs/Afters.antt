@@ -25,7 +25,7 @@ use Rattle.pass_defs.specs.Registers.{Kinds, kind_at, written, written_kinds, re
 use Rattle.pass_defs.specs.Demands.{is_constructor_name, result_fits, place_allowed, is_allowed}
 use Rattle.pass_defs.specs.Typed.{number_kind, constant_kind, got, moved, constructed, receiver_register, is_static_call, called, after, wrong_item, wrong_field, wrong_first, words_of, passed_words, wrong_method, wrong_super, is_wrong}
 use Rattle.program_laws.proofs.ChangedLists.{and_left}
-use Rattle.dead_bridge.proofs.Agreeing.{AgreeOn, same_or, pair_agree, kinds_agree, fewer_agree, map_agree}
+use Rattle.thin_bridge.proofs.Agreeing.{AgreeOn, same_or, pair_agree, kinds_agree, fewer_agree, map_agree}
 
 -- ---- kinds that are the low half of a wide
 

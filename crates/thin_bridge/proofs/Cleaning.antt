@@ -59,9 +59,9 @@ use Rattle.thin_bridge.specs.Right.{fates_by, PassesOn, On, Next, StillCatches, 
 use Rattle.thin_bridge.proofs.Chosen.{Chosen, long, chosen_at, insn_there, lost_by, stays_by}
 use Rattle.thin_bridge.proofs.Tidying.{tidy}
 use Rattle.thin_bridge.proofs.Inside.{step_of, step_inside, falls_on, some_position, named_inside}
-use Rattle.dead_bridge.specs.Veiled.{Hides, or_nop, emptied_forms, emptied, veiled_table}
-use Rattle.dead_bridge.proofs.Quieting.{fine_of, pure_named}
-use Rattle.dead_bridge.proofs.Veiling.{emptied_at, emptied_long, emptied_typing}
+use Rattle.thin_bridge.specs.Veiled.{Hides, or_nop, emptied_forms, emptied, veiled_table}
+use Rattle.thin_bridge.proofs.Quieting.{fine_of, pure_named}
+use Rattle.thin_bridge.proofs.Veiling.{emptied_at, emptied_long, emptied_typing}
 
 -- ---- pure forms
 

@@ -28,11 +28,11 @@ use Rattle.form_laws.proofs.Asking.{allowed_held}
 use Rattle.form_laws.proofs.Typings.{each_at, tested, allowed_at, right_at}
 use Rattle.program_laws.proofs.Walks.{goes_next}
 use Rattle.program_laws.proofs.ChangedLists.{and_left, and_both, all_map}
-use Rattle.dead_bridge.specs.Veiled.{Hides, veil, veiled, veiled_table, or_nop, emptied_forms, emptied}
-use Rattle.dead_bridge.proofs.Agreeing.{AgreeOn}
-use Rattle.dead_bridge.proofs.Afters.{SameAfter, after_same}
-use Rattle.dead_bridge.proofs.Calling.{call_there}
-use Rattle.dead_bridge.proofs.Plain.{Keeps, pure_keeps, pure_continues}
+use Rattle.thin_bridge.specs.Veiled.{Hides, veil, veiled, veiled_table, or_nop, emptied_forms, emptied}
+use Rattle.thin_bridge.proofs.Agreeing.{AgreeOn}
+use Rattle.thin_bridge.proofs.Afters.{SameAfter, after_same}
+use Rattle.thin_bridge.proofs.Calling.{call_there}
+use Rattle.thin_bridge.proofs.Plain.{Keeps, pure_keeps, pure_continues}
 
 -- ---- lists
 

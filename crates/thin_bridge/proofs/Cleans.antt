@@ -47,8 +47,8 @@ use Rattle.thin_bridge.specs.Right.{fates_by}
 use Rattle.thin_bridge.specs.Kept.{IsKept}
 use Rattle.thin_bridge.proofs.Became.{any_others, thinned_others, tidied}
 use Rattle.thin_bridge.proofs.Rooted.{rooted}
-use Rattle.dead_bridge.specs.Cleans.{Cleans}
-use Rattle.dead_bridge.proofs.Cleaning.{marks, cleaned_tidy, cleaned_cleaning, cleaned_typing}
+use Rattle.thin_bridge.specs.Cleans.{Cleans}
+use Rattle.thin_bridge.proofs.Cleaning.{marks, cleaned_tidy, cleaned_cleaning, cleaned_typing}
 
 -- ---- typings
 

@@ -25,13 +25,13 @@ use Rattle.pass_defs.specs.Typed.{state_at}
 use Rattle.form_laws.proofs.Widths.{narrow_kind}
 use Rattle.removal_bridge.proofs.Listed.{some_same, none_same}
 use Rattle.insn_regs.specs.Wides.{is_wide_type}
-use Rattle.operand_bridge.proofs.Widths.{wide_same}
+use Rattle.copy_kept.proofs.Widths.{wide_same}
 use Rattle.compact.specs.Narrow.{has_narrow_classes}
 use Rattle.compact.specs.Renamed.{HasRegisters}
 use Rattle.copy_prop.specs.Stale.{IsCopy}
 use Rattle.form_laws.specs.Reread.{Copied, StandsThere}
 use Rattle.form_laws.specs.TypedCopies.{HasKind}
-use Rattle.copy_bridge.proofs.Forms.{IsOf, insn_for, move_of, spoilt_from}
+use Rattle.copy_kept.proofs.Forms.{IsOf, insn_for, move_of, spoilt_from}
 use Rattle.verify.specs.declared.kinds.Kind.{Kind}
 use Rattle.verify.specs.declared.kinds.Kind.TheVariants.{WideLow, WideHigh}
 use Rattle.verify.specs.declared.setting.Setting.{Setting}
@@ -53,8 +53,8 @@ use Rattle.type_bridge.proofs.Grounds.{invoke_fits}
 use Rattle.type_bridge.proofs.Judged.{state_is}
 use Rattle.type_bridge.proofs.Texts.{kind_is}
 use Rattle.type_bridge.proofs.Told.{Told, told}
-use Rattle.copy_kinds.specs.Alike.{is_half, IsNarrow, IsAlike, AreAlike}
-use Rattle.copy_kinds.proofs.Copies.{alike}
+use Rattle.copy_kept.specs.Alike.{is_half, IsNarrow, IsAlike, AreAlike}
+use Rattle.copy_kept.proofs.Copies.{alike}
 
 not_true : (b : Bool) → not b ≡ true → b ≡ false
 not_true true e = absurd (true≢false (sym e))

@@ -20,7 +20,7 @@ use Rattle.program_laws.proofs.ChangedLists.{and_left}
 use Rattle.program_laws.specs.Others.{Pairwise}
 use Rattle.insn_regs.specs.Remade.{remade}
 use Rattle.insn_regs.specs.Wides.{first_if, widths_of}
-use Rattle.operand_bridge.proofs.Remaking.{remade_alike}
+use Rattle.copy_kept.proofs.Remaking.{remade_alike}
 use Rattle.walk_marks.specs.Walks.{is_on}
 use Rattle.body_graph.specs.Walks.{insn_at}
 use Rattle.compact.specs.Narrow.{has_narrow_classes}
@@ -34,7 +34,7 @@ use Rattle.copy_prop.specs.Propagated.{IsPropagated, IsPropagatedMethod, IsPropa
 use Rattle.copy_prop.specs.Propagated as propagated
 use Rattle.thin_laws.specs.Rewritten.{IsRewritten, RewritesBody, RewrittenMethod, Untouched, Rewritten, RewrittenClass}
 use Rattle.thin_laws.proofs.Rewriting.{rewritten_formed}
-use Rattle.kept_bridge.proofs.Compacting.{has_registers}
+use Rattle.copy_kept.proofs.Compacting.{has_registers}
 use Rattle.verify.specs.declared.kinds.Kind.{Kind}
 use Rattle.verify.specs.declared.kinds.Kind.TheVariants.{WideLow, WideHigh}
 use Rattle.verify.specs.declared.setting.Setting.{Setting}
@@ -50,11 +50,11 @@ use Rattle.verify.specs.Typings.{Table}
 use Rattle.verify.proofs.Lattice.{left_true}
 use Rattle.verify.proofs.Reading.{unless_true, no_fault}
 use Rattle.type_bridge.proofs.Bodies.{got_short}
-use Rattle.copy_kinds.specs.Alike.{IsAlike}
+use Rattle.copy_kept.specs.Alike.{IsAlike}
 use Rattle.copy_kept.proofs.Pairs.{IsAmong, clash, only, first_or, two_wides, still_fits}
 use Rattle.copy_kept.proofs.Reached.{has_kinds}
 use Rattle.copy_kept.proofs.Alike.{alike_here}
-use Rattle.copy_kept.proofs.Typing.{typings, own_narrow}
+use Rattle.copy_kept.proofs.CopyTyping.{typings, own_narrow}
 
 -- ---- lists
 

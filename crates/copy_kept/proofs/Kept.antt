@@ -6,13 +6,13 @@ use Rattle.hierarchy.specs.Shapes.{IsResolved}
 use Rattle.hierarchy.specs.declared.build.Hierarchy.{Hierarchy}
 use Rattle.compact.specs.Narrow.{has_narrow_classes}
 use Rattle.copy_prop.specs.Propagated.{IsPropagatedProgram}
-use Rattle.copy_bridge.specs.Rereads.{Propagates}
-use Rattle.copy_bridge.proofs.Programs.{program_propagates, propagated_shown}
+use Rattle.copy_kept.specs.Rereads.{Propagates}
+use Rattle.copy_kept.proofs.CopyPrograms.{program_propagates, propagated_shown}
 use Rattle.thin_bridge.specs.Kept.{IsKept}
-use Rattle.kept_bridge.proofs.Compacted.{any_code}
+use Rattle.copy_kept.proofs.Compacted.{any_code}
 use Rattle.verify.specs.Methods.{TypesAll}
 use Rattle.copy_kept.proofs.Formed.{propagated_formed}
-use Rattle.copy_kept.proofs.Typing.{propagated_typed}
+use Rattle.copy_kept.proofs.CopyTyping.{propagated_typed}
 
 pub propagated_kept : (p : Program) (h : Hierarchy) → is_well_formed p ≡ true → IsResolved p h → has_narrow_classes p ≡ true → TypesAll p h → (admitted : List Bool) (q : Program) → IsPropagatedProgram admitted p q → IsKept p q
 propagated_kept p h w r narrow types admitted q i = record {

@@ -17,7 +17,7 @@ use Rattle.insn_regs.specs.Wides.{first_if, wides_read}
 use Rattle.compact.specs.Renamed.{HasRegisters}
 use Rattle.copy_prop.specs.Stale.{IsStaleBy}
 use Rattle.form_laws.specs.Reread.{Copied, substituted}
-use Rattle.copy_kept.proofs.Registers.{wide_operands, fits}
+use Rattle.copy_kept.proofs.CopyRegisters.{wide_operands, fits}
 
 pub clash : {A : Type 0} (b : Bool) → b ≡ true → b ≡ false → A
 clash b e f = absurd (true≢false (sym e ∙ f))

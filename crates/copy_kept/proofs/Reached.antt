@@ -17,7 +17,7 @@ use Rattle.verify.specs.Typings.{AtMost, Arrives, Table, IsTyping, catches}
 use Rattle.verify.specs.Typings as flow
 use Rattle.type_bridge.proofs.Bodies.{got_short}
 use Rattle.type_bridge.proofs.Programs.{index_at}
-use Rattle.copy_kinds.proofs.Copies.{caught_places}
+use Rattle.copy_kept.proofs.Copies.{caught_places}
 
 -- what holds of all items holds of one of them
 all_there : {A : Type 0} (P : A → Type 0) (xs : List A) (x : A) → All P xs → Contains xs x → P x

@@ -17,8 +17,8 @@ use Rattle.verify.specs.Methods.{TypesAll}
 use Rattle.dead_code.specs.Dead.{is_quiet_field}
 use Rattle.dead_code.specs.Wishes.{NoneDead}
 use Rattle.compact.specs.Narrow.{has_narrow_classes}
-use Rattle.compact_bridge.specs.Bridged.{AllPacked}
-use Rattle.copy_bridge.specs.Bridged.{AllFresh}
+use Rattle.copy_kept.specs.CompactBridged.{AllPacked}
+use Rattle.copy_kept.specs.CopyBridged.{AllFresh}
 use Rattle.squeeze.specs.Needed.{NothingLeft}
 use Rattle.pipeline.specs.Inlined.{IsOptimisedInlined}
 use Rattle.pipeline.specs.Passes.{KeepsForms}

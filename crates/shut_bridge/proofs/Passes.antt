@@ -26,12 +26,12 @@ use Rattle.thin_pass.specs.Plans.{IsThinnedBy}
 use Rattle.thin_bridge.specs.Right.{fates_by}
 use Rattle.thin_bridge.proofs.Became.{Became, AsItWas, Thin, others}
 use Rattle.compact.specs.Renamed.{IsCompactedProgram}
-use Rattle.compact_bridge.specs.Renames.{Compacts}
-use Rattle.compact_bridge.proofs.Programs.{program_compacts}
+use Rattle.copy_kept.specs.Renames.{Compacts}
+use Rattle.copy_kept.proofs.CompactPrograms.{program_compacts}
 use Rattle.copy_prop.specs.Rereading.{substituted}
 use Rattle.copy_prop.specs.Propagated.{IsPropagatedProgram}
-use Rattle.copy_bridge.specs.Rereads.{Propagates}
-use Rattle.copy_bridge.proofs.Programs.{program_propagates}
+use Rattle.copy_kept.specs.Rereads.{Propagates}
+use Rattle.copy_kept.proofs.CopyPrograms.{program_propagates}
 use Rattle.shut_bridge.proofs.Saying.{remade_said}
 
 -- what code says by the names of a program

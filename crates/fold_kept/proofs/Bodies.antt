@@ -62,7 +62,7 @@ use Rattle.const_prop.specs.Folds.{IsJudged}
 use Rattle.const_prop.specs.Given.{given}
 use Rattle.const_prop.specs.Kinds.{fits, in_kind, in_result, is_narrow_move, is_typed_so, letter, in_type, move_fits, typing_fits}
 use Rattle.const_prop.specs.Known.{way_by}
-use Rattle.fold_kept.specs.Folds.{IsFoldedSo}
+use Rattle.fold_kept.specs.TypedFolds.{IsFoldedSo}
 use Rattle.fold_kept.proofs.Beneath.{initialised_under, known_above, type_not_zero, type_of_objects, word_above, zero_initialised, zero_kind, zero_number}
 use Rattle.fold_kept.proofs.Letters.{letter_same, null_letter}
 use Rattle.fold_kept.proofs.Lowered.{branch_lowers, constant_lowers, left_kind, Suits}

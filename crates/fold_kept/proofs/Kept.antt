@@ -29,10 +29,10 @@ use Rattle.thin_bridge.specs.Kept.{AnyCode}
 use Rattle.premises.specs.Numbers.{AllHaveWords}
 use Rattle.tabled_law.proofs.Apart.{tabled, tabled_apart}
 use Rattle.const_prop.specs.Folds.{IsFoldedBy}
-use Rattle.fold_bridge.specs.Folds.{AreNamed, FoldsCode}
-use Rattle.fold_bridge.proofs.FormedPrograms.{folded_formed}
-use Rattle.fold_bridge.proofs.Planned.{rewritten_others}
-use Rattle.fold_bridge.proofs.Shown.{same_shown}
+use Rattle.fold_kept.specs.Folds.{AreNamed, FoldsCode}
+use Rattle.fold_kept.proofs.FormedPrograms.{folded_formed}
+use Rattle.fold_kept.proofs.Planned.{rewritten_others}
+use Rattle.fold_kept.proofs.Shown.{same_shown}
 use Rattle.fold_kept.specs.Kept.{IsKeptFor}
 use Rattle.fold_kept.proofs.Typing.{folded_typed}
 

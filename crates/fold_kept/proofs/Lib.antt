@@ -2,7 +2,7 @@ pub mod Beneath
 pub mod Letters
 pub mod Lowered
 pub mod Few
-pub mod Planned
+pub mod TypedPlanned
 pub mod Bodies
 pub mod Typing
 pub mod Joins
@@ -12,3 +12,17 @@ pub mod Supers
 pub mod Results
 pub mod NamedFacts
 pub mod Kept
+pub mod Only
+pub mod Acts
+pub mod Branches
+pub mod Covered
+pub mod Steps
+pub mod Settling
+pub mod Forms
+pub mod Becoming
+pub mod Planned
+pub mod Programs
+pub mod Formed
+pub mod FormedPrograms
+pub mod Bulk
+pub mod Shown

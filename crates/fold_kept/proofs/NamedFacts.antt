@@ -48,7 +48,7 @@ use Rattle.closed_bridge.proofs.Inverse.{of_call}
 use Rattle.closed_bridge.proofs.Places.{at_number, own_key as own_number}
 use Rattle.const_prop.specs.Given.{behind}
 use Rattle.const_prop.specs.Known.{field_in, field_value}
-use Rattle.fold_bridge.specs.Folds.{AreNamed, StandsAt}
+use Rattle.fold_kept.specs.Folds.{AreNamed, StandsAt}
 use Rattle.premises.specs.Plain.{ListsPlainly}
 use Rattle.fold_kept.proofs.Joins.{below_any, Under}
 use Rattle.fold_kept.proofs.Results.{call_given, call_left}

@@ -34,9 +34,9 @@ use Rattle.thin_bridge.proofs.Rooted.{rooted}
 use Rattle.premises.specs.Numbers.{AllHaveWords}
 use Rattle.facts.specs.declared.facts.Facts.{Facts}
 use Rattle.const_prop.specs.Folds.{IsFoldedBy}
-use Rattle.fold_kept.specs.Folds.{CodeHasWords, FoldsNamedSo, FoldsSo, NoCode, Same, Folded}
+use Rattle.fold_kept.specs.TypedFolds.{CodeHasWords, FoldsNamedSo, FoldsSo, NoCode, Same, Folded}
 use Rattle.fold_kept.proofs.Bodies.{folded_typing}
-use Rattle.fold_kept.proofs.Planned.{rewritten_so}
+use Rattle.fold_kept.proofs.TypedPlanned.{rewritten_so}
 
 -- pairs of which more is known by their places
 pairs_with : {A : Type 0} (R S : A → A → Type 0) (xs ys : List A) → Pairwise R xs ys → ((k : ℕ) (x y : A) → slice_get ys k ≡ Some y → R x y → S x y) → Pairwise S xs ys

@@ -1,2 +1,5 @@
-pub mod Folds
+pub mod TypedFolds
 pub mod Kept
+pub mod Known
+pub mod Folds
+pub mod Runs

@@ -29,7 +29,7 @@ use Rattle.program_laws.specs.Others.{Pairwise}
 use Rattle.program_laws.specs.Numbered.{NumberedCodes, OtherNumberedBodies, OtherNumberedClass, OtherNumberedMethod}
 use Rattle.thin_bridge.specs.Kept.{AnyCode}
 use Rattle.tabled_law.proofs.Apart.{tabled, tabled_apart}
-use Rattle.fold_bridge.specs.Folds.{AreNamed}
+use Rattle.fold_kept.specs.Folds.{AreNamed}
 use Rattle.fold_kept.specs.Kept.{IsKeptFor}
 use Rattle.inline_calls.specs.Asked.{Row}
 use Rattle.inline_calls.specs.Plans.{IsInlined}

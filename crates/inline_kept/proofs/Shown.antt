@@ -29,7 +29,7 @@ use Rattle.cover_law.specs.Operators.{operators}
 use Rattle.cover_law.proofs.Sound.{value_sound}
 use Rattle.inline_law.proofs.Entering.{facts_shown}
 use Rattle.inline_law.proofs.Found.{reading}
-use Rattle.fold_bridge.specs.Folds.{AreNamed}
+use Rattle.fold_kept.specs.Folds.{AreNamed}
 use Rattle.inline_kept.specs.Spliced.{SplicesSo}
 use Rattle.inline_kept.proofs.Named.{SplicesNamed, named_others, all_inlined, sites}
 use Rattle.inline_kept.proofs.Running.{level, all_enterable, Reaches, begins, KeepsNoNull, frameless_keeps, covered_keeps, facts_hold}

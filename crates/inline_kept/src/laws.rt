@@ -21,7 +21,7 @@ ghost use Rattle.closed_facts.specs.Closed.{AreClosed};
 ghost use Rattle.premises.specs.Makers.{MakersAreOwn};
 ghost use Rattle.premises.specs.Numbers.{AllHaveWords};
 ghost use Rattle.closed_bridge.specs.Names.{named_facts};
-ghost use Rattle.fold_bridge.specs.Folds.{AreNamed};
+ghost use Rattle.fold_kept.specs.Folds.{AreNamed};
 ghost use Rattle.fold_kept.specs.Kept.{IsKeptFor};
 ghost use Rattle.program_laws.specs.Numbered.{OtherNumberedBodies};
 ghost use Rattle.inline_calls.specs.Asked.{Row};

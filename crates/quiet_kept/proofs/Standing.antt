@@ -67,8 +67,8 @@ use Rattle.cover_law.proofs.Ready.{IsReady}
 use Rattle.cover_law.proofs.Standing.{at_typed, own_form}
 use Rattle.cover_law.proofs.Stays.{Is}
 use Rattle.cover_law.specs.Operators.{operators}
-use Rattle.fold_bridge.proofs.Covered.{covered_calm}
-use Rattle.fold_bridge.proofs.Forms as ran
+use Rattle.fold_kept.proofs.Covered.{covered_calm}
+use Rattle.fold_kept.proofs.Forms as ran
 use Rattle.quiet_methods.specs.Quiet.{IsCode, IsAlone}
 
 -- ---- methods by their numbers

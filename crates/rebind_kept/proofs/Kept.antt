@@ -31,7 +31,7 @@ use Rattle.program_laws.specs.Numbered.{NumberedCodes, OtherNumberedBodies, Othe
 use Rattle.lemmas.proofs.Options.{none_some}
 use Rattle.thin_bridge.specs.Kept.{AnyCode}
 use Rattle.tabled_law.proofs.Apart.{tabled, tabled_apart}
-use Rattle.fold_bridge.specs.Folds.{AreNamed}
+use Rattle.fold_kept.specs.Folds.{AreNamed}
 use Rattle.fold_kept.specs.Kept.{IsKeptFor}
 use Rattle.devirt.specs.Rebound.{IsReboundBy}
 use Rattle.rebind_bridge.specs.Rebound.{ReboundSo}

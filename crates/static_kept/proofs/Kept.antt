@@ -31,7 +31,7 @@ use Rattle.closed_bridge.specs.Names.{named_facts, values}
 use Rattle.closed_bridge.proofs.Closing.{closed_named}
 use Rattle.closed_bridge.proofs.Making.{makers_named}
 use Rattle.tabled_law.proofs.Apart.{tabled, tabled_apart}
-use Rattle.fold_bridge.specs.Folds.{AreNamed}
+use Rattle.fold_kept.specs.Folds.{AreNamed}
 use Rattle.program_laws.specs.Shutting.{ShutsAlike}
 use Rattle.pass_defs.specs.Numbered.{tables_of}
 use Rattle.pass_defs.specs.Typed.{IsTyped}

@@ -22,7 +22,7 @@ ghost use Rattle.closed_facts.specs.Closed.{AreClosed};
 ghost use Rattle.premises.specs.Makers.{MakersAreOwn};
 ghost use Rattle.premises.specs.Numbers.{AllHaveWords};
 ghost use Rattle.closed_bridge.specs.Names.{named_facts};
-ghost use Rattle.fold_bridge.specs.Folds.{AreNamed};
+ghost use Rattle.fold_kept.specs.Folds.{AreNamed};
 ghost use Rattle.static_law.specs.Receiving.{KnowsReceivers};
 ghost use Rattle.static_law.specs.Edited.{loose_in};
 ghost use Rattle.staticise.specs.Loosened.{IsStaticisedBy};

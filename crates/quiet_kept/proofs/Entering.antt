@@ -101,7 +101,7 @@ use Rattle.rebind_law.specs.Receivers.{Renames, finds_listed}
 use Rattle.rebind_law.proofs.ByClass.{received}
 use Rattle.rebind_law.proofs.ByClass as by_class
 use Rattle.rebind_law.proofs.Listed.{listed_virtually}
-use Rattle.rebind_bridge.proofs.Finding.{class_text, own_class, under_named, found_listed}
+use Rattle.rebind_kept.proofs.Finding.{class_text, own_class, under_named, found_listed}
 use Rattle.quiet_methods.specs.Forms.{starts_quietly}
 use Rattle.quiet_methods.specs.Quiet.{is_on, IsCode}
 use Rattle.quiet_code.specs.Calls.{is_constructor, is_called_so, is_quiet_at, is_quiet_target, is_quiet_found, is_quiet_named, is_quiet_for_all, is_quiet_under, is_quiet_virtual, is_no_null, holds_object, has_object, is_idle_call, is_init}

@@ -34,7 +34,7 @@ use Rattle.thin_laws.proofs.Formed.{recoded_formed}
 use Rattle.rewrite_pass.specs.declared.edit.Edit.{Edit}
 use Rattle.rewrite_pass.specs.Plans.{body_edited, code_edited, method_by, class_by, program_by, word, HasEdits, HasPlan}
 use Rattle.devirt.specs.Rebound.{IsRebindingOf, IsRebinding, AreRebindings, AreRebindingsIn, IsReboundBy}
-use Rattle.rebind_bridge.specs.Rebound.{IsReboundBody}
+use Rattle.rebind_kept.specs.Rebound.{IsReboundBody}
 use Rattle.rebind_kept.proofs.Formed.{Stays, same_long, stays_fit, same_cells}
 use Rattle.rebind_kept.proofs.Planned.{pairs_by, rebound_so}
 

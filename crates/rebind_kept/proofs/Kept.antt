@@ -34,8 +34,8 @@ use Rattle.tabled_law.proofs.Apart.{tabled, tabled_apart}
 use Rattle.fold_kept.specs.Folds.{AreNamed}
 use Rattle.fold_kept.specs.Kept.{IsKeptFor}
 use Rattle.devirt.specs.Rebound.{IsReboundBy}
-use Rattle.rebind_bridge.specs.Rebound.{ReboundSo}
-use Rattle.rebind_bridge.proofs.Named.{rebound_shown, rebound_typed}
+use Rattle.rebind_kept.specs.Rebound.{ReboundSo}
+use Rattle.rebind_kept.proofs.Named.{rebound_shown, rebound_typed}
 use Rattle.rebind_kept.proofs.Planned.{rewritten_so}
 use Rattle.rebind_kept.proofs.FormedPrograms.{rebound_formed}
 

@@ -50,9 +50,9 @@ use Rattle.rebind_law.specs.Reasons.{Rebound, ReboundBody, ReboundCode}
 use Rattle.rebind_law.specs.Reasons as reasons
 use Rattle.rebind_law.proofs.ByReasons.{reasons_shown, reasons_typed}
 use Rattle.devirt.specs.Rebound.{IsRebindingOf}
-use Rattle.rebind_bridge.specs.Rebound.{FramesAreNamed, IsReboundBody, ReboundSo, NoCode, Same}
-use Rattle.rebind_bridge.specs.Rebound as by_number
-use Rattle.rebind_bridge.proofs.Calls.{rebound_form}
+use Rattle.rebind_kept.specs.Rebound.{FramesAreNamed, IsReboundBody, ReboundSo, NoCode, Same}
+use Rattle.rebind_kept.specs.Rebound as by_number
+use Rattle.rebind_kept.proofs.Calls.{rebound_form}
 
 contains_at : {A : Type 0} (xs : List A) (n : ℕ) (x : A) → slice_get xs n ≡ Some x → Contains xs x
 contains_at [] n x e = none_some x e

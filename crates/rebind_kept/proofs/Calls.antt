@@ -79,8 +79,8 @@ use Rattle.receivers.specs.Receiving.{interface_at}
 use Rattle.devirt.specs.Binding.{kind_for, is_in_class, receives}
 use Rattle.devirt.specs.Measure.{is_virtual_call}
 use Rattle.devirt.specs.Rebound.{FindsBoth, FindsByFacts, FindsByKind, IsRebindingOf}
-use Rattle.rebind_bridge.specs.Rebound.{StandsAt, FramesAreNamed}
-use Rattle.rebind_bridge.proofs.Finding.{class_text, own_class, under_named, found_listed, found_type}
+use Rattle.rebind_kept.specs.Rebound.{StandsAt, FramesAreNamed}
+use Rattle.rebind_kept.proofs.Finding.{class_text, own_class, under_named, found_listed, found_type}
 
 -- ---- kinds of calls
 

@@ -1,5 +1,5 @@
 use Rattle.rebind_kept.proofs.Kept.{rebound_kept}
-use Rattle.rebind_kept.proofs.laws.rebound_kept_law.Goals as goal
+use Rattle.rebind_kept.proofs.rebind_kept.rebound_kept_law.Goals as goal
 
 pub returns : goal.returns
 returns g = λ p h o live targets facts admitted c w r acyclic typed words own fits marks exact closed names x.

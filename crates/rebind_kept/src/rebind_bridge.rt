@@ -1,4 +1,8 @@
-//! The laws.
+//! What `devirt` leaves of a well-formed and typed program shows the same, is well-formed and typed, and has the same classes and
+//! members but for bodies: what its calls name is what their receivers find by name, by facts that say what facts by name say, or
+//! by the kinds of a typing (receiver_law).
+//!
+//! `specs/Rebound.antt` says what a rebound body is by number, and what facts by number owe to facts by name.
 
 ghost use Rattle.std.specs.Prelude.{◌≡◌, ℕ, Bool, true, Some};
 ghost use Rattle.program_model.specs.ProgramRules.{is_well_formed};
@@ -20,7 +24,7 @@ ghost use Rattle.program_laws.specs.Numbered.{OtherNumberedBodies};
 ghost use Rattle.run_facts.specs.ValueAnalysis.{value_analysis};
 ghost use Rattle.cover_law.specs.Coverable.{IsTabled};
 ghost use Rattle.cover_law.specs.Operators.{operators};
-ghost use Rattle.rebind_bridge.specs.Rebound.{FramesAreNamed, ReboundSo};
+ghost use Rattle.rebind_kept.specs.Rebound.{FramesAreNamed, ReboundSo};
 
 /// A well-formed and typed program, of which no class is its own ancestor, shows the same in which calls name what their receivers
 /// find by facts or by kinds, and it stays typed. Where the facts have a frame at all, they say what facts by name say, which are

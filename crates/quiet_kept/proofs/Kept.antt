@@ -59,8 +59,8 @@ use Rattle.thin_laws.specs.Cleaning.{IsSound}
 use Rattle.fold_kept.specs.Kept.{IsKeptFor}
 use Rattle.fold_kept.proofs.Classes.{super_interface}
 use Rattle.quiet_code.specs.Quieted.{IsQuieted}
-use Rattle.quiet_bridge.specs.Nopped.{QuietedCode}
-use Rattle.quiet_bridge.proofs.Programs.{quieted_others, quieted_formed}
+use Rattle.quiet_kept.specs.Nopped.{QuietedCode}
+use Rattle.quiet_kept.proofs.Programs.{quieted_others, quieted_formed}
 use Rattle.thin_laws.proofs.Dropped.{emptied_shown}
 use Rattle.quiet_kept.specs.Owed.{QuietedKept}
 use Rattle.quiet_kept.proofs.Runs.{quiet, gone, spare, rank, Met, runs_quietly, begins_met}

@@ -10,3 +10,6 @@ pub mod Named
 pub mod Typing
 pub mod Shuts
 pub mod Kept
+pub mod Bodies
+pub mod Formed
+pub mod Programs

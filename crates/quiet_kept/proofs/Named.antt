@@ -35,8 +35,8 @@ use Rattle.quiet_methods.specs.Quiet.{IsCode}
 use Rattle.quiet_code.specs.Idle.{DoesNothing, IsIdle}
 use Rattle.quiet_code.specs.Idle as number
 use Rattle.quiet_code.specs.Quieted.{Frames}
-use Rattle.quiet_bridge.specs.Nopped.{nop_for, body_nopped, QuietedCode, NoCode, Same, Quieted}
-use Rattle.quiet_bridge.proofs.Bodies.{nop_at}
+use Rattle.quiet_kept.specs.Nopped.{nop_for, body_nopped, QuietedCode, NoCode, Same, Quieted}
+use Rattle.quiet_kept.proofs.Bodies.{nop_at}
 use Rattle.thin_laws.specs.Calls.{Gone, IsCallGone, IsSpare, IsEmptied, Empties, SameCode, EmptiedCode}
 use Rattle.thin_laws.specs.Calls as law
 use Rattle.quiet_kept.proofs.Runs.{GoneAt, SpareAt}

@@ -67,7 +67,7 @@ use Rattle.quiet_code.specs.Calls.{is_init, is_constructor, is_quiet_target, is_
 use Rattle.quiet_code.specs.Idle.{DoesNothing, IsIdle, LiveIn, is_division, is_small}
 use Rattle.quiet_code.specs.Idle as number
 use Rattle.quiet_code.specs.Quieted.{Frames}
-use Rattle.quiet_bridge.specs.Nopped.{nop_for, nopped, body_nopped, QuietedCode, NoCode, Same, Quieted}
+use Rattle.quiet_kept.specs.Nopped.{nop_for, nopped, body_nopped, QuietedCode, NoCode, Same, Quieted}
 use Rattle.quiet_kept.proofs.Named.{same_takes}
 use Rattle.quiet_kept.proofs.Veiling.{HidesSo, Vanishes, emptied_typing}
 

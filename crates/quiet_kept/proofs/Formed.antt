@@ -19,8 +19,8 @@ use Rattle.program_model.specs.OperandRules.{registers_fit, numbers_fit}
 use Rattle.program_model.specs.RegionRules.{may_begin, handler_fits, rest_fits, catches, region_fits, are_apart, regions_fit}
 use Rattle.program_model.specs.BodyRules.{ends, may_follow, follows, may_enter, targets_fit, leaves, is_caught, insn_fits, body_fits}
 use Rattle.program_model.specs.Texts.{has_type}
-use Rattle.quiet_bridge.specs.Nopped.{nop_for, nopped, body_nopped}
-use Rattle.quiet_bridge.proofs.Bodies.{nop_at}
+use Rattle.quiet_kept.specs.Nopped.{nop_for, nopped, body_nopped}
+use Rattle.quiet_kept.proofs.Bodies.{nop_at}
 
 -- an instruction goes on, and what stands behind it may stand behind a nop
 pub record Passes (i : Insn) (o : Option Insn) : Type 0 where

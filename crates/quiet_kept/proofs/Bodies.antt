@@ -10,7 +10,7 @@ use Rattle.rewrite_pass.specs.declared.edit.Edit.{Edit}
 use Rattle.rewrite_pass.specs.Plans.{edited, body_edited}
 use Rattle.quiet_code.specs.Quiet.{nop_if}
 use Rattle.quiet_code.specs.Quieted.{nops_upto}
-use Rattle.quiet_bridge.specs.Nopped.{nop_for, nopped, body_nopped}
+use Rattle.quiet_kept.specs.Nopped.{nop_for, nopped, body_nopped}
 
 -- ---- lists
 

@@ -34,9 +34,9 @@ use Rattle.rewrite_pass.specs.declared.edit.Edit.{Edit}
 use Rattle.rewrite_pass.specs.Plans.{body_edited, code_edited, method_by, each_by, class_by, program_by, word, HasEdits, HasPlan, IsPlan, IsRewrittenBy}
 use Rattle.quiet_code.specs.Idle.{takes_result, DoesNothing, IsIdle}
 use Rattle.quiet_code.specs.Quieted.{Frames, AreNops, Nops}
-use Rattle.quiet_bridge.specs.Nopped.{body_nopped, QuietedCode, NoCode, Same, Quieted}
-use Rattle.quiet_bridge.proofs.Bodies.{body_written}
-use Rattle.quiet_bridge.proofs.Formed.{Passes, AllPass, long_kept, body_kept, cells_fall}
+use Rattle.quiet_kept.specs.Nopped.{body_nopped, QuietedCode, NoCode, Same, Quieted}
+use Rattle.quiet_kept.proofs.Bodies.{body_written}
+use Rattle.quiet_kept.proofs.Formed.{Passes, AllPass, long_kept, body_kept, cells_fall}
 
 -- ---- what does nothing is passed
 

@@ -6,3 +6,10 @@ pub mod Looked
 pub mod Tested
 pub mod Kept
 pub mod Stayed
+pub mod Remaking
+pub mod Chosen
+pub mod Moves
+pub mod Places
+pub mod Pieces
+pub mod Bodies
+pub mod Sites

@@ -49,9 +49,9 @@ use Rattle.inline_calls.specs.Edited.{method_by, each_by, class_by, program_by}
 use Rattle.inline_calls.specs.Plans.{nothing_done, edit_of, IsCallerOf, LooksAt, Bare, Barred, Looked, HaveLooked, NoneLooked, OneLooked, LooksAtMethod, LooksInClass, LooksThrough, IsInlined}
 use Rattle.inline_calls.specs.Rooms.{spliced_by, new_of}
 use Rattle.inline_calls.proofs.Chosen.{tried_candidates}
-use Rattle.inline_bridge.specs.Sites.{Calls, Statically, Directly, Holds, HoldsNone, HoldsOne, HoldsTwo, Passed, Plainly, Behind, TakesFrom, NeverNull, receiver_of, IsSite}
-use Rattle.inline_bridge.specs.Sites as by_number
-use Rattle.inline_bridge.proofs.Bodies.{is_code, few_positions}
+use Rattle.inline_kept.specs.Sites.{Calls, Statically, Directly, Holds, HoldsNone, HoldsOne, HoldsTwo, Passed, Plainly, Behind, TakesFrom, NeverNull, receiver_of, IsSite}
+use Rattle.inline_kept.specs.Sites as by_number
+use Rattle.inline_kept.proofs.Bodies.{is_code, few_positions}
 use Rattle.inline_kept.specs.Spliced.{AreSites, SplicesSo, NoCode, Same, Spliced as SplicedCode}
 
 -- ---- a candidate is a site

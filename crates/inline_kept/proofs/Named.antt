@@ -42,12 +42,12 @@ use Rattle.inline_law.proofs.Meets.{inlined_is}
 use Rattle.inline_law.proofs.Programs.{unchanged}
 use Rattle.splice.specs.declared.callee.Callee.{Callee}
 use Rattle.splice.specs.Callees.{chosen_at}
-use Rattle.splice_bridge.specs.Copied.{accepted_by, IsWithin, AreCopied}
-use Rattle.splice_bridge.proofs.Chosen.{among}
-use Rattle.splice_bridge.proofs.Pieces.{spliced_named}
-use Rattle.inline_bridge.specs.Sites.{IsSite, IsSoundSite}
-use Rattle.inline_bridge.proofs.Bodies.{is_code, is_within}
-use Rattle.inline_bridge.proofs.Sites.{found_callee, site_found, copied, sound_site}
+use Rattle.inline_kept.specs.Copied.{accepted_by, IsWithin, AreCopied}
+use Rattle.inline_kept.proofs.Chosen.{among}
+use Rattle.inline_kept.proofs.Pieces.{spliced_named}
+use Rattle.inline_kept.specs.Sites.{IsSite, IsSoundSite}
+use Rattle.inline_kept.proofs.Bodies.{is_code, is_within}
+use Rattle.inline_kept.proofs.Sites.{found_callee, site_found, copied, sound_site}
 use Rattle.inline_kept.specs.Spliced.{AreSites, SplicesSo}
 use Rattle.inline_kept.specs.Spliced as by_number
 

@@ -91,9 +91,9 @@ use Rattle.fold_kept.specs.Folds.{AreNamed, StandsAt}
 use Rattle.fold_kept.proofs.Covered.{one_more, covered_calm}
 use Rattle.splice.specs.declared.callee.Callee.{Callee}
 use Rattle.splice.specs.Moves.{parameters_of}
-use Rattle.inline_bridge.specs.Sites.{Calls, Passed, Behind, NeverNull, receiver_of}
-use Rattle.inline_bridge.specs.Sites as by_number
-use Rattle.inline_bridge.proofs.Sites.{found_callee, statically, flag_same, body_is}
+use Rattle.inline_kept.specs.Sites.{Calls, Passed, Behind, NeverNull, receiver_of}
+use Rattle.inline_kept.specs.Sites as by_number
+use Rattle.inline_kept.proofs.Sites.{found_callee, statically, flag_same, body_is}
 use Rattle.inline_kept.specs.Spliced.{SplicesSo}
 use Rattle.inline_kept.proofs.Named.{contains_at, AtSite, sites, at_a_site}
 

@@ -40,7 +40,7 @@ use Rattle.program_laws.specs.Others.{OtherMethod, OtherClass}
 use Rattle.program_laws.specs.Numbered.{OtherNumberedBodies}
 use Rattle.program_laws.specs.Said.{Said, Quiet, said}
 use Rattle.program_laws.proofs.Changed.{partner, other_holds}
-use Rattle.splice_bridge.specs.Copied.{accepted_by}
+use Rattle.inline_kept.specs.Copied.{accepted_by}
 use Rattle.inline_kept.specs.Spliced.{SplicesSo}
 use Rattle.inline_kept.proofs.Named.{SplicesNamed, NoCode, Same, Spliced, named_others, site_there}
 

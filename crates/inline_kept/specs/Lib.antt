@@ -1,1 +1,3 @@
 pub mod Spliced
+pub mod Copied
+pub mod Sites

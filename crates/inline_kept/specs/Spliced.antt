@@ -13,7 +13,7 @@ use Rattle.dalvik_defs.specs.declared.names.MethodKey.{MethodKey}
 use Rattle.splice.specs.declared.callee.Callee.{Callee}
 use Rattle.splice.specs.Callees.{chosen_at}
 use Rattle.splice.specs.Pieces.{body_spliced}
-use Rattle.inline_bridge.specs.Sites.{IsSite}
+use Rattle.inline_kept.specs.Sites.{IsSite}
 
 -- methods are chosen at sites of a method's code alone, and at one at least
 pub record AreSites (p : Program) (h : Hierarchy) (facts : Facts) (at : MethodAt) (m : Method) (b : Body) (chosen : List (Option Callee)) : Type 0 where

@@ -49,17 +49,17 @@ use Rattle.static_law.specs.Edited.{IsEdited, IsPlanned, loose_in, target_of}
 use Rattle.static_law.proofs.Premises.{described, in_tables, names_described}
 use Rattle.staticise.specs.Judging.{judged}
 use Rattle.staticise.specs.Loosened.{IsLoosenedBy, IsStaticisedBy}
-use Rattle.static_choice.specs.Choice.{IsPlan, given_by}
-use Rattle.static_choice.proofs.Edited.{edited_by}
-use Rattle.static_choice.proofs.Made.{chosen}
-use Rattle.static_choice.proofs.May.{all_may}
-use Rattle.static_choice.proofs.Planned.{free, planned_by}
+use Rattle.static_kept.specs.Choice.{IsPlan, given_by}
+use Rattle.static_kept.proofs.Edited.{edited_by}
+use Rattle.static_kept.proofs.MadeStatic.{chosen}
+use Rattle.static_kept.proofs.May.{all_may}
+use Rattle.static_kept.proofs.Planned.{free, planned_by}
 use Rattle.static_law.proofs.Graph.{still_grounded, still_once, still_whole}
 use Rattle.static_law.proofs.Outers.{outer_same, shuts_alike}
 use Rattle.static_law.proofs.Shuts.{shuts_still}
 use Rattle.static_law.proofs.NumberedWhole.{defines_now, shown_now, typed_now}
-use Rattle.static_facts.specs.Knows.{KnowsNotNull}
-use Rattle.static_facts.proofs.NoNull.{hold_no_null}
+use Rattle.static_kept.specs.Knows.{KnowsNotNull}
+use Rattle.static_kept.proofs.NoNull.{hold_no_null}
 use Rattle.static_kept.specs.Kept.{IsKeptStatic}
 use Rattle.static_kept.proofs.Known.{knows_receivers}
 use Rattle.static_kept.proofs.Virtuals.{virtuals_stay}

@@ -8,3 +8,15 @@ pub mod Owing
 pub mod Passing
 pub mod Staying
 mod Virtuals
+pub mod NoNull
+mod Apart
+mod Calls
+pub mod Coded
+pub mod Edited
+pub mod MadeStatic
+pub mod May
+mod Mentions
+pub mod Own
+pub mod Planned
+pub mod PlanStays
+mod Walks

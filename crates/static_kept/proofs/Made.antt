@@ -27,12 +27,12 @@ use Rattle.staticise.specs.Loosened.{IsLoosenedBy, flags_loosened, marks_loosene
 use Rattle.staticise.proofs.Called.{calls_known, untouched}
 use Rattle.staticise.proofs.Fresh.{fresh}
 use Rattle.staticise.proofs.Made.{all_made}
-use Rattle.static_choice.specs.Choice.{IsPlan, given_by}
-use Rattle.static_choice.specs.Stays.{ClassStaysBut, MethodStaysBut, SameFrame, StaysBut}
-use Rattle.static_choice.proofs.Edited.{edited_by}
-use Rattle.static_choice.proofs.Made.{AreChosen, IsChosen, chosen}
-use Rattle.static_choice.proofs.Planned.{lets, may, picked}
-use Rattle.static_choice.proofs.Staying.{stays_but}
+use Rattle.static_kept.specs.Choice.{IsPlan, given_by}
+use Rattle.static_kept.specs.Stays.{ClassStaysBut, MethodStaysBut, SameFrame, StaysBut}
+use Rattle.static_kept.proofs.Edited.{edited_by}
+use Rattle.static_kept.proofs.MadeStatic.{AreChosen, IsChosen, chosen}
+use Rattle.static_kept.proofs.Planned.{lets, may, picked}
+use Rattle.static_kept.proofs.PlanStays.{stays_but}
 use Rattle.static_kept.specs.Staying.{ClassStaysAlong, HadReceiver, MethodStaysAlong, NameMade, StaysAlong}
 
 -- what staticise's laws say of its plan

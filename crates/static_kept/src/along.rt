@@ -26,7 +26,7 @@ ghost use Rattle.stay_law.specs.Stays.{Stays, StaysInlined};
 ghost use Rattle.staticise.specs.Judging.{judged};
 ghost use Rattle.staticise.specs.Left.{receivers_in};
 ghost use Rattle.staticise.specs.Loosened.{IsLoosenedBy, IsStaticisedBy};
-ghost use Rattle.static_choice.specs.Choice.{IsPlan};
+ghost use Rattle.static_kept.specs.Choice.{IsPlan};
 ghost use Rattle.static_kept.specs.Kept.{IsKeptStatic};
 ghost use Rattle.static_kept.specs.Owed.{IsSound, OwesAlong};
 ghost use Rattle.static_kept.specs.Passing.{Loosens};

@@ -24,7 +24,7 @@ use Rattle.inline_kept.proofs.Stayed.{inlined_stays}
 use Rattle.dex_defs.specs.LaysOut.{LaysOut}
 use Rattle.layout_steps.proofs.Passes.{pass_lies}
 use Rattle.layout_steps.proofs.Inlined.{inlined_lies}
-use Rattle.layout_written.specs.Ascending.{TextsAscend}
+use Rattle.layout_law.specs.Ascending.{TextsAscend}
 use Rattle.headline.specs.Owed.{IsSound, Owes}
 use Rattle.headline.proofs.Keeping.{each_keeps}
 use Rattle.headline.proofs.Owing.{steps_owe}

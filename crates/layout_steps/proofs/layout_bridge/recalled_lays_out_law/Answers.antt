@@ -1,5 +1,5 @@
-use Rattle.layout_bridge.proofs.Recalled.{rebound_lies, quieted_lies}
-use Rattle.layout_bridge.proofs.laws.recalled_lays_out_law.Goals as goal
+use Rattle.layout_steps.proofs.Recalled.{rebound_lies, quieted_lies}
+use Rattle.layout_steps.proofs.layout_bridge.recalled_lays_out_law.Goals as goal
 
 pub returns-clause-rebound : goal.returns-clause-rebound
 returns-clause-rebound c = λ admitted p h facts c r l. rebound_lies p h facts admitted c r l

@@ -1,5 +1,5 @@
 use Rattle.layout_steps.proofs.Loosened.{staticised_lies}
-use Rattle.layout_steps.proofs.laws.staticised_lays_out_law.Goals as goal
+use Rattle.layout_steps.proofs.layout_steps.staticised_lays_out_law.Goals as goal
 
 pub returns : goal.returns
 returns c = staticised_lies

@@ -20,7 +20,7 @@ use Rattle.quiet_code.specs.Quieted.{nops_upto, Nops, IsQuieted}
 use Rattle.dex_defs.specs.LaysOut.{LaysOut}
 use Rattle.layout_law.specs.Shorter.{IsNoLonger, Plain}
 use Rattle.layout_law.proofs.Steps.{few_units}
-use Rattle.layout_bridge.proofs.Written.{Fits, WritesWell, rewritten_lies}
+use Rattle.layout_steps.proofs.Written.{Fits, WritesWell, rewritten_lies}
 
 -- ---- calls
 

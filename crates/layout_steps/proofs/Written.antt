@@ -18,7 +18,7 @@ use Rattle.dex_defs.specs.LaysOut.{LaysOutMethod, LaysOutBody, LaysOut}
 use Rattle.layout_law.specs.Shorter.{IsNoLonger, Same, AreNoLonger}
 use Rattle.layout_law.proofs.Shortened.{shortened}
 use Rattle.layout_law.proofs.Methods.{MethodLies, ClassLies}
-use Rattle.layout_bridge.proofs.Programs.{all_by}
+use Rattle.layout_steps.proofs.Programs.{all_by}
 
 -- instruction by instruction
 pub from_each : (n : ℕ) (fs gs : List Insn) → length gs ≡ length fs → ((k : ℕ) (f g : Insn) → slice_get fs k ≡ Some f → slice_get gs k ≡ Some g → IsNoLonger (n + k) f g) → AreNoLonger n fs gs

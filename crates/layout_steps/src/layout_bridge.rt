@@ -1,4 +1,7 @@
-//! The laws.
+//! Programs lay out still behind each pass: where members go, where positions go, where a constant, a goto or a nop stands for an
+//! instruction, where calls name other methods, where reads read originals, and where registers have other numbers. No instruction
+//! gets longer by any of them, as their contracts say, and no goto comes to lead to itself; so it is the laws of layout_law, body
+//! by body.
 
 ghost use Rattle.std.specs.Prelude.{◌≡◌, ℕ, Bool, true, List};
 ghost use Rattle.program_model.specs.ProgramRules.{is_well_formed};

@@ -34,7 +34,7 @@ use Rattle.dex_defs.specs.LaysOut.{LaysOut}
 use Rattle.layout_law.specs.Shorter.{condition_of, is_goto, least_units, IsNoLonger, Plain, Taken, Switched}
 use Rattle.layout_law.proofs.Steps.{few_units}
 use Rattle.layout_law.proofs.Methods.{contained}
-use Rattle.layout_bridge.proofs.Written.{Fits, WritesWell, rewritten_lies}
+use Rattle.layout_steps.proofs.Written.{Fits, WritesWell, rewritten_lies}
 
 -- ---- what may stand for an instruction
 

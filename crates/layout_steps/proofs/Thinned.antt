@@ -20,7 +20,7 @@ use Rattle.thin_bridge.proofs.Chosen.{long}
 use Rattle.dex_defs.specs.LaysOut.{LaysOutMethod, LaysOutBody, LaysOut}
 use Rattle.layout_law.proofs.Thinned.{thinned_lays_out}
 use Rattle.layout_law.proofs.Methods.{MethodLies, ClassLies}
-use Rattle.layout_bridge.proofs.Circles.{none_circles}
+use Rattle.layout_steps.proofs.Circles.{none_circles}
 
 -- what fates leave of a method's code
 abbrev code_left : List Fate → Option Body → Option Body

@@ -1,4 +1,7 @@
-//! The laws.
+//! A program lays out still behind each pass of the rounds, with calls inlined before them, and without its silent calls. What
+//! `pipeline` says of a pass is what the laws of layout_bridge ask; calls of methods made static pass the same registers, and
+//! nothing else of a body changes; and a new body with inlined calls is put in place only where it lays out in few units with room
+//! for its lists of handlers, as the pass tests it, and has as many regions as before.
 
 ghost use Rattle.std.specs.Prelude.{◌≡◌, ℕ, Bool, true, List};
 ghost use Rattle.program_model.specs.ProgramRules.{is_well_formed};

@@ -1,5 +1,5 @@
-use Rattle.layout_bridge.proofs.Renamed.{propagated_lies, compacted_lies}
-use Rattle.layout_bridge.proofs.laws.renamed_lays_out_law.Goals as goal
+use Rattle.layout_steps.proofs.Renamed.{propagated_lies, compacted_lies}
+use Rattle.layout_steps.proofs.layout_bridge.renamed_lays_out_law.Goals as goal
 
 pub returns-clause-propagated : goal.returns-clause-propagated
 returns-clause-propagated c = propagated_lies

@@ -22,7 +22,7 @@ use Rattle.dex_defs.specs.LaysOut.{LaysOutMethod, LaysOutBody, LaysOut}
 use Rattle.layout_law.specs.Shorter.{IsNoLonger, Same, Plain, Branch, AreNoLonger}
 use Rattle.layout_law.proofs.Shortened.{shortened}
 use Rattle.layout_law.proofs.Methods.{MethodLies, ClassLies, all_beside}
-use Rattle.layout_bridge.proofs.Written.{from_all}
+use Rattle.layout_steps.proofs.Written.{from_all}
 
 -- one instruction
 renamed_insn : (r w : ℕ → ℕ) (n : ℕ) (f : Insn) → units_of (remade r w f) (pos 0) ≤ units_of f (pos 0) → IsNoLonger n f (remade r w f)

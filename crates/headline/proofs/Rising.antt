@@ -27,10 +27,10 @@ use Rattle.written_formed.specs.Rising.{FieldsAscend}
 use Rattle.written_formed.proofs.Rising.{written_formed}
 use Rattle.staticise.specs.Loosened.{marks_loosened}
 use Rattle.static_kept.specs.Staying.{MethodStaysAlongBy, ClassStaysAlongBy, StaysAlongBy}
-use Rattle.written_tables.proofs.Fit.{Parts, parts_of, class_at_fits}
-use Rattle.written_tables.proofs.In.{all_in, in_got}
-use Rattle.written_order.specs.Rises.{MarksLow, ClassLow, NamesRise}
-use Rattle.written_sets.proofs.Low.{class_low}
+use Rattle.written_file.proofs.Fit.{Parts, parts_of, class_at_fits}
+use Rattle.written_file.proofs.In.{all_in, in_got}
+use Rattle.written_file.specs.Rises.{MarksLow, ClassLow, NamesRise}
+use Rattle.written_file.proofs.Low.{class_low}
 use Rattle.written_spelled.proofs.Whole.{written_is_valid}
 use Rattle.written_shown.proofs.Written.{written_shows, written_typed}
 use Rattle.class_defs.specs.ClassGraph.{IsTwice, IsAncestor}

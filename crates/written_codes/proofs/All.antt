@@ -65,14 +65,14 @@ use Rattle.write_laws.proofs.Coded.{plans_fit}
 use Rattle.write_laws.proofs.Whole.{file_lies}
 use Rattle.write_laws.proofs.Tabled.{AreShort, short_of, is_short}
 use Rattle.write_laws.proofs.Ordering.{orders_in}
-use Rattle.written_tables.proofs.Fit.{Parts, parts_of as well_formed_parts, FitsClass, class_at_fits}
-use Rattle.written_order.proofs.Grouped.{Spot}
-use Rattle.written_order.proofs.Order.{order_is}
-use Rattle.written_order.proofs.Plans.{classes_written}
-use Rattle.written_parts.specs.Parts.{code_parts, class_parts, first_values, offsets_of, parts_of_file}
-use Rattle.written_parts.proofs.Members.{method_or, method_at}
-use Rattle.written_parts.proofs.KindFields.{HasPlan, all_planned}
-use Rattle.written_sets.proofs.Standing.{Stands, all_stand, stands_few, both_split}
+use Rattle.written_file.proofs.Fit.{Parts, parts_of as well_formed_parts, FitsClass, class_at_fits}
+use Rattle.written_file.proofs.Grouped.{Spot}
+use Rattle.written_file.proofs.Order.{order_is}
+use Rattle.written_file.proofs.Plans.{classes_written}
+use Rattle.written_file.specs.Parts.{code_parts, class_parts, first_values, offsets_of, parts_of_file}
+use Rattle.written_file.proofs.Members.{method_or, method_at}
+use Rattle.written_file.proofs.KindFields.{HasPlan, all_planned}
+use Rattle.written_file.proofs.Standing.{Stands, all_stand, stands_few, both_split}
 use Rattle.widths.specs.Code.{WideCode}
 use Rattle.written_code.specs.Widths.{HasWideCode}
 use Rattle.written_code.proofs.Forms.{Renamed}

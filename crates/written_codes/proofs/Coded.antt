@@ -14,13 +14,13 @@ use Rattle.dex_defs.specs.ClassDefs.{IsClass}
 use Rattle.dex_defs.specs.Spells.{sizes_in}
 use Rattle.dex_defs.specs.Valid.{AreCodes, classes_at, methods_of}
 use Rattle.write_laws.specs.Kinds.{IsValidFile}
-use Rattle.written_tables.specs.Widths.{HasWidths}
-use Rattle.written_tables.proofs.Stated.{tables_fit}
-use Rattle.written_order.specs.Rises.{NamesRise}
-use Rattle.written_values.specs.Wide.{HasWideValues}
+use Rattle.written_file.specs.Widths.{HasWidths}
+use Rattle.written_file.proofs.Stated.{tables_fit}
+use Rattle.written_file.specs.Rises.{NamesRise}
+use Rattle.written_file.specs.Wide.{HasWideValues}
 use Rattle.written_code.specs.Widths.{HasWideCode}
-use Rattle.written_parts.specs.Parts.{parts_of_file}
-use Rattle.written_classes.proofs.Whole.{whole}
+use Rattle.written_file.specs.Parts.{parts_of_file}
+use Rattle.written_file.proofs.Whole.{whole}
 use Rattle.written_codes.proofs.All.{codes_stand}
 
 pub codes : (p : Program) (bytes : List ℕ) (w : writer.IsWritten p bytes) → is_well_formed p ≡ true → ((class : ℕ) → IsTwice p class → ⊥) → ((class : ℕ) → IsAncestor p class class → ⊥) → HasWidths p → HasWideCode p → LaysOut (written_by w.interner p) → length bytes < 2 ^ 32

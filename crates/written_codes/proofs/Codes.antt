@@ -42,7 +42,7 @@ use Rattle.names_law.specs.Used.{IsUsed, IsShort}
 use Rattle.write_laws.specs.Placing.{item_text}
 use Rattle.write_laws.proofs.Here.{here_same}
 use Rattle.write_laws.proofs.Coded.{item_long}
-use Rattle.written_sets.proofs.Standing.{Stands, Unplaced, Placed}
+use Rattle.written_file.proofs.Standing.{Stands, Unplaced, Placed}
 use Rattle.widths.specs.Code.{WideCode}
 use Rattle.written_code.proofs.Forms.{Renamed}
 use Rattle.written_code.proofs.Least.{AllSome, start_less}

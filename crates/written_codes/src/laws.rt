@@ -14,11 +14,11 @@ ghost use Rattle.dex_defs.specs.ClassDefs.{IsClass};
 ghost use Rattle.dex_defs.specs.Spells.{sizes_in};
 ghost use Rattle.dex_defs.specs.Valid.{AreCodes, classes_at, methods_of};
 ghost use Rattle.write_laws.specs.Kinds.{IsValidFile};
-ghost use Rattle.written_tables.specs.Widths.{HasWidths};
-ghost use Rattle.written_order.specs.Rises.{NamesRise};
-ghost use Rattle.written_values.specs.Wide.{HasWideValues};
+ghost use Rattle.written_file.specs.Widths.{HasWidths};
+ghost use Rattle.written_file.specs.Rises.{NamesRise};
+ghost use Rattle.written_file.specs.Wide.{HasWideValues};
 ghost use Rattle.written_code.specs.Widths.{HasWideCode};
-ghost use Rattle.written_parts.specs.Parts.{parts_of_file};
+ghost use Rattle.written_file.specs.Parts.{parts_of_file};
 
 /// Each code item of what is written for a well-formed program, whose written program lays out, stands where class data says, in
 /// the text that a file has there.

@@ -17,9 +17,9 @@ use Rattle.dex_defs.specs.Written.{insert, in_order, one_entry, entries}
 use Rattle.names_law.proofs.Ascending.{is_at}
 use Rattle.names_law.proofs.Marking.{all_left, all_right}
 use Rattle.names_law.proofs.Reordered.{ordered}
-use Rattle.written_tables.proofs.In.{In}
-use Rattle.written_order.proofs.Places.{has, below_tells}
-use Rattle.written_order.proofs.Sorting.{Differ, Once, once_of, differ_of}
+use Rattle.written_file.proofs.In.{In}
+use Rattle.written_file.proofs.Places.{has, below_tells}
+use Rattle.written_file.proofs.Sorting.{Differ, Once, once_of, differ_of}
 
 -- ---- entries
 

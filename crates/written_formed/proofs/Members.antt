@@ -41,10 +41,10 @@ use Rattle.dex_defs.specs.Written.{in_order, new_string, new_type, new_proto, ne
 use Rattle.names_law.specs.Used.{IsUsed, IsShort, IsClosed}
 use Rattle.names_law.proofs.Closed.{used_closed}
 use Rattle.names_law.proofs.Marking.{all_left, all_right}
-use Rattle.written_tables.proofs.In.{In, in_flat, all_in, all_of}
-use Rattle.written_tables.proofs.Naming.{value_named}
-use Rattle.written_order.proofs.Sorting.{Differ, news_differ}
-use Rattle.written_sets.proofs.News.{new_open, newly}
+use Rattle.written_file.proofs.In.{In, in_flat, all_in, all_of}
+use Rattle.written_file.proofs.Naming.{value_named}
+use Rattle.written_file.proofs.Sorting.{Differ, news_differ}
+use Rattle.written_file.proofs.News.{new_open, newly}
 use Rattle.written_formed.proofs.Kept.{string_kept, type_kept, field_got, method_got, proto_got, string_same, type_same, letter_same, one_field, one_method}
 use Rattle.written_formed.proofs.Lists.{order_all, order_tests, order_ascends, ascends_side, groups_total, differ_ordered, differ_all, all_named, all_map}
 use Rattle.written_formed.proofs.Values.{tests_in, marks_now}

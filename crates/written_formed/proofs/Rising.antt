@@ -30,9 +30,9 @@ use Rattle.names_law.specs.Used.{IsUsed, IsShort, IsClosed, UsesField}
 use Rattle.names_law.proofs.Closed.{used_closed}
 use Rattle.names_law.proofs.Rising.{all_ascend}
 use Rattle.write_laws.proofs.Tabled.{short_of, is_short}
-use Rattle.written_tables.proofs.Fit.{Parts, parts_of}
-use Rattle.written_tables.proofs.In.{in_got, all_in}
-use Rattle.written_order.proofs.Places.{below_tells}
+use Rattle.written_file.proofs.Fit.{Parts, parts_of}
+use Rattle.written_file.proofs.In.{in_got, all_in}
+use Rattle.written_file.proofs.Places.{below_tells}
 use Rattle.written_formed.specs.Rising.{FieldsRise, FieldsAscend}
 use Rattle.class_defs.specs.ClassGraph.{IsTwice, IsAncestor}
 use Rattle.dex_write.specs.Order.{IsOrder}

@@ -27,7 +27,7 @@ use Rattle.names_law.proofs.Owning.{order_set, no_longer}
 use Rattle.names_law.proofs.Ascending.{once}
 use Rattle.names_law.proofs.Rising.{all_ascend}
 use Rattle.read_laws.proofs.Differing.{texts_differ, types_differ, protos_differ, fields_differ, methods_differ}
-use Rattle.written_tables.proofs.In.{all_in}
+use Rattle.written_file.proofs.In.{all_in}
 use Rattle.written_formed.proofs.Kept.{Has, string_kept, type_kept, proto_kept, string_same, letter_same}
 use Rattle.written_formed.proofs.Lists.{entries_all, entries_most}
 

@@ -30,11 +30,11 @@ use Rattle.program_model.specs.ValueRules.{element_fits, named_in_order, note_fi
 use Rattle.dex_defs.specs.Written.{in_order, new_string, new_type, new_layer, new_element, new_note, new_value, new_mark, new_marks, written_by}
 use Rattle.names_law.specs.Used.{IsUsed, IsShort}
 use Rattle.names_law.proofs.Reordered.{ordered}
-use Rattle.written_tables.proofs.In.{In, in_left, in_right, in_flat, in_joined, all_in}
-use Rattle.written_tables.proofs.Naming.{element_named, value_named, note_named, element_of, note_of, element_is, note_is}
-use Rattle.written_order.proofs.Sorting.{Differ}
-use Rattle.written_sets.proofs.News.{new_open, newly}
-use Rattle.written_sets.proofs.Marks.{class_of, class_named}
+use Rattle.written_file.proofs.In.{In, in_left, in_right, in_flat, in_joined, all_in}
+use Rattle.written_file.proofs.Naming.{element_named, value_named, note_named, element_of, note_of, element_is, note_is}
+use Rattle.written_file.proofs.Sorting.{Differ}
+use Rattle.written_file.proofs.News.{new_open, newly}
+use Rattle.written_file.proofs.Marks.{class_of, class_named}
 use Rattle.written_formed.proofs.Kept.{string_kept, type_kept, field_kept, method_kept, one_text, one_kind}
 use Rattle.written_formed.proofs.Lists.{order_tests, order_ascends, ascends_side, side_ascends, numbers_total, rising_differ, sum_map, sum_same, sum_ordered, all_named}
 

@@ -36,14 +36,14 @@ use Rattle.names_law.proofs.Ascending.{once}
 use Rattle.names_law.proofs.Carried.{entries_long}
 use Rattle.names_law.proofs.Marking.{all_left}
 use Rattle.write_laws.proofs.Tabled.{short_of, is_short}
-use Rattle.written_tables.proofs.Fit.{Parts, parts_of, FitsClass, class_at_fits}
-use Rattle.written_tables.proofs.In.{In, Place, place_in, in_left, in_right, in_flat, all_of}
-use Rattle.written_order.specs.Behind.{AllBehind}
-use Rattle.written_order.proofs.Few.{differ_few}
-use Rattle.written_order.proofs.Order.{has_append, order_is, order_behind}
-use Rattle.written_order.proofs.Places.{has}
-use Rattle.written_order.proofs.Plans.{behind_inside, class_used, named_name}
-use Rattle.written_order.proofs.Sorting.{Differ, once_of}
+use Rattle.written_file.proofs.Fit.{Parts, parts_of, FitsClass, class_at_fits}
+use Rattle.written_file.proofs.In.{In, Place, place_in, in_left, in_right, in_flat, all_of}
+use Rattle.written_file.specs.Behind.{AllBehind}
+use Rattle.written_file.proofs.Few.{differ_few}
+use Rattle.written_file.proofs.Order.{has_append, order_is, order_behind}
+use Rattle.written_file.proofs.Places.{has}
+use Rattle.written_file.proofs.Plans.{behind_inside, class_used, named_name}
+use Rattle.written_file.proofs.Sorting.{Differ, once_of}
 use Rattle.written_formed.specs.Rising.{FieldsRise}
 use Rattle.written_formed.proofs.Kept.{one_kind}
 use Rattle.written_formed.proofs.Lists.{entries_all, entries_most, ordered_stays, side_ascends, sum_map, sum_same, sum_ordered}

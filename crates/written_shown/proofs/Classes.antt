@@ -46,8 +46,8 @@ use Rattle.removal_law.proofs.Lists.{clash, and_left, and_behind}
 use Rattle.removal_law.proofs.Members.{signature_sound}
 use Rattle.removal_law.proofs.Walks.{text_same}
 use Rattle.copy_kept.specs.Unique.{IsUnique}
-use Rattle.written_tables.proofs.In.{In, in_map, in_order_has, in_got, Place, place_in, all_in}
-use Rattle.written_tables.proofs.Fit.{FitsClass}
+use Rattle.written_file.proofs.In.{In, in_map, in_order_has, in_got, Place, place_in, all_in}
+use Rattle.written_file.proofs.Fit.{FitsClass}
 use Rattle.written_shown.proofs.Alike.{bare_method, bare_field, of_proto, AlikeClass}
 use Rattle.written_shown.proofs.Twins.{stands, Image, image, in_order_only, Twin, find_alike, any_alike, finds, is_there}
 

@@ -11,12 +11,12 @@ use Rattle.removal_law.specs.Left as left
 use Rattle.removal_law.proofs.Lists.{clash, found_in}
 use Rattle.removal_law.proofs.Outward.{any_here, any_where}
 use Rattle.program_laws.proofs.Founds.{is_found}
-use Rattle.written_tables.proofs.In.{In, in_map, Source, in_source, in_flat, in_got, has_in}
-use Rattle.written_order.specs.Behind.{AllBehind}
-use Rattle.written_order.proofs.Order.{has_append}
-use Rattle.written_order.proofs.Plans.{behind_inside}
-use Rattle.written_order.proofs.Sorting.{Differ}
-use Rattle.written_order.proofs.Few.{differ_few}
+use Rattle.written_file.proofs.In.{In, in_map, Source, in_source, in_flat, in_got, has_in}
+use Rattle.written_file.specs.Behind.{AllBehind}
+use Rattle.written_file.proofs.Order.{has_append}
+use Rattle.written_file.proofs.Plans.{behind_inside}
+use Rattle.written_file.proofs.Sorting.{Differ}
+use Rattle.written_file.proofs.Few.{differ_few}
 
 -- ---- what stands in a list
 

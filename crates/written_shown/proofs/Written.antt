@@ -39,11 +39,11 @@ use Rattle.removal_law.proofs.Walks.{text_same}
 use Rattle.removal_bridge.proofs.Formed.{apart_program}
 use Rattle.copy_kept.specs.Unique.{IsUnique}
 use Rattle.copy_kept.proofs.Unique.{unique_named}
-use Rattle.written_tables.proofs.In.{In, in_map, Place, place_in, in_contains, all_in}
-use Rattle.written_tables.proofs.Fit.{Parts, parts_of, FitsClass, class_at_fits}
-use Rattle.written_order.specs.Behind.{AllBehind}
-use Rattle.written_order.proofs.Order.{order_is, order_behind, order_every}
-use Rattle.written_order.proofs.Plans.{behind_inside}
+use Rattle.written_file.proofs.In.{In, in_map, Place, place_in, in_contains, all_in}
+use Rattle.written_file.proofs.Fit.{Parts, parts_of, FitsClass, class_at_fits}
+use Rattle.written_file.specs.Behind.{AllBehind}
+use Rattle.written_file.proofs.Order.{order_is, order_behind, order_every}
+use Rattle.written_file.proofs.Plans.{behind_inside}
 use Rattle.written_shown.proofs.Alike.{AlikeClass, AlikeOption, LooksAlike}
 use Rattle.written_shown.proofs.Looks.{alike_shows}
 use Rattle.written_shown.proofs.Typings.{KindsAlike, kinds_alike, typing_moved}

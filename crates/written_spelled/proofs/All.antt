@@ -24,10 +24,10 @@ use Rattle.dex_defs.specs.Spells.{sizes_in}
 use Rattle.dex_defs.specs.Valid.{ClassPart, classes_at, methods_of, ref_offsets, NamesAll}
 use Rattle.dex_defs.specs.Written.{new_marks, written_method, written_class, written_by}
 use Rattle.names_law.specs.Used.{IsShort}
-use Rattle.written_tables.proofs.Fit.{FitsClass}
-use Rattle.written_parts.specs.Parts.{class_part, class_parts}
-use Rattle.written_parts.proofs.Members.{field_at, method_at}
-use Rattle.written_parts.proofs.KindFields.{HasPlan}
+use Rattle.written_file.proofs.Fit.{FitsClass}
+use Rattle.written_file.specs.Parts.{class_part, class_parts}
+use Rattle.written_file.proofs.Members.{field_at, method_at}
+use Rattle.written_file.proofs.KindFields.{HasPlan}
 use Rattle.written_spelled.proofs.Apart.{HasSets}
 use Rattle.written_spelled.proofs.Class.{class_spelled}
 use Rattle.written_spelled.proofs.Known.{facts_of}

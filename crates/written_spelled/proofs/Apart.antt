@@ -19,11 +19,11 @@ use Rattle.dex_defs.specs.ClassData.{Entry}
 use Rattle.dex_defs.specs.Valid.{ClassPart, set_offsets, methods_of, fields_of}
 use Rattle.dex_defs.specs.Written.{new_marks, written_method}
 use Rattle.write_laws.proofs.Fitting.{plan_long}
-use Rattle.written_parts.specs.Parts.{found_sets, class_part, class_parts}
-use Rattle.written_parts.proofs.Members.{method_or, method_at}
-use Rattle.written_parts.proofs.Pairs.{field_entries, method_entries_are}
-use Rattle.written_sets.proofs.Standing.{both_split}
-use Rattle.written_classes.proofs.ClassTable.{plan_refs}
+use Rattle.written_file.specs.Parts.{found_sets, class_part, class_parts}
+use Rattle.written_file.proofs.Members.{method_or, method_at}
+use Rattle.written_file.proofs.Pairs.{field_entries, method_entries_are}
+use Rattle.written_file.proofs.Standing.{both_split}
+use Rattle.written_file.proofs.ClassTable.{plan_refs}
 
 -- the set of these annotations in new numbers stands there
 abbrev pub IsNewSet : List ℕ → TableSizes → Renumber → ℕ → List Mark → Type 0

@@ -27,11 +27,11 @@ use Rattle.dex_defs.specs.Spells.{sizes_in}
 use Rattle.dex_defs.specs.Valid.{ClassPart, methods_of, fields_of}
 use Rattle.dex_defs.specs.Written.{new_string, new_type, new_method, new_marks, written_field, written_method, written_class}
 use Rattle.write_laws.specs.Listing.{field_entry, method_entries}
-use Rattle.written_order.proofs.Grouped.{Spot}
-use Rattle.written_parts.specs.Parts.{class_part}
-use Rattle.written_parts.proofs.Members.{field_at, method_at}
-use Rattle.written_parts.proofs.Pairs.{HasOwn, pairs_from, fields_paired, methods_paired, field_entries, method_entries_are}
-use Rattle.written_sets.proofs.Standing.{both_split}
+use Rattle.written_file.proofs.Grouped.{Spot}
+use Rattle.written_file.specs.Parts.{class_part}
+use Rattle.written_file.proofs.Members.{field_at, method_at}
+use Rattle.written_file.proofs.Pairs.{HasOwn, pairs_from, fields_paired, methods_paired, field_entries, method_entries_are}
+use Rattle.written_file.proofs.Standing.{both_split}
 use Rattle.written_spelled.proofs.Apart.{IsNewSet, HasSets}
 use Rattle.written_spelled.proofs.Members.{fields_are, fields_grouped, methods_are, methods_grouped}
 use Rattle.written_spelled.proofs.Pairing.{pairs_rise, pairs_defined}

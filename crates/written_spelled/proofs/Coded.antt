@@ -28,8 +28,8 @@ use Rattle.write_laws.specs.Listing.{method_entries}
 use Rattle.write_laws.specs.Placing.{item_text, item_texts, code_offsets, line_offsets}
 use Rattle.write_laws.proofs.Coded.{item_long}
 use Rattle.written_code.proofs.Forms.{Renamed}
-use Rattle.written_parts.proofs.Members.{method_or, method_at}
-use Rattle.written_sets.proofs.Standing.{Stands, Unplaced, Placed, stands_few}
+use Rattle.written_file.proofs.Members.{method_or, method_at}
+use Rattle.written_file.proofs.Standing.{Stands, Unplaced, Placed, stands_few}
 use Rattle.written_spelled.proofs.ReadLines.{none_fit, code_back}
 use Rattle.written_codes.proofs.Fitting.{FewEntries, none_far}
 use Rattle.written_codes.proofs.Codes.{FitMethod, method_part}

@@ -23,7 +23,7 @@ use Rattle.dex_write.specs.Plans.{Numbered}
 use Rattle.dex_write.specs.Data.{has_first, first_count, zero_of, value_or}
 use Rattle.dex_defs.specs.Values.{suits, tag_of, is_of, layer_is_zero, first_of, letter_of_field, AreFirsts}
 use Rattle.dex_defs.specs.Written.{new_value}
-use Rattle.written_sets.proofs.News.{new_open, newly}
+use Rattle.written_file.proofs.News.{new_open, newly}
 
 -- ---- one value
 

@@ -25,11 +25,11 @@ use Rattle.dex_defs.specs.Written.{new_type, written_class, written_by}
 use Rattle.names_law.specs.Used.{IsShort}
 use Rattle.write_laws.specs.Fits.{Halved, FitsList}
 use Rattle.write_laws.proofs.Pools.{leads_spelled}
-use Rattle.written_tables.proofs.Fit.{FitsClass}
-use Rattle.written_tables.proofs.In.{In, in_left}
-use Rattle.written_order.proofs.Plans.{class_used}
-use Rattle.written_parts.specs.Parts.{class_parts}
-use Rattle.written_parts.proofs.KindFields.{HasPlan}
+use Rattle.written_file.proofs.Fit.{FitsClass}
+use Rattle.written_file.proofs.In.{In, in_left}
+use Rattle.written_file.proofs.Plans.{class_used}
+use Rattle.written_file.specs.Parts.{class_parts}
+use Rattle.written_file.proofs.KindFields.{HasPlan}
 use Rattle.written_codes.proofs.Fitting.{sum_in}
 use Rattle.written_spelled.proofs.Known.{kind_low}
 

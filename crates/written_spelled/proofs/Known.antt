@@ -34,12 +34,12 @@ use Rattle.names_law.proofs.Ranges.{ranges_kept}
 use Rattle.names_law.proofs.Carried.{carried}
 use Rattle.write_laws.specs.Fits.{OrdersIn}
 use Rattle.write_laws.proofs.Ordering.{orders_in}
-use Rattle.written_tables.proofs.Fit.{FitsClass}
-use Rattle.written_tables.proofs.In.{In, in_left, in_right, in_got}
-use Rattle.written_order.proofs.Grouped.{Spot}
-use Rattle.written_order.proofs.Plans.{class_used}
-use Rattle.written_parts.proofs.Members.{field_or, field_at, method_or, method_at, method_used}
-use Rattle.written_parts.proofs.KindFields.{HasPlan}
+use Rattle.written_file.proofs.Fit.{FitsClass}
+use Rattle.written_file.proofs.In.{In, in_left, in_right, in_got}
+use Rattle.written_file.proofs.Grouped.{Spot}
+use Rattle.written_file.proofs.Plans.{class_used}
+use Rattle.written_file.proofs.Members.{field_or, field_at, method_or, method_at, method_used}
+use Rattle.written_file.proofs.KindFields.{HasPlan}
 use Rattle.written_spelled.proofs.Class.{Facts}
 
 -- ---- texts

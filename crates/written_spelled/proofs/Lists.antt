@@ -14,7 +14,7 @@ use Rattle.dex_defs.specs.Texts.{offsets_text}
 use Rattle.dex_defs.specs.Written.{new_marks}
 use Rattle.write_laws.proofs.Here.{here_same}
 use Rattle.write_laws.proofs.Numbers.{Few, same_words, words_length, here_words}
-use Rattle.written_sets.proofs.Standing.{Stands, Unplaced, Placed}
+use Rattle.written_file.proofs.Standing.{Stands, Unplaced, Placed}
 use Rattle.written_spelled.proofs.Apart.{IsNewSet}
 
 -- ---- numbers of 32 bits

@@ -20,8 +20,8 @@ use Rattle.dex_defs.specs.Arranged.{Both}
 use Rattle.dex_defs.specs.ClassDefs.{AreFields, AreMethods, HasCode}
 use Rattle.dex_defs.specs.Written.{new_method, new_marks, written_field, written_method}
 use Rattle.write_laws.specs.Listing.{field_entry, method_entries}
-use Rattle.written_order.proofs.Grouped.{Spot}
-use Rattle.written_parts.proofs.Members.{field_or, field_at, method_or, method_at}
+use Rattle.written_file.proofs.Grouped.{Spot}
+use Rattle.written_file.proofs.Members.{field_or, field_at, method_or, method_at}
 use Rattle.written_spelled.proofs.Apart.{IsNewSet}
 
 -- ---- fields

@@ -12,9 +12,9 @@ use Rattle.dex_write.specs.Sets.{pair_list}
 use Rattle.dex_defs.specs.Annotations.{pair_below}
 use Rattle.dex_defs.specs.ClassData.{Entry}
 use Rattle.dex_defs.specs.ClassDefs.{IsDefined}
-use Rattle.written_order.proofs.Places.{has}
-use Rattle.written_order.proofs.Sorting.{Differ, order_all}
-use Rattle.written_parts.proofs.Pairs.{pairs_from}
+use Rattle.written_file.proofs.Places.{has}
+use Rattle.written_file.proofs.Sorting.{Differ, order_all}
+use Rattle.written_file.proofs.Pairs.{pairs_from}
 
 -- ---- in order
 

@@ -20,7 +20,7 @@ use Rattle.dex_defs.specs.DebugItems.{lines_of}
 use Rattle.dex_defs.specs.Texts.{lines_text}
 use Rattle.dex_defs.specs.Valid.{CodePart, IsSomeCode, parameters_of}
 use Rattle.file_laws.proofs.Lines.{founds_lines}
-use Rattle.written_sets.proofs.Standing.{Stands, Unplaced, Placed}
+use Rattle.written_file.proofs.Standing.{Stands, Unplaced, Placed}
 use Rattle.written_spelled.proofs.Rising.{starts_rise, starts_many}
 
 pick_else : {X : Type 0} (b : Bool) (x y : X) → b ≡ false → (if b then x else y) ≡ y

@@ -28,12 +28,12 @@ use Rattle.names_law.specs.Used.{IsShort}
 use Rattle.write_laws.specs.Fits.{FitsProto, TablesFit}
 use Rattle.write_laws.specs.Listing.{method_entries}
 use Rattle.write_laws.specs.Placing.{item_texts, code_offsets, line_offsets}
-use Rattle.written_tables.proofs.Fit.{Parts, FitsClass}
+use Rattle.written_file.proofs.Fit.{Parts, FitsClass}
 use Rattle.written_code.specs.Widths.{HasWideCode}
-use Rattle.written_parts.specs.Parts.{class_parts}
-use Rattle.written_parts.proofs.Members.{method_at}
-use Rattle.written_parts.proofs.KindFields.{HasPlan}
-use Rattle.written_sets.proofs.Standing.{Stands, both_split}
+use Rattle.written_file.specs.Parts.{class_parts}
+use Rattle.written_file.proofs.Members.{method_at}
+use Rattle.written_file.proofs.KindFields.{HasPlan}
+use Rattle.written_file.proofs.Standing.{Stands, both_split}
 use Rattle.written_codes.proofs.Fitting.{FewEntries}
 use Rattle.written_codes.proofs.All.{Cells, GoodMethod, methods_are, offsets_append, texts_append, lines_append, map_append, many_codes, many_lines, spots_all, all_both, good_all}
 use Rattle.written_spelled.proofs.All.{HasCodes}

@@ -16,9 +16,9 @@ use Rattle.dex_defs.specs.Spells.{sizes_in}
 use Rattle.dex_defs.specs.Texts.{offsets_text}
 use Rattle.dex_defs.specs.Valid.{ClassPart, methods_of, fields_of, ref_offsets, set_offsets}
 use Rattle.write_laws.proofs.Numbers.{Few}
-use Rattle.written_parts.specs.Parts.{split_by, class_part, class_parts}
-use Rattle.written_parts.proofs.Pairs.{method_entries_are}
-use Rattle.written_sets.proofs.Standing.{Stands, both_split}
+use Rattle.written_file.specs.Parts.{split_by, class_part, class_parts}
+use Rattle.written_file.proofs.Pairs.{method_entries_are}
+use Rattle.written_file.proofs.Standing.{Stands, both_split}
 use Rattle.written_spelled.proofs.Apart.{HasSets}
 use Rattle.written_spelled.proofs.Lists.{few_left, few_right, lists_stand}
 use Rattle.written_spelled.proofs.All.{HasLists}

@@ -26,12 +26,12 @@ use Rattle.dex_defs.specs.Arranged.{Both}
 use Rattle.dex_defs.specs.Values.{is_of, letter_of_field, first_of, AreFirsts}
 use Rattle.dex_defs.specs.Written.{new_value, written_field, written_by}
 use Rattle.names_law.specs.Used.{IsShort}
-use Rattle.written_tables.proofs.Fit.{FitsClass}
-use Rattle.written_tables.proofs.In.{in_got}
-use Rattle.written_order.proofs.Grouped.{Spot}
-use Rattle.written_parts.specs.Parts.{one_value, first_values, class_parts}
-use Rattle.written_parts.proofs.Members.{field_or, field_at, field_used}
-use Rattle.written_parts.proofs.KindFields.{HasPlan}
+use Rattle.written_file.proofs.Fit.{FitsClass}
+use Rattle.written_file.proofs.In.{in_got}
+use Rattle.written_file.proofs.Grouped.{Spot}
+use Rattle.written_file.specs.Parts.{one_value, first_values, class_parts}
+use Rattle.written_file.proofs.Members.{field_or, field_at, field_used}
+use Rattle.written_file.proofs.KindFields.{HasPlan}
 use Rattle.written_spelled.proofs.All.{HasFirsts}
 use Rattle.written_spelled.proofs.Firsts.{IsFieldLetter, one_suits, FitsFirst, firsts_are}
 use Rattle.written_spelled.proofs.Letters.{field_kept, field_letters}

@@ -54,27 +54,27 @@ use Rattle.write_laws.proofs.Slice.{lie_few, lists_same}
 use Rattle.write_laws.proofs.Written.{lists_written, counts_written}
 use Rattle.write_laws.proofs.Ordering.{orders_in}
 use Rattle.write_laws.proofs.Tabled.{short_of, is_short, tables_are_fit}
-use Rattle.written_tables.specs.Widths.{HasWidths}
-use Rattle.written_tables.proofs.Fit.{Parts, parts_of as well_formed_parts, FitsClass, class_at_fits}
-use Rattle.written_tables.proofs.Texts.{texts_fit}
-use Rattle.written_order.specs.Rises.{NamesRise}
-use Rattle.written_values.specs.Wide.{HasWideValues}
+use Rattle.written_file.specs.Widths.{HasWidths}
+use Rattle.written_file.proofs.Fit.{Parts, parts_of as well_formed_parts, FitsClass, class_at_fits}
+use Rattle.written_file.proofs.Texts.{texts_fit}
+use Rattle.written_file.specs.Rises.{NamesRise}
+use Rattle.written_file.specs.Wide.{HasWideValues}
 use Rattle.written_code.specs.Widths.{HasWideCode}
-use Rattle.written_parts.specs.Parts.{first_values, offsets_of, parts_of_file, sets_of_file}
-use Rattle.written_order.proofs.Order.{order_is}
-use Rattle.written_order.proofs.Plans.{classes_written, classes_many}
-use Rattle.written_parts.proofs.Pairs.{HasOwn}
-use Rattle.written_parts.proofs.Small.{values_texts}
-use Rattle.written_parts.proofs.KindFields.{HasPlan, all_planned, all_own, sets_long, members_kind, directories_kind, firsts_named, refs_kind, sets_kind, marks_named, uses_are, interfaces_kind}
-use Rattle.written_sets.proofs.FineSets.{marks_texts, sets_found}
-use Rattle.written_sets.proofs.Reading.{all_read as marks_read}
-use Rattle.written_sets.proofs.Standing.{Stands, all_stand, IsGood, sets_stand}
-use Rattle.written_classes.proofs.ClassTable.{defs_few, parts_defs}
-use Rattle.written_classes.proofs.Directories.{all_directories}
-use Rattle.written_classes.proofs.DataItems.{all_data, members_few}
-use Rattle.written_classes.proofs.FirstFits.{all_values}
-use Rattle.written_classes.proofs.Filed.{marks_there, offsets_there, members_there, annotations_there, offsets_few, table_there}
-use Rattle.written_classes.proofs.Whole.{firsts_there}
+use Rattle.written_file.specs.Parts.{first_values, offsets_of, parts_of_file, sets_of_file}
+use Rattle.written_file.proofs.Order.{order_is}
+use Rattle.written_file.proofs.Plans.{classes_written, classes_many}
+use Rattle.written_file.proofs.Pairs.{HasOwn}
+use Rattle.written_file.proofs.Small.{values_texts}
+use Rattle.written_file.proofs.KindFields.{HasPlan, all_planned, all_own, sets_long, members_kind, directories_kind, firsts_named, refs_kind, sets_kind, marks_named, uses_are, interfaces_kind}
+use Rattle.written_file.proofs.FineSets.{marks_texts, sets_found}
+use Rattle.written_file.proofs.Reading.{all_read as marks_read}
+use Rattle.written_file.proofs.Standing.{Stands, all_stand, IsGood, sets_stand}
+use Rattle.written_file.proofs.ClassTable.{defs_few, parts_defs}
+use Rattle.written_file.proofs.Directories.{all_directories}
+use Rattle.written_file.proofs.DataItems.{all_data, members_few}
+use Rattle.written_file.proofs.FirstFits.{all_values}
+use Rattle.written_file.proofs.Filed.{marks_there, offsets_there, members_there, annotations_there, offsets_few, table_there}
+use Rattle.written_file.proofs.Whole.{firsts_there}
 use Rattle.written_codes.proofs.Fitting.{FewEntries, all_rec}
 use Rattle.written_codes.proofs.All.{cells_few}
 use Rattle.written_codes.proofs.Coded.{coded}

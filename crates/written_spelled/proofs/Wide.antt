@@ -20,9 +20,9 @@ use Rattle.program_model.specs.ValueRules.{layer_fits, marks_fit}
 use Rattle.widths.specs.Code.{WideCode}
 use Rattle.widths.specs.Values.{NoteInWidth, LayerInWidth, ValueInWidth, FirstInWidth, MarkInWidth, MarksInWidth}
 use Rattle.widths.specs.Widths.{FieldInWidth, MethodInWidth, ClassInWidth, IsInWidth}
-use Rattle.written_tables.specs.Widths.{MarksFit, FieldFits, MethodFits, ClassFits, HasWidths}
-use Rattle.written_tables.proofs.Fit.{FitsClass, Parts, parts_of, class_parts}
-use Rattle.written_values.specs.Wide.{IsWideNote, IsWideLayer, IsWide, IsWideMark, AreWide, IsWideFirst, WideField, WideMethod, WideClass, HasWideValues}
+use Rattle.written_file.specs.Widths.{MarksFit, FieldFits, MethodFits, ClassFits, HasWidths}
+use Rattle.written_file.proofs.Fit.{FitsClass, Parts, parts_of, class_parts}
+use Rattle.written_file.specs.Wide.{IsWideNote, IsWideLayer, IsWide, IsWideMark, AreWide, IsWideFirst, WideField, WideMethod, WideClass, HasWideValues}
 use Rattle.written_code.specs.Widths.{HasWideCode}
 
 all_as : {X : Type 0} (P Q : X → Type 0) → ((x : X) → P x → Q x) → (xs : List X) → AllByRecursion P xs → AllByRecursion Q xs

@@ -8,7 +8,7 @@ ghost use Rattle.dex_write.specs.Written.{IsWritten};
 ghost use Rattle.dex_defs.specs.Written.{written_by};
 ghost use Rattle.dex_defs.specs.LaysOut.{LaysOut};
 ghost use Rattle.write_laws.specs.Kinds.{IsValidFile};
-ghost use Rattle.written_order.specs.Rises.{NamesRise};
+ghost use Rattle.written_file.specs.Rises.{NamesRise};
 
 /// What is written for a well-formed program, of whose classes none is above itself or there twice, whose annotations name strings of
 /// a part of the table that ascends, and whose written program lays out, is a valid file of the written program.

@@ -31,7 +31,7 @@ use Rattle.written_file.proofs.Fit.{Parts, parts_of, class_at_fits}
 use Rattle.written_file.proofs.In.{all_in, in_got}
 use Rattle.written_file.specs.Rises.{MarksLow, ClassLow, NamesRise}
 use Rattle.written_file.proofs.Low.{class_low}
-use Rattle.written_spelled.proofs.Whole.{written_is_valid}
+use Rattle.written_code.proofs.Whole.{written_is_valid}
 use Rattle.written_shown.proofs.Written.{written_shows, written_typed}
 use Rattle.class_defs.specs.ClassGraph.{IsTwice, IsAncestor}
 use Rattle.dex_write.specs.Written as writer

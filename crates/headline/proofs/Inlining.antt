@@ -11,8 +11,8 @@ use Rattle.facts.specs.declared.facts.Facts.{Facts}
 use Rattle.fold_kept.proofs.NamedFacts.{are_named}
 use Rattle.inline_calls.specs.Asked.{Row}
 use Rattle.inline_calls.specs.Plans.{IsInlined}
-use Rattle.inline_kept.proofs.Kept.{inlined_holds, inlined_kept, frameless_kept}
-use Rattle.inline_kept.proofs.Stayed.{inlined_stays}
+use Rattle.calls_kept.proofs.InlinedKept.{inlined_holds, inlined_kept, frameless_kept}
+use Rattle.calls_kept.proofs.Stayed.{inlined_stays}
 use Rattle.pipeline.specs.declared.traces.Traced.{Traced}
 use Rattle.pipeline.specs.Inlining.{AreTaken, Found, Empty, Inlines, IsInlining, Inlined, Kept}
 use Rattle.pipeline.specs.Passes.{AreKnown}

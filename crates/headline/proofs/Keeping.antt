@@ -39,10 +39,10 @@ use Rattle.reach_bridge.proofs.Kept.{kept_named}
 use Rattle.reach_bridge.proofs.Within.{shows_the_same, keeps_shuts, keeps_typing}
 use Rattle.shut_bridge.proofs.Passes.{thinned_keeps, compacted_keeps, propagated_keeps}
 use Rattle.shut_bridge.proofs.Folded.{folded_keeps}
-use Rattle.rebind_kept.proofs.Shuts.{rebound_holds}
-use Rattle.rebind_kept.proofs.Kept.{rebound_kept}
-use Rattle.quiet_kept.proofs.Kept.{quieted_kept}
-use Rattle.quiet_kept.proofs.Shuts.{quieted_shut}
+use Rattle.calls_kept.proofs.ReboundShuts.{rebound_holds}
+use Rattle.calls_kept.proofs.ReboundKept.{rebound_kept}
+use Rattle.calls_kept.proofs.QuietKept.{quieted_kept}
+use Rattle.calls_kept.proofs.QuietShuts.{quieted_shut}
 use Rattle.program_laws.specs.Shutting.{with_shut}
 use Rattle.program_laws.specs.Virtual.{VirtualsStay}
 use Rattle.static_kept.specs.Owed as along

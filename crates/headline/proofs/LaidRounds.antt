@@ -20,7 +20,7 @@ use Rattle.pipeline.specs.Passes.{Pass, Reach, ConstProp, Devirt, Staticise, Qui
 use Rattle.pipeline.specs.Rounds.{Rounds, Ended, Next}
 use Rattle.pipeline.specs.Silence.{is_quiet, silenced, IsSilent}
 use Rattle.inline_calls.specs.Asked.{Row}
-use Rattle.inline_kept.proofs.Stayed.{inlined_stays}
+use Rattle.calls_kept.proofs.Stayed.{inlined_stays}
 use Rattle.dex_defs.specs.LaysOut.{LaysOut}
 use Rattle.layout_steps.proofs.Passes.{pass_lies}
 use Rattle.layout_steps.proofs.Inlined.{inlined_lies}

@@ -1,5 +1,0 @@
-use Rattle.inline_kept.proofs.Pieces.{spliced_by_number}
-use Rattle.inline_kept.proofs.splice_bridge.spliced_law.Goals as goal
-
-pub returns : goal.returns
-returns c = spliced_by_number

@@ -1,3 +1,0 @@
-pub mod Spliced
-pub mod Copied
-pub mod Sites

@@ -59,12 +59,12 @@ use Rattle.dom_frame.specs.Registers.{Registers, value_at}
 use Rattle.dom_frame.specs.declared.frames.Frame.{Frame as Values}
 use Rattle.facts.specs.declared.facts.Facts.{Facts}
 use Rattle.closed_facts.specs.Edges as numbered
-use Rattle.closed_bridge.specs.Names.{by_names, method_number, named_facts, values_of}
-use Rattle.closed_bridge.proofs.Edges.{edges_same}
-use Rattle.closed_bridge.proofs.Fielding.{gets_same}
-use Rattle.closed_bridge.proofs.Fits.{Owner, owner_of, all_fit}
-use Rattle.closed_bridge.proofs.Numbers.{IsNumber, number_of_method}
-use Rattle.closed_bridge.proofs.Defining.{same_number}
+use Rattle.facts_kept.specs.Names.{by_names, method_number, named_facts, values_of}
+use Rattle.facts_kept.proofs.Edges.{edges_same}
+use Rattle.facts_kept.proofs.Fielding.{gets_same}
+use Rattle.facts_kept.proofs.Fits.{Owner, owner_of, all_fit}
+use Rattle.facts_kept.proofs.Numbers.{IsNumber, number_of_method}
+use Rattle.facts_kept.proofs.Defining.{same_number}
 use Rattle.thin_bridge.proofs.Quieting.{pure_named}
 use Rattle.pass_defs.specs.Analysis.{Analysis}
 use Rattle.pass_defs.specs.Facts as by_name

@@ -34,8 +34,8 @@ use Rattle.run_facts.specs.ValueAnalysis.{datum_of}
 use Rattle.cover_law.specs.Sound.{IsSmall, IsWord, NumberOf}
 use Rattle.const_prop.specs.declared.numbers.Number.TheVariants.{Word, Wide}
 use Rattle.const_prop.specs.Known.{number_of, only_number, zero_number}
-use Rattle.fold_kept.specs.Known.{IsNumber}
-use Rattle.fold_kept.proofs.Only.{only, nothing_held}
+use Rattle.facts_kept.specs.Known.{IsNumber}
+use Rattle.facts_kept.proofs.Only.{only, nothing_held}
 use Rattle.quiet_methods.specs.Forms.{is_other_than_zero, is_no_zero, never_throws}
 
 -- ---- a value that is known other than 0

@@ -89,10 +89,10 @@ use Rattle.run_facts.specs.ValueAnalysis.{datum_of, value_analysis}
 use Rattle.cover_law.specs.Operators.{operators}
 use Rattle.cover_law.proofs.Ready.{IsReady}
 use Rattle.cover_law.proofs.Stays.{looks, Is}
-use Rattle.closed_bridge.specs.Names.{named_facts, values_of}
-use Rattle.closed_bridge.proofs.Calling.{FoundNumber, found_number}
-use Rattle.closed_bridge.proofs.Fits.{Owner, owner_of}
-use Rattle.closed_bridge.proofs.Numbers.{IsNumber}
+use Rattle.facts_kept.specs.Names.{named_facts, values_of}
+use Rattle.facts_kept.proofs.Calling.{FoundNumber, found_number}
+use Rattle.facts_kept.proofs.Fits.{Owner, owner_of}
+use Rattle.facts_kept.proofs.Numbers.{IsNumber}
 use Rattle.receivers.specs.Receiving.{agreed_under, found_by, handed_down, interface_at, is_overridden, stands_under, under_place}
 use Rattle.receivers.proofs.Handed.{handed}
 use Rattle.receivers.proofs.Ranges.{in_contains, filter_in, numbers_in}

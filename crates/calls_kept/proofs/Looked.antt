@@ -31,7 +31,7 @@ use Rattle.dalvik_defs.specs.Naming.{named_class, named_method}
 use Rattle.dalvik_defs.specs.Silence.{key_in}
 use Rattle.program_laws.specs.Others.{Pairwise}
 use Rattle.program_laws.specs.Numbered.{NumberedCodes, OtherNumberedMethod, OtherNumberedClass, OtherNumberedBodies}
-use Rattle.fold_kept.proofs.Few.{few_members}
+use Rattle.facts_kept.proofs.Few.{few_members}
 use Rattle.splice.specs.declared.callee.Callee.{Callee}
 use Rattle.splice.specs.Callees.{chosen_at, taken_by}
 use Rattle.splice.specs.Moves.{parameters_of}

@@ -26,7 +26,7 @@ use Rattle.rewrite_pass.specs.declared.edit.Edit.{Edit}
 use Rattle.rewrite_pass.specs.Plans.{edited, body_edited, code_edited, method_by, each_by, class_by, program_by, word, HasEdits, HasPlan, IsPlan}
 use Rattle.devirt.specs.Rebound.{IsRebindingOf, IsRebinding, AreRebindings, AreRebindingsIn, IsJudged, IsReboundBy, edits_of, typed_edits, is_any_open}
 use Rattle.calls_kept.specs.Rebound.{IsReboundBody, ReboundSo, NoCode, Same, Rebound}
-use Rattle.fold_kept.proofs.Few.{few_members}
+use Rattle.facts_kept.proofs.Few.{few_members}
 
 -- ---- lists
 

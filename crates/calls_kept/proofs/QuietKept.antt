@@ -38,9 +38,9 @@ use Rattle.closed_facts.specs.Closed.{AreClosed}
 use Rattle.premises.specs.Makers.{MakersAreOwn}
 use Rattle.premises.specs.Numbers.{AllHaveWords}
 use Rattle.premises.specs.Plain.{ListsPlainly}
-use Rattle.closed_bridge.specs.Names.{named_facts, values}
-use Rattle.closed_bridge.proofs.Closing.{closed_named}
-use Rattle.closed_bridge.proofs.Making.{makers_named}
+use Rattle.facts_kept.specs.Names.{named_facts, values}
+use Rattle.facts_kept.proofs.Closing.{closed_named}
+use Rattle.facts_kept.proofs.Making.{makers_named}
 use Rattle.program_laws.specs.Others.{Pairwise}
 use Rattle.program_laws.specs.Numbered.{NumberedCodes, OtherNumberedBodies, OtherNumberedClass, OtherNumberedMethod}
 use Rattle.program_laws.specs.Alike.{gets_void}
@@ -52,12 +52,12 @@ use Rattle.run_facts.specs.ValueAnalysis.{value_analysis}
 use Rattle.cover_law.specs.Operators.{operators}
 use Rattle.cover_law.proofs.Sound.{value_sound}
 use Rattle.cover_law.specs.Coverable.{IsCoverable, IsTabled}
-use Rattle.tabled_law.proofs.Apart.{tabled, tabled_apart}
+use Rattle.facts_kept.proofs.Apart.{tabled, tabled_apart}
 use Rattle.thin_bridge.specs.Kept.{AnyCode}
 use Rattle.thin_bridge.proofs.Rooted.{rooted}
 use Rattle.thin_laws.specs.Cleaning.{IsSound}
-use Rattle.fold_kept.specs.Kept.{IsKeptFor}
-use Rattle.fold_kept.proofs.Classes.{super_interface}
+use Rattle.facts_kept.specs.Kept.{IsKeptFor}
+use Rattle.facts_kept.proofs.Classes.{super_interface}
 use Rattle.quiet_code.specs.Quieted.{IsQuieted}
 use Rattle.calls_kept.specs.Nopped.{QuietedCode}
 use Rattle.calls_kept.proofs.Programs.{quieted_others, quieted_formed}

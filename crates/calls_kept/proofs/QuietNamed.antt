@@ -26,8 +26,8 @@ use Rattle.run_laws.proofs.Here.{into_map}
 use Rattle.program_laws.specs.Others.{OtherBodies}
 use Rattle.program_laws.specs.Numbered.{OtherNumberedBodies}
 use Rattle.program_laws.proofs.Named.{others_named}
-use Rattle.closed_bridge.proofs.Numbers.{IsNumber}
-use Rattle.closed_bridge.proofs.Places.{own_key}
+use Rattle.facts_kept.proofs.Numbers.{IsNumber}
+use Rattle.facts_kept.proofs.Places.{own_key}
 use Rattle.thin_bridge.proofs.Inside.{get_contains}
 use Rattle.removal_bridge.proofs.WalkedForms.{form_there}
 use Rattle.removal_bridge.proofs.Walked.{read_after_by_number}

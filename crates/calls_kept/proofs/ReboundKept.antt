@@ -23,16 +23,16 @@ use Rattle.facts.specs.declared.facts.Facts.{Facts}
 use Rattle.closed_facts.specs.Closed.{AreClosed}
 use Rattle.premises.specs.Makers.{MakersAreOwn}
 use Rattle.premises.specs.Numbers.{AllHaveWords}
-use Rattle.closed_bridge.specs.Names.{named_facts, values}
-use Rattle.closed_bridge.proofs.Closing.{closed_named}
-use Rattle.closed_bridge.proofs.Making.{makers_named}
+use Rattle.facts_kept.specs.Names.{named_facts, values}
+use Rattle.facts_kept.proofs.Closing.{closed_named}
+use Rattle.facts_kept.proofs.Making.{makers_named}
 use Rattle.program_laws.specs.Others.{Pairwise}
 use Rattle.program_laws.specs.Numbered.{NumberedCodes, OtherNumberedBodies, OtherNumberedClass, OtherNumberedMethod}
 use Rattle.lemmas.proofs.Options.{none_some}
 use Rattle.thin_bridge.specs.Kept.{AnyCode}
-use Rattle.tabled_law.proofs.Apart.{tabled, tabled_apart}
-use Rattle.fold_kept.specs.Folds.{AreNamed}
-use Rattle.fold_kept.specs.Kept.{IsKeptFor}
+use Rattle.facts_kept.proofs.Apart.{tabled, tabled_apart}
+use Rattle.facts_kept.specs.Folds.{AreNamed}
+use Rattle.facts_kept.specs.Kept.{IsKeptFor}
 use Rattle.devirt.specs.Rebound.{IsReboundBy}
 use Rattle.calls_kept.specs.Rebound.{ReboundSo}
 use Rattle.calls_kept.proofs.ReboundNamed.{rebound_shown, rebound_typed}

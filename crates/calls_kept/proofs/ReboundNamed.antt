@@ -39,7 +39,7 @@ use Rattle.cover_law.specs.Coverable.{IsTabled}
 use Rattle.run_laws.specs.Regular.{IsRegular}
 use Rattle.run_laws.proofs.Here.{into_map}
 use Rattle.removal_bridge.proofs.TypedFormed as stuck
-use Rattle.tabled_law.proofs.Acyclic.{grounded_acyclic}
+use Rattle.facts_kept.proofs.Acyclic.{grounded_acyclic}
 use Rattle.type_bridge.specs.Views.{method_table}
 use Rattle.type_bridge.proofs.Least.{least_method}
 use Rattle.cover_law.specs.Operators.{operators}

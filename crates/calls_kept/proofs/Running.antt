@@ -87,8 +87,8 @@ use Rattle.cover_law.specs.Operators.{operators}
 use Rattle.inline_law.proofs.Unread.{unread}
 use Rattle.inline_law.specs.Entered.{Enterable, Statically, Directly, AreEnterable, FactsHold}
 use Rattle.program_laws.specs.Numbered.{OtherNumberedBodies}
-use Rattle.fold_kept.specs.Folds.{AreNamed, StandsAt}
-use Rattle.fold_kept.proofs.Covered.{one_more, covered_calm}
+use Rattle.facts_kept.specs.Folds.{AreNamed, StandsAt}
+use Rattle.facts_kept.proofs.Covered.{one_more, covered_calm}
 use Rattle.splice.specs.declared.callee.Callee.{Callee}
 use Rattle.splice.specs.Moves.{parameters_of}
 use Rattle.calls_kept.specs.Sites.{Calls, Passed, Behind, NeverNull, receiver_of}

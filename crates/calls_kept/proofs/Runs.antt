@@ -46,8 +46,8 @@ use Rattle.hierarchy.specs.Ranks.{IsRanked}
 use Rattle.receivers.specs.Receiving.{is_straight}
 use Rattle.lemmas.proofs.Options.{some_same}
 use Rattle.pass_defs.specs.Bare.{writes}
-use Rattle.closed_bridge.specs.Names.{method_number, named_facts}
-use Rattle.closed_bridge.proofs.Numbers.{IsNumber}
+use Rattle.facts_kept.specs.Names.{method_number, named_facts}
+use Rattle.facts_kept.proofs.Numbers.{IsNumber}
 use Rattle.run_facts.specs.ValueAnalysis.{datum_of, value_analysis}
 use Rattle.cover_law.specs.Operators.{operators}
 use Rattle.cover_law.specs.Coverable.{IsCoverable, IsFormed}

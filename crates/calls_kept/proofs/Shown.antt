@@ -24,12 +24,12 @@ use Rattle.cover_law.specs.Coverable.{IsTabled, IsCoverable}
 use Rattle.cover_law.proofs.Widths.{ranged_moves}
 use Rattle.run_laws.specs.Regular.{IsRegular}
 use Rattle.removal_bridge.proofs.TypedFormed as stuck
-use Rattle.tabled_law.proofs.Acyclic.{grounded_acyclic}
+use Rattle.facts_kept.proofs.Acyclic.{grounded_acyclic}
 use Rattle.cover_law.specs.Operators.{operators}
 use Rattle.cover_law.proofs.Sound.{value_sound}
 use Rattle.inline_law.proofs.Entering.{facts_shown}
 use Rattle.inline_law.proofs.Found.{reading}
-use Rattle.fold_kept.specs.Folds.{AreNamed}
+use Rattle.facts_kept.specs.Folds.{AreNamed}
 use Rattle.calls_kept.specs.Spliced.{SplicesSo}
 use Rattle.calls_kept.proofs.InlinedNamed.{SplicesNamed, named_others, all_inlined, sites}
 use Rattle.calls_kept.proofs.Running.{level, all_enterable, Reaches, begins, KeepsNoNull, frameless_keeps, covered_keeps, facts_hold}

@@ -49,10 +49,10 @@ use Rattle.program_model.specs.ValueRules.{marks_fit}
 use Rattle.program_model.specs.MemberRules.{method_fits, methods_in_order, methods_fit, fields_fit, types_of_class_fit, source_fits, class_fits}
 use Rattle.program_model.specs.Distinct.{own_method_key, all_differ}
 use Rattle.closed_facts.specs.Tables as number
-use Rattle.closed_bridge.specs.Names.{named_facts, values}
-use Rattle.closed_bridge.proofs.Numbers.{IsNumber}
-use Rattle.closed_bridge.proofs.Defining.{same_number as one_number}
-use Rattle.closed_bridge.proofs.Places.{CodedAt, Here, here_at, looked_up}
+use Rattle.facts_kept.specs.Names.{named_facts, values}
+use Rattle.facts_kept.proofs.Numbers.{IsNumber}
+use Rattle.facts_kept.proofs.Defining.{same_number as one_number}
+use Rattle.facts_kept.proofs.Places.{CodedAt, Here, here_at, looked_up}
 use Rattle.run_laws.specs.Holds.{Each, Holds as HoldsBy}
 use Rattle.run_facts.specs.Covered.{CoversTop, CoversWorld}
 use Rattle.run_facts.specs.ValueAnalysis.{value_analysis}
@@ -67,8 +67,8 @@ use Rattle.cover_law.proofs.Ready.{IsReady}
 use Rattle.cover_law.proofs.Standing.{at_typed, own_form}
 use Rattle.cover_law.proofs.Stays.{Is}
 use Rattle.cover_law.specs.Operators.{operators}
-use Rattle.fold_kept.proofs.Covered.{covered_calm}
-use Rattle.fold_kept.proofs.Forms as ran
+use Rattle.facts_kept.proofs.Covered.{covered_calm}
+use Rattle.facts_kept.proofs.Forms as ran
 use Rattle.quiet_methods.specs.Quiet.{IsCode, IsAlone}
 
 -- ---- methods by their numbers

@@ -21,7 +21,7 @@ use Rattle.closed_facts.specs.Closed.{AreClosed}
 use Rattle.premises.specs.Makers.{MakersAreOwn}
 use Rattle.premises.specs.Numbers.{AllHaveWords}
 use Rattle.premises.specs.Plain.{ListsPlainly}
-use Rattle.fold_kept.specs.Kept.{IsKeptFor}
+use Rattle.facts_kept.specs.Kept.{IsKeptFor}
 use Rattle.quiet_code.specs.Quieted.{IsQuieted}
 
 -- What is left of a well-formed and typed program, of which no class is its own ancestor, is kept for the outside for which its facts

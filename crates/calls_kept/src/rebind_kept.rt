@@ -25,9 +25,9 @@ ghost use Rattle.facts.specs.declared.facts.Facts.{Facts};
 ghost use Rattle.closed_facts.specs.Closed.{AreClosed};
 ghost use Rattle.premises.specs.Makers.{MakersAreOwn};
 ghost use Rattle.premises.specs.Numbers.{AllHaveWords};
-ghost use Rattle.closed_bridge.specs.Names.{named_facts};
-ghost use Rattle.fold_kept.specs.Folds.{AreNamed};
-ghost use Rattle.fold_kept.specs.Kept.{IsKeptFor};
+ghost use Rattle.facts_kept.specs.Names.{named_facts};
+ghost use Rattle.facts_kept.specs.Folds.{AreNamed};
+ghost use Rattle.facts_kept.specs.Kept.{IsKeptFor};
 ghost use Rattle.devirt.specs.Rebound.{IsReboundBy};
 
 /// What is left of a well-formed and typed program once calls are rebound by facts that are certified for an outside, or by the

@@ -8,7 +8,7 @@ use Rattle.hierarchy.specs.Shapes.{IsResolved}
 use Rattle.hierarchy.specs.declared.build.Hierarchy.{Hierarchy}
 use Rattle.dalvik_defs.specs.Outer.{outer_of}
 use Rattle.facts.specs.declared.facts.Facts.{Facts}
-use Rattle.fold_kept.proofs.NamedFacts.{are_named}
+use Rattle.facts_kept.proofs.NamedFacts.{are_named}
 use Rattle.inline_calls.specs.Asked.{Row}
 use Rattle.inline_calls.specs.Plans.{IsInlined}
 use Rattle.calls_kept.proofs.InlinedKept.{inlined_holds, inlined_kept, frameless_kept}

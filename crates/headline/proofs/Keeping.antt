@@ -24,9 +24,9 @@ use Rattle.dead_code.specs.Wishes.{AreCleaned}
 use Rattle.squeeze.specs.Needed.{NothingLeft}
 use Rattle.squeeze.specs.Skipping.{AreSkips}
 use Rattle.thin_bridge.specs.Kept.{AnyCode, IsKept}
-use Rattle.fold_kept.specs.Kept.{IsKeptFor}
-use Rattle.fold_kept.proofs.Kept.{folded_kept}
-use Rattle.fold_kept.proofs.NamedFacts.{are_named}
+use Rattle.facts_kept.specs.Kept.{IsKeptFor}
+use Rattle.facts_kept.proofs.Kept.{folded_kept}
+use Rattle.facts_kept.proofs.NamedFacts.{are_named}
 use Rattle.thin_bridge.proofs.Squeezes.{squeezed_kept}
 use Rattle.thin_bridge.proofs.Cleans.{cleaned_kept}
 use Rattle.compact.specs.Narrow.{has_narrow_classes}

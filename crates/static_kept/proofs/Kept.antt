@@ -27,11 +27,11 @@ use Rattle.facts.specs.declared.facts.Facts.{Facts}
 use Rattle.closed_facts.specs.Closed.{AreClosed}
 use Rattle.premises.specs.Makers.{MakersAreOwn}
 use Rattle.premises.specs.Numbers.{AllHaveWords}
-use Rattle.closed_bridge.specs.Names.{named_facts, values}
-use Rattle.closed_bridge.proofs.Closing.{closed_named}
-use Rattle.closed_bridge.proofs.Making.{makers_named}
-use Rattle.tabled_law.proofs.Apart.{tabled, tabled_apart}
-use Rattle.fold_kept.specs.Folds.{AreNamed}
+use Rattle.facts_kept.specs.Names.{named_facts, values}
+use Rattle.facts_kept.proofs.Closing.{closed_named}
+use Rattle.facts_kept.proofs.Making.{makers_named}
+use Rattle.facts_kept.proofs.Apart.{tabled, tabled_apart}
+use Rattle.facts_kept.specs.Folds.{AreNamed}
 use Rattle.program_laws.specs.Shutting.{ShutsAlike}
 use Rattle.pass_defs.specs.Numbered.{tables_of}
 use Rattle.pass_defs.specs.Typed.{IsTyped}

@@ -61,8 +61,8 @@ use Rattle.cover_law.specs.States.{covered_states}
 use Rattle.cover_law.proofs.Widths.{ranged_moves}
 use Rattle.cover_law.specs.Operators.{operators}
 use Rattle.cover_law.proofs.Sound.{value_sound}
-use Rattle.fold_kept.specs.Folds.{AreNamed, StandsAt}
-use Rattle.fold_kept.proofs.Covered.{covered_calm}
+use Rattle.facts_kept.specs.Folds.{AreNamed, StandsAt}
+use Rattle.facts_kept.proofs.Covered.{covered_calm}
 use Rattle.static_law.specs.Receiving.{HoldNoNull}
 use Rattle.static_kept.specs.Knows.{KnowsNotNull, holds_no_null, is_not_null}
 

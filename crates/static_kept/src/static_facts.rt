@@ -15,7 +15,7 @@ ghost use Rattle.pass_defs.specs.Facts as by_name;
 ghost use Rattle.run_facts.specs.ValueAnalysis.{value_analysis};
 ghost use Rattle.cover_law.specs.Coverable.{IsTabled};
 ghost use Rattle.cover_law.specs.Operators.{operators};
-ghost use Rattle.fold_kept.specs.Folds.{AreNamed};
+ghost use Rattle.facts_kept.specs.Folds.{AreNamed};
 ghost use Rattle.static_law.specs.Receiving.{HoldNoNull};
 ghost use Rattle.static_kept.specs.Knows.{KnowsNotNull};
 

@@ -1,5 +1,0 @@
-use Rattle.fold_kept.proofs.Shown.{same_shown}
-use Rattle.fold_kept.proofs.fold_bridge.folded_shown_law.Goals as goal
-
-pub returns : goal.returns
-returns g = same_shown

@@ -1,5 +1,0 @@
-pub mod TypedFolds
-pub mod Kept
-pub mod Known
-pub mod Folds
-pub mod Runs

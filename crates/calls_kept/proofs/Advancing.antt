@@ -65,7 +65,7 @@ use Rattle.facts_kept.proofs.Fielding.{gets_same}
 use Rattle.facts_kept.proofs.Fits.{Owner, owner_of, all_fit}
 use Rattle.facts_kept.proofs.Numbers.{IsNumber, number_of_method}
 use Rattle.facts_kept.proofs.Defining.{same_number}
-use Rattle.thin_bridge.proofs.Quieting.{pure_named}
+use Rattle.bodies_kept.proofs.Quieting.{pure_named}
 use Rattle.pass_defs.specs.Analysis.{Analysis}
 use Rattle.pass_defs.specs.Facts as by_name
 use Rattle.pass_defs.specs.Pure.{is_quiet_field}
@@ -87,7 +87,7 @@ use Rattle.cover_law.proofs.Suits.{suits}
 use Rattle.cover_law.proofs.Waiting.{formed}
 use Rattle.cover_law.specs.Operators.{operators}
 use Rattle.thin_laws.proofs.Tidied.{code_rules}
-use Rattle.thin_bridge.proofs.Inside.{some_position, get_contains}
+use Rattle.bodies_kept.proofs.Inside.{some_position, get_contains}
 use Rattle.quiet_methods.specs.Forms.{quiet_if, starts_quietly, gets_quietly, method_demand, found_demand, call_demand, never_throws, form_demand, demand, ways}
 use Rattle.quiet_methods.specs.Settled.{rank_at, IsLower}
 use Rattle.quiet_methods.specs.Bodies.{frame_in, demand_in, ways_in}

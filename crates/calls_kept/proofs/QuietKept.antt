@@ -53,8 +53,8 @@ use Rattle.cover_law.specs.Operators.{operators}
 use Rattle.cover_law.proofs.Sound.{value_sound}
 use Rattle.cover_law.specs.Coverable.{IsCoverable, IsTabled}
 use Rattle.facts_kept.proofs.Apart.{tabled, tabled_apart}
-use Rattle.thin_bridge.specs.Kept.{AnyCode}
-use Rattle.thin_bridge.proofs.Rooted.{rooted}
+use Rattle.bodies_kept.specs.Kept.{AnyCode}
+use Rattle.bodies_kept.proofs.Rooted.{rooted}
 use Rattle.thin_laws.specs.Cleaning.{IsSound}
 use Rattle.facts_kept.specs.Kept.{IsKeptFor}
 use Rattle.facts_kept.proofs.Classes.{super_interface}

@@ -28,7 +28,7 @@ use Rattle.program_laws.specs.Numbered.{OtherNumberedBodies}
 use Rattle.program_laws.proofs.Named.{others_named}
 use Rattle.facts_kept.proofs.Numbers.{IsNumber}
 use Rattle.facts_kept.proofs.Places.{own_key}
-use Rattle.thin_bridge.proofs.Inside.{get_contains}
+use Rattle.bodies_kept.proofs.Inside.{get_contains}
 use Rattle.removal_bridge.proofs.WalkedForms.{form_there}
 use Rattle.removal_bridge.proofs.Walked.{read_after_by_number}
 use Rattle.quiet_methods.specs.Quiet.{IsCode}

@@ -8,7 +8,7 @@ use Rattle.program_model.specs.declared.program.MethodAt.{MethodAt}
 use Rattle.program_model.specs.declared.program.Program.{Program}
 use Rattle.removal_law.specs.Left.{In, here, there}
 use Rattle.rewrite_pass.specs.declared.edit.Edit.{Edit}
-use Rattle.shut_bridge.proofs.Rewritten.{IsQuiet, rewritten_keeps}
+use Rattle.bodies_kept.proofs.RewrittenShut.{IsQuiet, rewritten_keeps}
 use Rattle.quiet_code.specs.Quiet.{nop_if}
 use Rattle.quiet_code.specs.Quieted.{Frames, AreNops, Nops, nops_upto}
 use Rattle.calls_kept.specs.Owed.{QuietedShut}

@@ -29,7 +29,7 @@ use Rattle.facts_kept.proofs.Making.{makers_named}
 use Rattle.program_laws.specs.Others.{Pairwise}
 use Rattle.program_laws.specs.Numbered.{NumberedCodes, OtherNumberedBodies, OtherNumberedClass, OtherNumberedMethod}
 use Rattle.lemmas.proofs.Options.{none_some}
-use Rattle.thin_bridge.specs.Kept.{AnyCode}
+use Rattle.bodies_kept.specs.Kept.{AnyCode}
 use Rattle.facts_kept.proofs.Apart.{tabled, tabled_apart}
 use Rattle.facts_kept.specs.Folds.{AreNamed}
 use Rattle.facts_kept.specs.Kept.{IsKeptFor}

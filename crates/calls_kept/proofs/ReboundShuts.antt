@@ -30,7 +30,7 @@ use Rattle.removal_law.specs.Left.{In, here, there}
 use Rattle.removal_law.specs.Reach.{ShutsHold}
 use Rattle.rewrite_pass.specs.declared.edit.Edit.{Edit}
 use Rattle.program_laws.specs.Said.{Quiet, Calls}
-use Rattle.shut_bridge.proofs.Rewritten.{IsQuiet, rewritten_keeps}
+use Rattle.bodies_kept.proofs.RewrittenShut.{IsQuiet, rewritten_keeps}
 use Rattle.verify.specs.Typings.{Table}
 use Rattle.devirt.specs.Rebound.{IsRebinding, AreRebindings, AreRebindingsIn, IsReboundBy}
 

@@ -16,7 +16,7 @@ use Rattle.dalvik_defs.specs.declared.forms.Form.TheVariants as form
 use Rattle.insn_regs.specs.Remade as numbered
 use Rattle.pass_defs.specs.Remade.{remade, retargeted}
 use Rattle.pass_defs.specs.Thinned.{insn_retargeted}
-use Rattle.copy_kept.proofs.Remaking.{remade_by_number}
+use Rattle.bodies_kept.proofs.Remaking.{remade_by_number}
 
 -- ---- registers
 

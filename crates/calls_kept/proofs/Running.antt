@@ -79,7 +79,7 @@ use Rattle.removal_bridge.proofs.TypedFormed.{regular_program}
 use Rattle.form_laws.proofs.Asking.{low_is, high_is}
 use Rattle.name_bridge.proofs.Above.{own_place}
 use Rattle.name_bridge.proofs.Started.{trivial_by_number}
-use Rattle.thin_bridge.proofs.Rooted.{rooted}
+use Rattle.bodies_kept.proofs.Rooted.{rooted}
 use Rattle.cover_law.specs.Coverable.{IsCoverable}
 use Rattle.cover_law.specs.Known.{RangedMove}
 use Rattle.cover_law.specs.States.{covered_states}

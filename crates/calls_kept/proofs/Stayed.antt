@@ -28,8 +28,8 @@ use Rattle.inline_calls.specs.Edited.{method_by, each_by, class_by}
 use Rattle.inline_calls.specs.Plans.{nothing_done, edit_of, IsCallerOf, LooksAt, Bare, Barred, Looked, LooksAtMethod, LooksInClass, IsInlined}
 use Rattle.inline_calls.specs.Rooms.{spliced_by, new_of}
 use Rattle.inline_calls.proofs.Chosen.{tried_candidates}
-use Rattle.stay_law.specs.Stays.{FewRegisters, MethodStaysBy, ClassStaysBy, StaysInlined}
-use Rattle.stay_law.proofs.Staying.{few_same, method_same_by}
+use Rattle.bodies_kept.specs.Stays.{FewRegisters, MethodStaysBy, ClassStaysBy, StaysInlined}
+use Rattle.bodies_kept.proofs.Staying.{few_same, method_same_by}
 use Rattle.calls_kept.proofs.Looked.{IsSome, tried_some, looked_long, looked_at}
 
 -- what stands in a list that is changed item by item comes of what stood at its place

@@ -59,8 +59,8 @@ use Rattle.program_laws.proofs.Typed.{others_typed}
 use Rattle.program_laws.proofs.Walks.{goes_next, goes_onward}
 use Rattle.removal_bridge.proofs.WalkedForms.{form_there}
 use Rattle.removal_bridge.proofs.Walked.{read_after_by_number, read_by_number}
-use Rattle.thin_bridge.specs.Veiled.{or_nop, emptied_forms, emptied, veiled_table}
-use Rattle.thin_bridge.proofs.Plain.{pure_keeps}
+use Rattle.bodies_kept.specs.Veiled.{or_nop, emptied_forms, emptied, veiled_table}
+use Rattle.bodies_kept.proofs.Plain.{pure_keeps}
 use Rattle.receivers.specs.Receiving.{interface_at, is_overridden}
 use Rattle.program_laws.proofs.WellFormed.{well_placed}
 use Rattle.quiet_code.specs.Calls.{is_init, is_constructor, is_quiet_target, is_quiet_found, is_quiet_named, is_quiet_for_all, is_quiet_under, is_quiet_virtual, is_idle_call, has_object}

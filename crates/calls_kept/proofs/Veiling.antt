@@ -28,11 +28,11 @@ use Rattle.form_laws.proofs.Asking.{allowed_held}
 use Rattle.form_laws.proofs.Typings.{each_at, tested, allowed_at, right_at}
 use Rattle.program_laws.proofs.Walks.{goes_next}
 use Rattle.program_laws.proofs.ChangedLists.{and_left, and_both, all_map}
-use Rattle.thin_bridge.specs.Veiled.{veil, veiled, veiled_table, or_nop, emptied_forms, emptied}
-use Rattle.thin_bridge.proofs.Veiling.{veil_long, veil_at, veiled_at, emptied_at, emptied_long}
-use Rattle.thin_bridge.proofs.Agreeing.{AgreeOn}
-use Rattle.thin_bridge.proofs.Afters.{SameAfter, after_same}
-use Rattle.thin_bridge.proofs.Calling.{call_there}
+use Rattle.bodies_kept.specs.Veiled.{veil, veiled, veiled_table, or_nop, emptied_forms, emptied}
+use Rattle.bodies_kept.proofs.Veiling.{veil_long, veil_at, veiled_at, emptied_at, emptied_long}
+use Rattle.bodies_kept.proofs.Agreeing.{AgreeOn}
+use Rattle.bodies_kept.proofs.Afters.{SameAfter, after_same}
+use Rattle.bodies_kept.proofs.Calling.{call_there}
 
 -- ---- lists
 

@@ -33,7 +33,7 @@ ghost use Rattle.facts_kept.specs.Kept.{IsKeptFor};
 ghost use Rattle.program_laws.specs.Numbered.{OtherNumberedBodies};
 ghost use Rattle.inline_calls.specs.Asked.{Row};
 ghost use Rattle.inline_calls.specs.Plans.{IsInlined};
-ghost use Rattle.stay_law.specs.Stays.{StaysInlined};
+ghost use Rattle.bodies_kept.specs.Stays.{StaysInlined};
 ghost use Rattle.calls_kept.specs.Spliced.{SplicesSo};
 
 /// What the pass leaves of a program is the program with other code: in each body, copies stand at sites.

@@ -25,7 +25,7 @@ use Rattle.program_laws.specs.Others.{Pairwise}
 use Rattle.program_laws.specs.Numbered.{NumberedCodes, OtherNumberedBodies, OtherNumberedClass, OtherNumberedMethod}
 use Rattle.program_model.specs.declared.program.Class.{Class}
 use Rattle.program_model.specs.declared.program.Method.{Method}
-use Rattle.thin_bridge.specs.Kept.{AnyCode}
+use Rattle.bodies_kept.specs.Kept.{AnyCode}
 use Rattle.premises.specs.Numbers.{AllHaveWords}
 use Rattle.facts_kept.proofs.Apart.{tabled, tabled_apart}
 use Rattle.const_prop.specs.Folds.{IsFoldedBy}

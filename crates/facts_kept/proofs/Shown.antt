@@ -20,8 +20,8 @@ use Rattle.cover_law.specs.Coverable.{IsTabled}
 use Rattle.cover_law.proofs.Widths.{ranged_moves}
 use Rattle.cover_law.specs.Operators.{operators}
 use Rattle.cover_law.proofs.Sound.{value_sound}
-use Rattle.thin_bridge.proofs.Rooted.{rooted}
-use Rattle.thin_bridge.proofs.Quieting.{pure_named}
+use Rattle.bodies_kept.proofs.Rooted.{rooted}
+use Rattle.bodies_kept.proofs.Quieting.{pure_named}
 use Rattle.form_laws.specs.Known.{SameRun}
 use Rattle.const_prop.specs.Folds.{IsFoldedBy}
 use Rattle.facts_kept.specs.Folds.{AreNamed}

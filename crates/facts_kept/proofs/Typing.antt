@@ -30,7 +30,7 @@ use Rattle.program_laws.proofs.Typed.{others_typed}
 use Rattle.program_laws.proofs.Transitive.{transitive}
 use Rattle.removal_bridge.proofs.Listed.{Image, image}
 use Rattle.removal_bridge.proofs.Members.{class_known, method_known}
-use Rattle.thin_bridge.proofs.Rooted.{rooted}
+use Rattle.bodies_kept.proofs.Rooted.{rooted}
 use Rattle.premises.specs.Numbers.{AllHaveWords}
 use Rattle.facts.specs.declared.facts.Facts.{Facts}
 use Rattle.const_prop.specs.Folds.{IsFoldedBy}

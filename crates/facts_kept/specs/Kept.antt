@@ -9,7 +9,7 @@ use Rattle.dalvik_defs.specs.Shown.{SameShown}
 use Rattle.pass_defs.specs.Typed.{IsTyped}
 use Rattle.program_laws.specs.Numbered.{OtherNumberedBodies}
 use Rattle.removal_law.specs.Reach.{ShutsHold}
-use Rattle.thin_bridge.specs.Kept.{AnyCode}
+use Rattle.bodies_kept.specs.Kept.{AnyCode}
 
 -- It keeps the rules and is typed, has the same tables, and the same classes and members but for bodies and source lines, and it
 -- shows the same for this outside, where the table of shut methods holds what it says. `Owes` of headline takes `formed` and

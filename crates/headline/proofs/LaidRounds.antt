@@ -11,9 +11,9 @@ use Rattle.squeeze.specs.Skipping.{AreSkips}
 use Rattle.const_prop.specs.Folds.{AreFolds}
 use Rattle.devirt.specs.Rebound.{AreRebindings}
 use Rattle.quiet_code.specs.Quieted.{Nops}
-use Rattle.stay_law.specs.Stays.{Stays}
-use Rattle.stay_law.proofs.Rewritten.{rewritten_stays}
-use Rattle.stay_law.proofs.Passes.{removed_stays, thinned_stays, propagated_stays, compacted_stays}
+use Rattle.bodies_kept.specs.Stays.{Stays}
+use Rattle.bodies_kept.proofs.RewrittenStay.{rewritten_stays}
+use Rattle.bodies_kept.proofs.PassesStay.{removed_stays, thinned_stays, propagated_stays, compacted_stays}
 use Rattle.pipeline.specs.declared.traces.Traced.{Traced}
 use Rattle.pipeline.specs.Inlining.{IsInlining, Inlined, Kept}
 use Rattle.pipeline.specs.Passes.{Pass, Reach, ConstProp, Devirt, Staticise, QuietCalls, CopyProp, DeadCode, Squeeze, Compact, Does, round_of, Steps, Last, Then}

@@ -22,8 +22,8 @@ use Rattle.pipeline.specs.Silence.{is_quiet, silenced_body, silenced_method, sil
 use Rattle.dead_code.specs.Dead.{is_quiet_field}
 use Rattle.dead_code.specs.Wishes.{NoneDead}
 use Rattle.compact.specs.Narrow.{has_narrow_classes}
-use Rattle.copy_kept.specs.CompactBridged.{AllPacked}
-use Rattle.copy_kept.specs.CopyBridged.{AllFresh}
+use Rattle.bodies_kept.specs.CompactBridged.{AllPacked}
+use Rattle.bodies_kept.specs.CopyBridged.{AllFresh}
 use Rattle.squeeze.specs.Needed.{NothingLeft}
 use Rattle.pipeline.specs.Passes.{KeepsForms}
 use Rattle.pipeline.specs.Rounds.{first_of, IsOptimised}

@@ -39,7 +39,7 @@ use Rattle.dex_defs.specs.LaysOut.{LaysOut}
 use Rattle.dex_defs.specs.Written.{written_by}
 use Rattle.spelled_law.proofs.OnceFile.{spells_once}
 use Rattle.spelled_law.proofs.Whole.{read_is_spelled}
-use Rattle.stay_law.specs.Stays.{Stands, NoMoreRegisters, FewRegisters}
+use Rattle.bodies_kept.specs.Stays.{Stands, NoMoreRegisters, FewRegisters}
 use Rattle.headline.specs.Headline.{StaysFor, IsSpelled}
 
 stands_all : {X : Type 0} (P : X → Type 0) (xs : List X) → ((x : X) → Stands xs x → P x) → AllByRecursion P xs

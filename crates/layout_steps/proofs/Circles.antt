@@ -16,8 +16,8 @@ use Rattle.body_edit.specs.declared.fate.Fate.{Fate}
 use Rattle.body_edit.specs.declared.fate.Fate.TheVariants.{Stays}
 use Rattle.thin_laws.proofs.Places.{IsLeft, place_next}
 use Rattle.thin_pass.specs.Wishing.{wish_at, goes, is_to_go, is_between, leads_into, holds, is_held}
-use Rattle.thin_bridge.specs.Right.{fates_by}
-use Rattle.thin_bridge.proofs.Chosen.{long, goes_by, stays_by, chosen_at, insn_there}
+use Rattle.bodies_kept.specs.Right.{fates_by}
+use Rattle.bodies_kept.proofs.Chosen.{long, goes_by, stays_by, chosen_at, insn_there}
 use Rattle.layout_law.specs.Circles.{NoneCircles}
 use Rattle.layout_law.proofs.Thinned.{place_rises}
 

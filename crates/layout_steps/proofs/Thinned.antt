@@ -15,8 +15,8 @@ use Rattle.body_edit.specs.Fates.{fates_of}
 use Rattle.thin_pass.specs.Wishing.{FatesIf, HasFates, is_small}
 use Rattle.thin_pass.specs.Plans.{changed_in, lines_left, method_thinned, method_by, methods_by, class_by, classes_by, AreFor, AreForClasses, IsThinnedBy}
 use Rattle.thin_pass.proofs.Lighter.{stay_changes}
-use Rattle.thin_bridge.specs.Right.{fates_by}
-use Rattle.thin_bridge.proofs.Chosen.{long}
+use Rattle.bodies_kept.specs.Right.{fates_by}
+use Rattle.bodies_kept.proofs.Chosen.{long}
 use Rattle.dex_defs.specs.LaysOut.{LaysOutMethod, LaysOutBody, LaysOut}
 use Rattle.layout_law.proofs.Thinned.{thinned_lays_out}
 use Rattle.layout_law.proofs.Methods.{MethodLies, ClassLies}

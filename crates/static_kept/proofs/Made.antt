@@ -20,7 +20,7 @@ use Rattle.name_bridge.proofs.Tables.{entry_at}
 use Rattle.facts.specs.declared.facts.Facts.{Facts}
 use Rattle.static_law.specs.Edited.{IsEdited, LetsClass, name_edited, target_of}
 use Rattle.static_law.proofs.Classes.{contains_at}
-use Rattle.stay_law.specs.Stays.{NoMoreRegisters, Stands}
+use Rattle.bodies_kept.specs.Stays.{NoMoreRegisters, Stands}
 use Rattle.staticise.specs.Called.{IsUntouched}
 use Rattle.staticise.specs.Judging.{judged}
 use Rattle.staticise.specs.Loosened.{IsLoosenedBy, flags_loosened, marks_loosened}

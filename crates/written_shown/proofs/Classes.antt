@@ -45,7 +45,7 @@ use Rattle.removal_law.specs.Reach.{TellsApart}
 use Rattle.removal_law.proofs.Lists.{clash, and_left, and_behind}
 use Rattle.removal_law.proofs.Members.{signature_sound}
 use Rattle.removal_law.proofs.Walks.{text_same}
-use Rattle.copy_kept.specs.Unique.{IsUnique}
+use Rattle.bodies_kept.specs.Unique.{IsUnique}
 use Rattle.written_file.proofs.In.{In, in_map, in_order_has, in_got, Place, place_in, all_in}
 use Rattle.written_file.proofs.Fit.{FitsClass}
 use Rattle.written_shown.proofs.Alike.{bare_method, bare_field, of_proto, AlikeClass}

@@ -37,8 +37,8 @@ use Rattle.removal_law.specs.Reach.{TellsApart}
 use Rattle.removal_law.proofs.Lists.{clash}
 use Rattle.removal_law.proofs.Walks.{text_same}
 use Rattle.removal_bridge.proofs.Formed.{apart_program}
-use Rattle.copy_kept.specs.Unique.{IsUnique}
-use Rattle.copy_kept.proofs.Unique.{unique_named}
+use Rattle.bodies_kept.specs.Unique.{IsUnique}
+use Rattle.bodies_kept.proofs.Unique.{unique_named}
 use Rattle.written_file.proofs.In.{In, in_map, Place, place_in, in_contains, all_in}
 use Rattle.written_file.proofs.Fit.{Parts, parts_of, FitsClass, class_at_fits}
 use Rattle.written_file.specs.Behind.{AllBehind}

@@ -1,5 +1,0 @@
-use Rattle.copy_kept.proofs.Unique.{unique_named}
-use Rattle.copy_kept.proofs.change_bridge.unique_law.Goals as goal
-
-pub returns : goal.returns
-returns c = unique_named

@@ -1,5 +1,0 @@
-use Rattle.copy_kept.proofs.CompactPrograms.{compacted_shown}
-use Rattle.copy_kept.proofs.compact_bridge.compacted_program_law.Goals as goal
-
-pub returns : goal.returns
-returns c = compacted_shown

@@ -1,5 +1,0 @@
-use Rattle.copy_kept.proofs.Bodies.{packed_by_number}
-use Rattle.copy_kept.proofs.compact_bridge.packed_by_number_law.Goals as goal
-
-pub returns : goal.returns
-returns c = packed_by_number

@@ -1,5 +1,0 @@
-use Rattle.copy_kept.proofs.Bodies.{renamed_by_number}
-use Rattle.copy_kept.proofs.compact_bridge.renamed_by_number_law.Goals as goal
-
-pub returns : goal.returns
-returns c = renamed_by_number

@@ -1,5 +1,0 @@
-use Rattle.copy_kept.proofs.CompactSettled.{program_settled}
-use Rattle.copy_kept.proofs.compact_bridge.settled_program_law.Goals as goal
-
-pub returns : goal.returns
-returns c = λ admitted p i. program_settled admitted p i

@@ -1,5 +1,0 @@
-use Rattle.copy_kept.proofs.CopySettled.{program_settled}
-use Rattle.copy_kept.proofs.copy_bridge.fresh_law.Goals as goal
-
-pub returns : goal.returns
-returns c = program_settled

@@ -1,5 +1,0 @@
-use Rattle.copy_kept.proofs.CopyPrograms.{propagated_shown}
-use Rattle.copy_kept.proofs.copy_bridge.propagated_program_law.Goals as goal
-
-pub returns : goal.returns
-returns c = propagated_shown

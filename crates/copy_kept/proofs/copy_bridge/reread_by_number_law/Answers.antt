@@ -1,5 +1,0 @@
-use Rattle.copy_kept.proofs.Rereads.{reads_by_number}
-use Rattle.copy_kept.proofs.copy_bridge.reread_by_number_law.Goals as goal
-
-pub returns : goal.returns
-returns c = reads_by_number

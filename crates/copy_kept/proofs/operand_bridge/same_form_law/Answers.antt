@@ -1,5 +1,0 @@
-use Rattle.copy_kept.proofs.Same.{same_form}
-use Rattle.copy_kept.proofs.operand_bridge.same_form_law.Goals as goal
-
-pub returns : goal.returns
-returns c = same_form

@@ -1,9 +1,0 @@
-pub mod CopyBridged
-pub mod Rereads
-pub mod CompactBridged
-pub mod Renames
-pub mod Unique
-pub mod Changing
-pub mod OperandBridged
-pub mod Packs
-pub mod Alike

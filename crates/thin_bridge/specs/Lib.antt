@@ -1,4 +1,0 @@
-pub mod Right
-pub mod Kept
-pub mod Veiled
-pub mod Cleans

@@ -20,3 +20,13 @@ pub mod Own
 pub mod Planned
 pub mod PlanStays
 mod Walks
+pub mod Lists
+pub mod Extended
+pub mod Bodies
+pub mod Plans
+pub mod Methods
+pub mod Tables
+pub mod Protos
+pub mod Counts
+pub mod Turns
+pub mod Whole

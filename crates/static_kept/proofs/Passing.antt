@@ -10,7 +10,7 @@ use Rattle.facts.specs.declared.facts.Facts.{Facts}
 use Rattle.facts_kept.specs.Names.{named_facts}
 use Rattle.facts_kept.specs.Folds.{AreNamed}
 use Rattle.facts_kept.proofs.NamedFacts.{are_named}
-use Rattle.static_formed.proofs.Whole.{staticised_formed}
+use Rattle.static_kept.proofs.Whole.{staticised_formed}
 use Rattle.bodies_kept.proofs.Staying.{stays_same}
 use Rattle.staticise.specs.Loosened.{IsStaticisedBy}
 use Rattle.static_kept.specs.Kept.{IsKeptStatic}

@@ -28,10 +28,10 @@ use Rattle.program_model.specs.declared.value.Mark.{Mark}
 use Rattle.class_defs.proofs.Positions.{number_of, number_test}
 use Rattle.class_defs.proofs.WellFormed.{sound}
 use Rattle.staticise.specs.Loosened.{IsLoosenedClass, body_loosened, code_loosened, flags_loosened, given_at, insn_loosened, is_given, marks_loosened, method_loosened, name_with}
-use Rattle.static_formed.proofs.Bodies.{body_kept}
-use Rattle.static_formed.proofs.Extended.{Extends, fields_kept, marks_kept, proto_there, source_kept, string_same, types_same, words_same}
-use Rattle.static_formed.proofs.Lists.{all_permuted}
-use Rattle.static_formed.proofs.Plans.{IsNew, IsPlan, class_same, name_same}
+use Rattle.static_kept.proofs.Bodies.{body_kept}
+use Rattle.static_kept.proofs.Extended.{Extends, fields_kept, marks_kept, proto_there, source_kept, string_same, types_same, words_same}
+use Rattle.static_kept.proofs.Lists.{all_permuted}
+use Rattle.static_kept.proofs.Plans.{IsNew, IsPlan, class_same, name_same}
 
 -- ---- flags
 

@@ -1,4 +1,6 @@
-//! The law of programs in which methods were made static.
+//! What staticise leaves of a well-formed program is well-formed: what is appended to its tables fits there, a method that is made
+//! static has the arguments of its new proto, its calls name methods of the table, methods stand in their order, and the program
+//! keeps the limits of files.
 
 ghost use Rattle.std.specs.Prelude.{◌≡◌, ℕ, Bool, true, List};
 ghost use Rattle.program_model.specs.ProgramRules.{is_well_formed};

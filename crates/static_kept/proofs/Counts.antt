@@ -19,10 +19,10 @@ use Rattle.static_protos.specs.Tables.{Tables, is_marked, marks_more, place_or, 
 use Rattle.static_protos.specs.declared.tables.Wanted.{Wanted}
 use Rattle.loose_methods.proofs.Once.{Owns, number_once}
 use Rattle.staticise.specs.Loosened.{AreEach, IsLoosenedClass, code_loosened, is_given, marks_loosened, method_loosened}
-use Rattle.static_formed.proofs.Bodies.{cells_same}
-use Rattle.static_formed.proofs.Lists.{sum_both, sum_end, sum_map}
-use Rattle.static_formed.proofs.Methods.{method_by}
-use Rattle.static_formed.proofs.Plans.{IsPlan}
+use Rattle.static_kept.proofs.Bodies.{cells_same}
+use Rattle.static_kept.proofs.Lists.{sum_both, sum_end, sum_map}
+use Rattle.static_kept.proofs.Methods.{method_by}
+use Rattle.static_kept.proofs.Plans.{IsPlan}
 
 -- ---- classes one by one
 

@@ -39,14 +39,14 @@ use Rattle.staticise.proofs.Limits.{all_sound}
 use Rattle.staticise.proofs.Made.{all_made}
 use Rattle.staticise.proofs.Ordered.{own_mapped, own_methods}
 use Rattle.staticise.proofs.Targeted.{same_name}
-use Rattle.static_formed.proofs.Counts.{AreCounted, all_extra, cells_now, classes_more, each_first, each_rest, first_counted, more_counted}
-use Rattle.static_formed.proofs.Extended.{Extends}
-use Rattle.static_formed.proofs.Lists.{once_differ}
-use Rattle.static_formed.proofs.Methods.{class_kept}
-use Rattle.static_formed.proofs.Plans.{IsNew, IsPlan, names_at}
-use Rattle.static_formed.proofs.Protos.{AreOfTypes, class_passed, first_typed, more_typed}
-use Rattle.static_formed.proofs.Tables.{tables_now}
-use Rattle.static_formed.proofs.Turns.{all_turns}
+use Rattle.static_kept.proofs.Counts.{AreCounted, all_extra, cells_now, classes_more, each_first, each_rest, first_counted, more_counted}
+use Rattle.static_kept.proofs.Extended.{Extends}
+use Rattle.static_kept.proofs.Lists.{once_differ}
+use Rattle.static_kept.proofs.Methods.{class_kept}
+use Rattle.static_kept.proofs.Plans.{IsNew, IsPlan, names_at}
+use Rattle.static_kept.proofs.Protos.{AreOfTypes, class_passed, first_typed, more_typed}
+use Rattle.static_kept.proofs.Tables.{tables_now}
+use Rattle.static_kept.proofs.Turns.{all_turns}
 
 -- a class's type is a class type
 own_kind : (p : Program) (k : Class) → types_of_class_fit p k ≡ true → is_class_type p k.name ≡ true

@@ -10,7 +10,7 @@ use Rattle.program_model.specs.declared.program.Class.{Class}
 use Rattle.program_model.specs.declared.program.Method.{Method}
 use Rattle.program_model.specs.declared.program.Program.{Program}
 use Rattle.staticise.specs.Loosened.{given_at, name_with, names_with, target_of}
-use Rattle.static_formed.proofs.Extended.{Extends}
+use Rattle.static_kept.proofs.Extended.{Extends}
 
 -- A method number of the program gets a new proto, which stands in the tables: that of its method with its class in front of the
 -- parameters. No other method number has its name and that proto, and its method has a receiver.

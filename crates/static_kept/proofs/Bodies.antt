@@ -23,8 +23,8 @@ use Rattle.program_model.specs.declared.body.Handler.{Handler}
 use Rattle.program_model.specs.declared.body.Region.{Region}
 use Rattle.program_model.specs.declared.program.Program.{Program}
 use Rattle.staticise.specs.Loosened.{body_loosened, insn_loosened, target_of}
-use Rattle.static_formed.proofs.Extended.{Extends, field_same, method_same, string_kept, type_same}
-use Rattle.static_formed.proofs.Lists.{sum_map}
+use Rattle.static_kept.proofs.Extended.{Extends, field_same, method_same, string_kept, type_same}
+use Rattle.static_kept.proofs.Lists.{sum_map}
 
 -- a call becomes a call of a method of the table with the same registers, and everything else stays
 pub data Turned (q : Program) : Insn → Insn → Type 0 where

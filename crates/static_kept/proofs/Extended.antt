@@ -26,7 +26,7 @@ use Rattle.program_model.specs.Texts.{first_unit, has_field, has_method, has_pro
 use Rattle.program_model.specs.ValueRules.{element_fits, first_fits, layer_fits, mark_fits, marks_fit, named_in_order, names_fit, note_fits, typed_in_order, value_fits}
 use Rattle.class_defs.proofs.WellFormed.{below, sound}
 use Rattle.static_protos.proofs.Behind.{stays}
-use Rattle.static_formed.proofs.Lists.{index_first, long_first}
+use Rattle.static_kept.proofs.Lists.{index_first, long_first}
 
 -- A program whose tables have more entries behind those that they had, and as many methods.
 pub record Extends (p q : Program) : Type 0 where

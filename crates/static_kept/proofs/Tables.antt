@@ -21,10 +21,10 @@ use Rattle.static_protos.specs.Growing.{AreSound}
 use Rattle.static_protos.specs.Tables.{Tables}
 use Rattle.loose_methods.proofs.Differ.{same_number}
 use Rattle.staticise.specs.Loosened.{given_at, name_with}
-use Rattle.static_formed.proofs.Extended.{Extends, letter_same, proto_kept, string_kept, string_same, type_same}
-use Rattle.static_formed.proofs.Lists.{all_each, differ_each}
-use Rattle.static_formed.proofs.Plans.{IsPlan, class_same, name_same}
-use Rattle.static_formed.proofs.Protos.{AreOfTypes, proto_formed}
+use Rattle.static_kept.proofs.Extended.{Extends, letter_same, proto_kept, string_kept, string_same, type_same}
+use Rattle.static_kept.proofs.Lists.{all_each, differ_each}
+use Rattle.static_kept.proofs.Plans.{IsPlan, class_same, name_same}
+use Rattle.static_kept.proofs.Protos.{AreOfTypes, proto_formed}
 
 -- ---- parts of rules
 

@@ -15,8 +15,8 @@ use Rattle.class_defs.proofs.Positions.{number_of, number_test}
 use Rattle.class_defs.proofs.WellFormed.{sound}
 use Rattle.static_protos.specs.Tables.{Tables, letter_at, shorty, protos_with, proto_of, with_new, proto_at}
 use Rattle.static_protos.specs.declared.tables.Wanted.{Wanted}
-use Rattle.static_formed.proofs.Extended.{Extends, letter_same, type_same}
-use Rattle.static_formed.proofs.Lists.{index_there}
+use Rattle.static_kept.proofs.Extended.{Extends, letter_same, type_same}
+use Rattle.static_kept.proofs.Lists.{index_there}
 
 -- a parameter's type is one of the program, and not void
 abbrev pub may_be_passed : Program → ℕ → Bool

@@ -20,14 +20,14 @@ use Rattle.program_model.specs.TableRules.{type_fits, proto_fits, field_id_fits,
 use Rattle.program_model.specs.Texts.{has_string}
 use Rattle.program_model.specs.declared.program.Program.{Program}
 use Rattle.dex_defs.specs.Written.{new_string, new_type, written_by}
-use Rattle.names_law.specs.Ascending.{AllAscend}
-use Rattle.names_law.specs.Orders.{OrdersIn}
-use Rattle.names_law.specs.Used.{IsSet, IsShort}
-use Rattle.names_law.proofs.Carried.{carried, used_at, order_few}
-use Rattle.names_law.proofs.Closed.{used_closed}
-use Rattle.names_law.proofs.Ordering.{AsMany, used_marked, orders_in}
-use Rattle.names_law.proofs.Owning.{order_set}
-use Rattle.names_law.proofs.Rising.{all_ascend}
+use Rattle.write_laws.specs.Ascending.{AllAscend}
+use Rattle.write_laws.specs.Orders.{OrdersIn}
+use Rattle.write_laws.specs.Used.{IsSet, IsShort}
+use Rattle.write_laws.proofs.Carried.{carried, used_at, order_few}
+use Rattle.write_laws.proofs.Closed.{used_closed}
+use Rattle.write_laws.proofs.NamesOrdering.{AsMany, used_marked, orders_in}
+use Rattle.write_laws.proofs.Owning.{order_set}
+use Rattle.write_laws.proofs.Rising.{all_ascend}
 use Rattle.layout_law.specs.Ascending.{TextsAscend}
 use Rattle.layout_law.proofs.Ordered.{Text, less, never_both, texts_less, place_low, order_rises}
 

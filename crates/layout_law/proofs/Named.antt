@@ -24,9 +24,9 @@ use Rattle.dex_pools.specs.Interned.{IsInterned}
 use Rattle.dex_pools.specs.Numbering.{used_in}
 use Rattle.dex_pools.specs.Used.{kind_names, source_names, marks_names, insn_names, handler_names, region_names, body_names, code_names, field_names, method_names, class_names}
 use Rattle.program_model.specs.TableRules.{tables_fit}
-use Rattle.names_law.specs.Used.{IsUsed}
-use Rattle.names_law.proofs.Marking.{all_left, all_right}
-use Rattle.names_law.proofs.Closed.{names_used}
+use Rattle.write_laws.specs.Used.{IsUsed}
+use Rattle.write_laws.proofs.Marking.{all_left, all_right}
+use Rattle.write_laws.proofs.Closed.{names_used}
 use Rattle.thin_laws.proofs.Rules.{operands_at, all_regions_fit}
 use Rattle.layout_law.specs.Lower.{NumbersFall}
 use Rattle.layout_law.specs.Ascending.{TextsAscend}

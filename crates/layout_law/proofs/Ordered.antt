@@ -12,8 +12,8 @@ use Rattle.lemmas.proofs.Options.{none_some, some_same}
 use Rattle.dex_pools.specs.Finds.{Ascends}
 use Rattle.dex_pools.specs.Order.{is_less, list_below}
 use Rattle.dex_defs.specs.Written.{one_entry, entries}
-use Rattle.names_law.specs.Used.{AllIn}
-use Rattle.names_law.proofs.Carried.{Stands, entry}
+use Rattle.write_laws.specs.Used.{AllIn}
+use Rattle.write_laws.proofs.Carried.{Stands, entry}
 
 -- ---- texts
 

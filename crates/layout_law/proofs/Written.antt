@@ -14,7 +14,7 @@ use Rattle.dex_pools.specs.declared.interner.Interner.{Interner}
 use Rattle.dex_pools.specs.Interned.{IsInterned}
 use Rattle.dex_defs.specs.LaysOut.{LaysOutMethod, LaysOut}
 use Rattle.dex_defs.specs.Written.{one_entry, entries, class_order, new_body, written_method, written_class, written_by, IsWritten}
-use Rattle.names_law.proofs.Reordered.{same_members}
+use Rattle.write_laws.proofs.Reordered.{same_members}
 use Rattle.thin_laws.proofs.Tidied.{code_rules}
 use Rattle.layout_law.proofs.Bodies.{all_from}
 use Rattle.layout_law.proofs.Lower.{renumbered_lays_out}

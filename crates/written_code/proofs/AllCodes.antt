@@ -52,12 +52,12 @@ use Rattle.dex_defs.specs.ClassData.{Entry}
 use Rattle.dex_defs.specs.LaysOut.{LaysOut, LaysOutMethod}
 use Rattle.dex_defs.specs.Valid.{IsCodePart, AreCodes, methods_of, parameters_of}
 use Rattle.dex_defs.specs.Written.{entries, new_method, new_proto, written_proto, written_method_name, written_method, written_class, written_by, class_order}
-use Rattle.names_law.specs.Used.{IsUsed, IsShort, UsesMethod}
-use Rattle.names_law.proofs.Marking.{all_left, all_right}
-use Rattle.names_law.proofs.Closed.{names_used, used_closed}
-use Rattle.names_law.proofs.Ordering.{AsMany, used_marked}
-use Rattle.names_law.proofs.Owning.{no_longer}
-use Rattle.names_law.proofs.Carried.{carried}
+use Rattle.write_laws.specs.Used.{IsUsed, IsShort, UsesMethod}
+use Rattle.write_laws.proofs.Marking.{all_left, all_right}
+use Rattle.write_laws.proofs.Closed.{names_used, used_closed}
+use Rattle.write_laws.proofs.NamesOrdering.{AsMany, used_marked}
+use Rattle.write_laws.proofs.Owning.{no_longer}
+use Rattle.write_laws.proofs.Carried.{carried}
 use Rattle.write_laws.specs.Fits.{OrdersIn, TablesFit}
 use Rattle.write_laws.specs.Listing.{method_entry, method_entries, lists_in}
 use Rattle.write_laws.specs.Placing.{AllLie, item_text, item_texts, code_offsets, line_offsets, stops_of}

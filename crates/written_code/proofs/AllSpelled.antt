@@ -23,7 +23,7 @@ use Rattle.dex_defs.specs.Values.{AreValuesOf, AreFirsts}
 use Rattle.dex_defs.specs.Spells.{sizes_in}
 use Rattle.dex_defs.specs.Valid.{ClassPart, classes_at, methods_of, ref_offsets, NamesAll}
 use Rattle.dex_defs.specs.Written.{new_marks, written_method, written_class, written_by}
-use Rattle.names_law.specs.Used.{IsShort}
+use Rattle.write_laws.specs.Used.{IsShort}
 use Rattle.written_file.proofs.Fit.{FitsClass}
 use Rattle.written_file.specs.Parts.{class_part, class_parts}
 use Rattle.written_file.proofs.Members.{field_at, method_at}

@@ -23,7 +23,7 @@ use Rattle.dex_defs.specs.ClassDefs.{HasCode}
 use Rattle.dex_defs.specs.LaysOut.{LaysOutMethod}
 use Rattle.dex_defs.specs.Valid.{CodePart, IsCodePart, parameters_of}
 use Rattle.dex_defs.specs.Written.{new_insn, new_body, written_method, written_by}
-use Rattle.names_law.specs.Used.{IsShort}
+use Rattle.write_laws.specs.Used.{IsShort}
 use Rattle.write_laws.specs.Listing.{method_entries}
 use Rattle.write_laws.specs.Placing.{item_text, item_texts, code_offsets, line_offsets}
 use Rattle.write_laws.proofs.Coded.{item_long}

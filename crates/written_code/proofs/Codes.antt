@@ -38,7 +38,7 @@ use Rattle.dex_defs.specs.LaysOut.{LaysOutBody, LaysOutMethod}
 use Rattle.dex_defs.specs.Texts.{lines_text}
 use Rattle.dex_defs.specs.Valid.{IsCodePart, parameters_of}
 use Rattle.dex_defs.specs.Written.{new_body, written_method, written_by}
-use Rattle.names_law.specs.Used.{IsUsed, IsShort}
+use Rattle.write_laws.specs.Used.{IsUsed, IsShort}
 use Rattle.write_laws.specs.Placing.{item_text}
 use Rattle.write_laws.proofs.Here.{here_same}
 use Rattle.write_laws.proofs.Coded.{item_long}

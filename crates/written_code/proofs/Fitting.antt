@@ -42,10 +42,10 @@ use Rattle.dex_defs.specs.LaysOut.{step_of as new_step, AreSizes, LaysOutBody, c
 use Rattle.dex_defs.specs.LaysOut as kept
 use Rattle.dex_defs.specs.CodeTexts.{payload_text, evenly, payloads_text, words_passed, most_passed, place_of, list_offset, target_units, signed_units}
 use Rattle.dex_defs.specs.Written.{new_insn, new_handler, new_region, new_body, written_by}
-use Rattle.names_law.specs.Used.{IsUsed, IsShort}
-use Rattle.names_law.proofs.Marking.{all_left, all_right}
-use Rattle.names_law.proofs.Placed.{places_long}
-use Rattle.names_law.proofs.Ranges.{ranges_kept}
+use Rattle.write_laws.specs.Used.{IsUsed, IsShort}
+use Rattle.write_laws.proofs.Marking.{all_left, all_right}
+use Rattle.write_laws.proofs.Placed.{places_long}
+use Rattle.write_laws.proofs.Ranges.{ranges_kept}
 use Rattle.widths.specs.Code.{WideBody}
 use Rattle.written_code.proofs.Forms.{InWidth, Renamed, NumbersFit}
 use Rattle.written_code.proofs.Tables.{Fit, item_bytes, bytes_long, units_many, keys_long, units_long, one_of}

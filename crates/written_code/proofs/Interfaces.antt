@@ -22,7 +22,7 @@ use Rattle.dex_write.specs.Written.{ArePlans}
 use Rattle.dex_defs.specs.Arranged.{Both, Lie, LeadsTo}
 use Rattle.dex_defs.specs.Texts.{type_list_text}
 use Rattle.dex_defs.specs.Written.{new_type, written_class, written_by}
-use Rattle.names_law.specs.Used.{IsShort}
+use Rattle.write_laws.specs.Used.{IsShort}
 use Rattle.write_laws.specs.Fits.{Halved, FitsList}
 use Rattle.write_laws.proofs.Pools.{leads_spelled}
 use Rattle.written_file.proofs.Fit.{FitsClass}

@@ -27,11 +27,11 @@ use Rattle.dex_write.specs.Plans.{Plan, Numbered, spot_of}
 use Rattle.dex_write.specs.Tables.{source_word}
 use Rattle.dex_defs.specs.ClassDefs.{IsSource}
 use Rattle.dex_defs.specs.Written.{new_string, new_type, new_method, written_method_name, new_value, written_field, written_method, written_by}
-use Rattle.names_law.specs.Used.{IsUsed, IsShort, UsesMethod}
-use Rattle.names_law.proofs.Closed.{used_closed}
-use Rattle.names_law.proofs.Ordering.{AsMany, used_marked}
-use Rattle.names_law.proofs.Ranges.{ranges_kept}
-use Rattle.names_law.proofs.Carried.{carried}
+use Rattle.write_laws.specs.Used.{IsUsed, IsShort, UsesMethod}
+use Rattle.write_laws.proofs.Closed.{used_closed}
+use Rattle.write_laws.proofs.NamesOrdering.{AsMany, used_marked}
+use Rattle.write_laws.proofs.Ranges.{ranges_kept}
+use Rattle.write_laws.proofs.Carried.{carried}
 use Rattle.write_laws.specs.Fits.{OrdersIn}
 use Rattle.write_laws.proofs.Ordering.{orders_in}
 use Rattle.written_file.proofs.Fit.{FitsClass}

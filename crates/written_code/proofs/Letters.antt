@@ -18,10 +18,10 @@ use Rattle.dex_pools.specs.declared.used.Named.TheVariants as named
 use Rattle.dex_pools.specs.Interned.{IsInterned}
 use Rattle.dex_pools.specs.Numbering.{used_in, type_key, field_key}
 use Rattle.dex_defs.specs.Written.{new_string, new_type, new_field, written_field_name, written_by}
-use Rattle.names_law.specs.Used.{IsUsed, IsShort, UsesField}
-use Rattle.names_law.proofs.Closed.{used_closed}
-use Rattle.names_law.proofs.Ordering.{AsMany, used_marked}
-use Rattle.names_law.proofs.Carried.{carried}
+use Rattle.write_laws.specs.Used.{IsUsed, IsShort, UsesField}
+use Rattle.write_laws.proofs.Closed.{used_closed}
+use Rattle.write_laws.proofs.NamesOrdering.{AsMany, used_marked}
+use Rattle.write_laws.proofs.Carried.{carried}
 use Rattle.write_laws.specs.Fits.{OrdersIn}
 use Rattle.write_laws.proofs.Ordering.{orders_in}
 use Rattle.written_code.proofs.Known.{string_kept}

@@ -24,7 +24,7 @@ use Rattle.dex_defs.specs.ClassDefs.{HasCode}
 use Rattle.dex_defs.specs.LaysOut.{LaysOutMethod}
 use Rattle.dex_defs.specs.Valid.{parameters_of}
 use Rattle.dex_defs.specs.Written.{new_method, written_method, written_class, written_by}
-use Rattle.names_law.specs.Used.{IsShort}
+use Rattle.write_laws.specs.Used.{IsShort}
 use Rattle.write_laws.specs.Fits.{FitsProto, TablesFit}
 use Rattle.write_laws.specs.Listing.{method_entries}
 use Rattle.write_laws.specs.Placing.{item_texts, code_offsets, line_offsets}

@@ -25,7 +25,7 @@ use Rattle.dex_write.specs.Data.{has_first, first_count, value_or}
 use Rattle.dex_defs.specs.Arranged.{Both}
 use Rattle.dex_defs.specs.Values.{is_of, letter_of_field, first_of, AreFirsts}
 use Rattle.dex_defs.specs.Written.{new_value, written_field, written_by}
-use Rattle.names_law.specs.Used.{IsShort}
+use Rattle.write_laws.specs.Used.{IsShort}
 use Rattle.written_file.proofs.Fit.{FitsClass}
 use Rattle.written_file.proofs.In.{in_got}
 use Rattle.written_file.proofs.Grouped.{Spot}

@@ -37,9 +37,9 @@ use Rattle.dex_defs.specs.ValueTexts as texts
 use Rattle.dex_defs.specs.Valid.{NamesAll, ref_offsets, set_offsets}
 use Rattle.dex_defs.specs.Valid as valid
 use Rattle.dex_defs.specs.Written.{entries, written_class, class_order, written_by}
-use Rattle.names_law.specs.Used.{IsShort}
-use Rattle.names_law.specs.Owning.{IsNoLonger}
-use Rattle.names_law.proofs.Owning.{no_longer}
+use Rattle.write_laws.specs.Used.{IsShort}
+use Rattle.write_laws.specs.Owning.{IsNoLonger}
+use Rattle.write_laws.proofs.Owning.{no_longer}
 use Rattle.write_laws.specs.Fits.{TablesFit, OrdersIn}
 use Rattle.write_laws.specs.Kinds.{Same, SameCounts, IsValidFile}
 use Rattle.write_laws.specs.Placing.{AllLie, entry_texts, item_texts, code_offsets, line_offsets, stops_of}

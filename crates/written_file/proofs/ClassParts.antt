@@ -21,7 +21,7 @@ use Rattle.dex_defs.specs.Spells.{sizes_in}
 use Rattle.dex_defs.specs.Values.{AreValuesOf}
 use Rattle.dex_defs.specs.Valid.{ClassPart, classes_at, methods_of, AreCodes, NamesAll, EndsInFirst, AreClassParts}
 use Rattle.dex_defs.specs.Written.{written_class}
-use Rattle.names_law.specs.Used.{IsShort}
+use Rattle.write_laws.specs.Used.{IsShort}
 use Rattle.write_laws.proofs.Fitting.{plan_long}
 use Rattle.written_file.proofs.Fit.{FitsClass}
 use Rattle.written_file.specs.Parts.{class_parts}

@@ -32,8 +32,8 @@ use Rattle.dex_defs.specs.Arranged.{Both}
 use Rattle.dex_defs.specs.ClassDefs.{IsDef}
 use Rattle.dex_defs.specs.Valid as valid
 use Rattle.dex_defs.specs.Written.{new_string, new_type, new_marks, written_method, written_by}
-use Rattle.names_law.specs.Used.{IsUsed, IsShort}
-use Rattle.names_law.proofs.Ranges.{ranges_kept}
+use Rattle.write_laws.specs.Used.{IsUsed, IsShort}
+use Rattle.write_laws.proofs.Ranges.{ranges_kept}
 use Rattle.write_laws.specs.Fits.{TablesFit}
 use Rattle.write_laws.proofs.Numbers.{Few}
 use Rattle.write_laws.proofs.Defs.{defs_of, FewDefs}

@@ -29,8 +29,8 @@ use Rattle.dex_defs.specs.Arranged.{Both}
 use Rattle.dex_defs.specs.ClassData.{Lists, no_lists, IsClassDataOf}
 use Rattle.dex_defs.specs.Texts.{fields_text, methods_text, class_data_text, member_count, data_text}
 use Rattle.dex_defs.specs.Written.{new_field, new_method, written_field, written_by}
-use Rattle.names_law.specs.Used.{IsShort}
-use Rattle.names_law.proofs.Ranges.{ranges_kept}
+use Rattle.write_laws.specs.Used.{IsShort}
+use Rattle.write_laws.proofs.Ranges.{ranges_kept}
 use Rattle.write_laws.specs.Listing.{field_entry, method_entries, lists_in}
 use Rattle.write_laws.specs.Placing.{code_offsets}
 use Rattle.write_laws.proofs.Numbers.{Few}

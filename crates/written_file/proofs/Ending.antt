@@ -22,7 +22,7 @@ use Rattle.dex_write.specs.Written.{ArePlans}
 use Rattle.dex_defs.specs.Arranged.{Both}
 use Rattle.dex_defs.specs.Valid.{EndsInFirst}
 use Rattle.dex_defs.specs.Written.{new_value, written_field, written_class}
-use Rattle.names_law.specs.Used.{IsShort}
+use Rattle.write_laws.specs.Used.{IsShort}
 use Rattle.written_file.proofs.Fit.{FitsClass}
 use Rattle.written_file.specs.Parts.{one_value, first_values, class_parts}
 use Rattle.written_file.proofs.Members.{field_or, field_at}

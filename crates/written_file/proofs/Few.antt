@@ -4,7 +4,7 @@ use Rattle.std.specs.Prelude.{nat_eq, sum_by}
 use Rattle.std.specs.List.{AllByRecursion}
 use Rattle.std.proofs.lemmas.Bool.{eqb-true, eqb-false, ne_eqb}
 use Rattle.std.proofs.lemmas.List.Sums.{sum_by-cons}
-use Rattle.names_law.proofs.Ascending.{is_at}
+use Rattle.write_laws.proofs.Ascending.{is_at}
 use Rattle.written_file.proofs.Sorting.{Differ, Once, once_of}
 
 -- how often each number from one on, so many of them, stands in the list

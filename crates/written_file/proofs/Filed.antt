@@ -33,9 +33,9 @@ use Rattle.dex_defs.specs.Annotations.{IsDirectoryOf}
 use Rattle.dex_defs.specs.Valid.{NamesAll, EndsInFirst, set_offsets}
 use Rattle.dex_defs.specs.Valid as valid
 use Rattle.dex_defs.specs.Written.{entries, written_class, class_order, written_by}
-use Rattle.names_law.specs.Used.{IsShort}
-use Rattle.names_law.specs.Owning.{IsNoLonger}
-use Rattle.names_law.proofs.Owning.{no_longer}
+use Rattle.write_laws.specs.Used.{IsShort}
+use Rattle.write_laws.specs.Owning.{IsNoLonger}
+use Rattle.write_laws.proofs.Owning.{no_longer}
 use Rattle.write_laws.specs.Fits.{TablesFit, OrdersIn}
 use Rattle.write_laws.specs.Kinds.{Same, SameCounts, Rest, IsValidFile}
 use Rattle.write_laws.specs.Placing.{AllLie, entry_texts, item_texts, code_offsets, stops_of}

@@ -28,9 +28,9 @@ use Rattle.dex_write.specs.declared.ordered.MethodPart.{MethodPart}
 use Rattle.dex_write.specs.Sets.{sets_of, marks_of, mark_starts}
 use Rattle.dex_defs.specs.Written.{new_type, new_mark, new_marks, written_by}
 use Rattle.dex_defs.specs.ValueTexts as texts
-use Rattle.names_law.specs.Used.{IsUsed, IsShort}
-use Rattle.names_law.proofs.Ordering.{AsMany, used_marked}
-use Rattle.names_law.proofs.Ascending.{one_number}
+use Rattle.write_laws.specs.Used.{IsUsed, IsShort}
+use Rattle.write_laws.proofs.NamesOrdering.{AsMany, used_marked}
+use Rattle.write_laws.proofs.Ascending.{one_number}
 use Rattle.written_file.proofs.Fit.{FitsClass}
 use Rattle.written_file.proofs.In.{In, in_left, in_right, in_flat, in_got, all_in}
 use Rattle.written_file.specs.Parts.{found_sets, sets_of_file}

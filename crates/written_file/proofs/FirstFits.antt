@@ -40,7 +40,7 @@ use Rattle.dex_defs.specs.Values.{AreValuesOf}
 use Rattle.dex_defs.specs.ValueTexts as texts
 use Rattle.dex_defs.specs.Spells.{sizes_in}
 use Rattle.dex_defs.specs.Written.{new_value, written_by}
-use Rattle.names_law.specs.Used.{IsUsed, IsShort}
+use Rattle.write_laws.specs.Used.{IsUsed, IsShort}
 use Rattle.written_file.proofs.Fit.{FitsClass}
 use Rattle.written_file.proofs.Naming.{value_named}
 use Rattle.written_file.proofs.In.{In, in_left, in_got, all_in}

@@ -24,7 +24,7 @@ use Rattle.dex_write.specs.Plans.{Plan, Numbered}
 use Rattle.dex_write.specs.Data.{has_first, first_count, zero_of, value_or, first_text, values_text, counted_text, array_text}
 use Rattle.dex_defs.specs.Written.{new_value}
 use Rattle.dex_defs.specs.ValueTexts as texts
-use Rattle.names_law.specs.Members.{IsPlain}
+use Rattle.write_laws.specs.Members.{IsPlain}
 use Rattle.written_file.specs.Parts.{one_value, first_values}
 use Rattle.written_file.proofs.ValueTexts.{new_text, newly_spelled, old_value}
 

@@ -5,7 +5,7 @@ use Rattle.std.specs.List.{AllByRecursion}
 use Rattle.std.proofs.lemmas.List.Sums.{sum_by-cons, sum_by-append}
 use Rattle.lemmas.proofs.Bools.{neither_of}
 use Rattle.program_model.specs.MemberRules.{in_groups}
-use Rattle.names_law.proofs.Ascending.{is_at}
+use Rattle.write_laws.proofs.Ascending.{is_at}
 use Rattle.code_write.specs.Pairs.{Numbered, is_before, in_order}
 use Rattle.dex_write.specs.Plans.{spot, spot_where, is_same}
 use Rattle.dex_defs.specs.Written as written

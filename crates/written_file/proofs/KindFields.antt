@@ -28,7 +28,7 @@ use Rattle.dex_defs.specs.ClassDefs.{Def}
 use Rattle.dex_defs.specs.Texts as kept
 use Rattle.dex_defs.specs.Written.{entries, written_class, written_by, class_order}
 use Rattle.dex_defs.specs.Valid.{CodePart, ClassPart, SetPart, codes_of, entries_of, ref_offsets, set_offsets}
-use Rattle.names_law.specs.Used.{IsShort}
+use Rattle.write_laws.specs.Used.{IsShort}
 use Rattle.write_laws.specs.Fits.{OrdersIn}
 use Rattle.write_laws.specs.Kinds.{Same}
 use Rattle.write_laws.specs.Placing.{entry_texts, item_text, item_texts, code_offsets, line_offsets, stops_of}

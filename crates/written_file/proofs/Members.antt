@@ -30,9 +30,9 @@ use Rattle.dex_write.specs.Plans.{Plan, Numbered, in_order, spot_of, fields_from
 use Rattle.dex_write.specs.Codes.{IsPlan}
 use Rattle.dex_defs.specs.Written.{new_field, new_method, written_field, written_method, field_below, method_below, written_class}
 use Rattle.dex_defs.specs.Written as written
-use Rattle.names_law.specs.Used.{IsUsed, IsShort}
-use Rattle.names_law.proofs.Ordering.{AsMany, used_marked}
-use Rattle.names_law.proofs.Ascending.{one_number}
+use Rattle.write_laws.specs.Used.{IsUsed, IsShort}
+use Rattle.write_laws.proofs.NamesOrdering.{AsMany, used_marked}
+use Rattle.write_laws.proofs.Ascending.{one_number}
 use Rattle.written_file.proofs.Fit.{FitsClass}
 use Rattle.written_file.proofs.In.{In, in_left, in_right, in_flat, in_got, place_in}
 use Rattle.written_file.proofs.Sorting.{Differ, news_differ}

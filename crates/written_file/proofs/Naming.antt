@@ -26,7 +26,7 @@ use Rattle.program_model.specs.declared.value.Mark.{Mark}
 use Rattle.dex_pools.specs.Marks.{mark_below}
 use Rattle.dex_pools.specs.Value.{element_below}
 use Rattle.dex_defs.specs.Written.{in_order, new_string, new_type, new_field, new_method, new_layer, new_element, new_note, new_value, new_mark, new_marks, new_insn, new_handler, new_region, new_body, written_field, written_method, field_below, method_below, written_class}
-use Rattle.names_law.specs.Carried.{renamed}
+use Rattle.write_laws.specs.Carried.{renamed}
 use Rattle.written_file.proofs.In.{In, in_left, in_right, in_split, in_map, Source, in_source, in_flat, in_joined, in_order_has}
 
 -- ---- values

@@ -22,10 +22,10 @@ use Rattle.dex_write.specs.Plans.{Plan}
 use Rattle.dex_write.specs.Lists.{class_use}
 use Rattle.dex_write.specs.Written.{ArePlans}
 use Rattle.dex_defs.specs.Written.{entries, new_type, written_class, class_order, written_by}
-use Rattle.names_law.specs.Used.{IsUsed, IsShort}
-use Rattle.names_law.proofs.Ordering.{AsMany, used_marked}
-use Rattle.names_law.proofs.Closed.{names_used}
-use Rattle.names_law.proofs.Ascending.{one_number}
+use Rattle.write_laws.specs.Used.{IsUsed, IsShort}
+use Rattle.write_laws.proofs.NamesOrdering.{AsMany, used_marked}
+use Rattle.write_laws.proofs.Closed.{names_used}
+use Rattle.write_laws.proofs.Ascending.{one_number}
 use Rattle.written_file.proofs.Fit.{FitsClass}
 use Rattle.written_file.proofs.In.{In, in_flat, in_got, all_in}
 use Rattle.written_file.specs.Behind.{AllBehind}

@@ -27,10 +27,10 @@ use Rattle.dex_write.specs.Plans.{Plan, Numbered, marks_in, method_marks_in, par
 use Rattle.dex_write.specs.Sets.{sets_of}
 use Rattle.dex_defs.specs.Written.{insert, in_order, new_mark, new_marks, written_by}
 use Rattle.dex_defs.specs.Spells.{sizes_in}
-use Rattle.names_law.specs.Used.{IsUsed, IsShort}
-use Rattle.names_law.specs.Owning.{IsNoLonger}
-use Rattle.names_law.proofs.Owning.{no_longer}
-use Rattle.names_law.proofs.Ranges.{ranges_kept}
+use Rattle.write_laws.specs.Used.{IsUsed, IsShort}
+use Rattle.write_laws.specs.Owning.{IsNoLonger}
+use Rattle.write_laws.proofs.Owning.{no_longer}
+use Rattle.write_laws.proofs.Ranges.{ranges_kept}
 use Rattle.written_file.proofs.Fit.{FitsClass}
 use Rattle.written_file.proofs.In.{In, in_left, in_right, in_got, all_in}
 use Rattle.written_file.specs.Fitting.{SizesFit, MarkFits}

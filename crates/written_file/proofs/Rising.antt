@@ -18,11 +18,11 @@ use Rattle.dex_pools.specs.Numbering.{used_in, string_key}
 use Rattle.program_model.specs.declared.program.Program.{Program}
 use Rattle.program_model.specs.Texts.{has_string}
 use Rattle.dex_defs.specs.Written.{new_string, written_by}
-use Rattle.names_law.specs.Used.{IsUsed, IsShort}
-use Rattle.names_law.specs.Orders.{OrdersIn}
-use Rattle.names_law.proofs.Ordering.{AsMany, used_marked, orders_in}
-use Rattle.names_law.proofs.Ascending.{one_number}
-use Rattle.names_law.proofs.Carried.{carried}
+use Rattle.write_laws.specs.Used.{IsUsed, IsShort}
+use Rattle.write_laws.specs.Orders.{OrdersIn}
+use Rattle.write_laws.proofs.NamesOrdering.{AsMany, used_marked, orders_in}
+use Rattle.write_laws.proofs.Ascending.{one_number}
+use Rattle.write_laws.proofs.Carried.{carried}
 use Rattle.written_file.specs.Rises.{NamesRise}
 use Rattle.written_file.proofs.Places.{below_tells}
 

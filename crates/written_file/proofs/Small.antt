@@ -24,7 +24,7 @@ use Rattle.dex_write.specs.Data.{array_text}
 use Rattle.dex_defs.specs.Written.{written_field, written_method, field_below, method_below, written_class}
 use Rattle.dex_defs.specs.Written as written
 use Rattle.dex_defs.specs.ValueTexts as texts
-use Rattle.names_law.specs.Used.{IsShort}
+use Rattle.write_laws.specs.Used.{IsShort}
 use Rattle.written_file.proofs.Fit.{FitsClass}
 use Rattle.written_file.proofs.In.{In, all_of}
 use Rattle.written_file.specs.Parts.{class_parts, first_values, parts_of_file}

@@ -9,7 +9,7 @@ use Rattle.lemmas.proofs.Lists.{get_map}
 use Rattle.lemmas.proofs.Options.{before_map}
 use Rattle.program_model.specs.Distinct.{same_entry, differ_from}
 use Rattle.program_model.specs.MemberRules.{in_groups}
-use Rattle.names_law.proofs.Ascending.{is_at, one_place}
+use Rattle.write_laws.proofs.Ascending.{is_at, one_place}
 use Rattle.dex_pools.specs.Finds.{Ascends}
 use Rattle.code_write.specs.Pairs.{Numbered, is_before, insert, in_order}
 use Rattle.dex_defs.specs.Written as written

@@ -8,7 +8,7 @@ use Rattle.program_model.specs.declared.program.Program.{Program}
 use Rattle.program_model.specs.ProgramRules.{is_well_formed}
 use Rattle.dex_defs.specs.Written.{class_order, written_by}
 use Rattle.dex_defs.specs.Valid.{AllUsed}
-use Rattle.names_law.specs.Used.{IsShort}
+use Rattle.write_laws.specs.Used.{IsShort}
 use Rattle.write_laws.specs.Fits.{TablesFit}
 use Rattle.write_laws.proofs.Tabled.{short_of, is_short, tables_are_fit}
 use Rattle.written_file.specs.Widths.{HasWidths}

@@ -31,13 +31,13 @@ use Rattle.program_model.specs.Items.{items_of, proto_items, class_items}
 use Rattle.program_model.specs.Texts.{has_string, has_type, string_text, text_or_none, type_text, first_unit, letter_of, is_void}
 use Rattle.program_model.specs.TableRules.{type_fits, stands_for, stands_for_parameter, is_shorty, proto_fits, field_id_fits, method_id_fits, entries_fit}
 use Rattle.dex_defs.specs.Written.{one_entry, entries, new_string, new_type, written_proto, written_field_name, written_by}
-use Rattle.names_law.specs.Used.{IsSet, IsUsed, IsShort, IsClosed}
-use Rattle.names_law.specs.Orders.{OrdersIn}
-use Rattle.names_law.proofs.Ordering.{AsMany, used_marked, orders_in}
-use Rattle.names_law.proofs.Closed.{used_closed}
-use Rattle.names_law.proofs.Owning.{order_set}
-use Rattle.names_law.proofs.Rising.{Fits}
-use Rattle.names_law.proofs.Carried.{carried}
+use Rattle.write_laws.specs.Used.{IsSet, IsUsed, IsShort, IsClosed}
+use Rattle.write_laws.specs.Orders.{OrdersIn}
+use Rattle.write_laws.proofs.NamesOrdering.{AsMany, used_marked, orders_in}
+use Rattle.write_laws.proofs.Closed.{used_closed}
+use Rattle.write_laws.proofs.Owning.{order_set}
+use Rattle.write_laws.proofs.Rising.{Fits}
+use Rattle.write_laws.proofs.Carried.{carried}
 use Rattle.write_laws.specs.Fits.{FitsText, TextsFit}
 use Rattle.written_file.specs.Widths.{AreHalves, HasWidths}
 use Rattle.written_file.proofs.Fit.{Parts}

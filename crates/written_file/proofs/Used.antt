@@ -25,14 +25,14 @@ use Rattle.program_model.specs.declared.program.Class.{Class}
 use Rattle.program_model.specs.declared.program.Program.{Program}
 use Rattle.dex_defs.specs.Written.{one_entry, entries, new_string, new_type, new_proto, new_field, new_method, written_proto, written_field_name, written_method_name, written_class, class_order, written_by}
 use Rattle.dex_defs.specs.Valid.{AllUsed, all_names}
-use Rattle.names_law.specs.Used.{IsSet, IsUsed, IsShort}
-use Rattle.names_law.specs.Carried.{renamed}
-use Rattle.names_law.specs.Orders.{OrdersIn}
-use Rattle.names_law.proofs.Marking.{stays}
-use Rattle.names_law.proofs.Ordering.{AsMany, used_marked, orders_in}
-use Rattle.names_law.proofs.Owning.{order_set}
-use Rattle.names_law.proofs.Ascending.{is_at, once}
-use Rattle.names_law.proofs.Carried.{used_at, carried, entries_long}
+use Rattle.write_laws.specs.Used.{IsSet, IsUsed, IsShort}
+use Rattle.write_laws.specs.Carried.{renamed}
+use Rattle.write_laws.specs.Orders.{OrdersIn}
+use Rattle.write_laws.proofs.Marking.{stays}
+use Rattle.write_laws.proofs.NamesOrdering.{AsMany, used_marked, orders_in}
+use Rattle.write_laws.proofs.Owning.{order_set}
+use Rattle.write_laws.proofs.Ascending.{is_at, once}
+use Rattle.write_laws.proofs.Carried.{used_at, carried, entries_long}
 use Rattle.written_file.proofs.In.{In, in_left, in_right, in_split, in_map, Source, in_source, in_flat, in_got, Place, place_in, in_contains, has_in, all_in}
 use Rattle.written_file.proofs.Naming.{class_in}
 

@@ -18,7 +18,7 @@ use Rattle.dex_write.specs.Written as writer
 use Rattle.dex_defs.specs.Arranged.{Both}
 use Rattle.dex_defs.specs.ValueTexts as texts
 use Rattle.dex_defs.specs.Written.{written_by}
-use Rattle.names_law.specs.Used.{IsShort}
+use Rattle.write_laws.specs.Used.{IsShort}
 use Rattle.write_laws.specs.Fits.{TablesFit}
 use Rattle.write_laws.specs.Kinds.{Same, IsValidFile}
 use Rattle.write_laws.specs.Placing.{AllLie, stops_of}

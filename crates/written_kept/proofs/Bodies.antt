@@ -27,8 +27,8 @@ use Rattle.program_model.specs.declared.body.Body.{Body}
 use Rattle.program_model.specs.declared.pass.Renumber.{Renumber}
 use Rattle.program_model.specs.declared.program.Program.{Program}
 use Rattle.dex_defs.specs.Written.{new_insn, new_handler, new_region, new_body, new_type, written_by}
-use Rattle.names_law.specs.Used.{IsUsed, IsShort}
-use Rattle.names_law.proofs.Marking.{all_left, all_right}
+use Rattle.write_laws.specs.Used.{IsUsed, IsShort}
+use Rattle.write_laws.proofs.Marking.{all_left, all_right}
 use Rattle.written_kept.proofs.Kept.{string_kept, type_kept, field_kept, method_kept}
 use Rattle.written_kept.proofs.Lists.{all_named, any_map, side_map, sum_map, sum_same}
 

@@ -37,8 +37,8 @@ use Rattle.dalvik_defs.specs.declared.program.NamedMethod.{NamedMethod}
 use Rattle.dalvik_defs.specs.declared.program.NamedClass.{NamedClass}
 use Rattle.dalvik_defs.proofs.Calm.{text_sound}
 use Rattle.dex_defs.specs.Written.{new_value, new_body, field_below, method_below, written_field, written_method, written_class, in_order, written_by}
-use Rattle.names_law.specs.Used.{IsShort}
-use Rattle.names_law.specs.Members.{IsPlain, KeepsField, KeepsMethod, KeepsClass}
+use Rattle.write_laws.specs.Used.{IsShort}
+use Rattle.write_laws.specs.Members.{IsPlain, KeepsField, KeepsMethod, KeepsClass}
 use Rattle.name_bridge.proofs.Tables.{Sound, sound, same_number, field_is, field_once}
 use Rattle.name_bridge.proofs.Classes.{FieldFits, class_parts}
 use Rattle.removal_law.specs.Reach.{TellsApart}

@@ -12,13 +12,13 @@ use Rattle.program_model.specs.declared.pass.Renumber.{Renumber}
 use Rattle.program_model.specs.declared.program.Program.{Program}
 use Rattle.program_model.specs.Texts.{has_string, has_type, has_proto, has_field, has_method, string_text, text_or_none, type_text, first_unit, letter_of}
 use Rattle.dex_defs.specs.Written.{new_string, new_type, new_proto, new_field, new_method, written_proto, written_field_name, written_method_name, written_by}
-use Rattle.names_law.specs.Used.{IsUsed, IsShort, IsClosed}
-use Rattle.names_law.specs.Orders.{OrdersIn}
-use Rattle.names_law.proofs.Ordering.{AsMany, used_marked, orders_in}
-use Rattle.names_law.proofs.Closed.{used_closed}
-use Rattle.names_law.proofs.Carried.{carried}
-use Rattle.names_law.proofs.Ranges.{ranges_kept}
-use Rattle.names_law.proofs.Ascending.{one_number}
+use Rattle.write_laws.specs.Used.{IsUsed, IsShort, IsClosed}
+use Rattle.write_laws.specs.Orders.{OrdersIn}
+use Rattle.write_laws.proofs.NamesOrdering.{AsMany, used_marked, orders_in}
+use Rattle.write_laws.proofs.Closed.{used_closed}
+use Rattle.write_laws.proofs.Carried.{carried}
+use Rattle.write_laws.proofs.Ranges.{ranges_kept}
+use Rattle.write_laws.proofs.Ascending.{one_number}
 
 module _ (p : Program) (i : Interner) (few : IsShort p) (h : IsInterned p i) where
   abbrev q : Program

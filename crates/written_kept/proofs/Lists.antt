@@ -14,9 +14,9 @@ use Rattle.program_model.specs.Distinct.{all_differ, differ_from, same_entry}
 use Rattle.program_model.specs.MemberRules.{in_groups}
 use Rattle.program_model.specs.Neighbours.{neighbours}
 use Rattle.dex_defs.specs.Written.{insert, in_order, one_entry, entries}
-use Rattle.names_law.proofs.Ascending.{is_at}
-use Rattle.names_law.proofs.Marking.{all_left, all_right}
-use Rattle.names_law.proofs.Reordered.{ordered}
+use Rattle.write_laws.proofs.Ascending.{is_at}
+use Rattle.write_laws.proofs.Marking.{all_left, all_right}
+use Rattle.write_laws.proofs.Reordered.{ordered}
 use Rattle.written_file.proofs.In.{In}
 use Rattle.written_file.proofs.Places.{has, below_tells}
 use Rattle.written_file.proofs.Sorting.{Differ, Once, once_of, differ_of}

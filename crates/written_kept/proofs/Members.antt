@@ -38,9 +38,9 @@ use Rattle.program_model.specs.declared.value.EncValue.TheFolds.{ind-EncValue}
 use Rattle.program_model.specs.declared.value.Element.{Element}
 use Rattle.program_model.specs.declared.value.Note.{Note}
 use Rattle.dex_defs.specs.Written.{in_order, new_string, new_type, new_proto, new_field, new_method, new_value, new_marks, new_body, written_proto, written_field_name, written_method_name, written_field, written_method, written_class, field_below, method_below, written_by}
-use Rattle.names_law.specs.Used.{IsUsed, IsShort, IsClosed}
-use Rattle.names_law.proofs.Closed.{used_closed}
-use Rattle.names_law.proofs.Marking.{all_left, all_right}
+use Rattle.write_laws.specs.Used.{IsUsed, IsShort, IsClosed}
+use Rattle.write_laws.proofs.Closed.{used_closed}
+use Rattle.write_laws.proofs.Marking.{all_left, all_right}
 use Rattle.written_file.proofs.In.{In, in_flat, all_in, all_of}
 use Rattle.written_file.proofs.Naming.{value_named}
 use Rattle.written_file.proofs.Sorting.{Differ, news_differ}

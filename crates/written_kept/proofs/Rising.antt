@@ -25,10 +25,10 @@ use Rattle.program_model.specs.TableRules.{type_fits, field_id_fits}
 use Rattle.program_model.specs.Texts.{has_string, has_type}
 use Rattle.class_defs.proofs.WellFormed.{Sound, sound}
 use Rattle.dex_defs.specs.Written.{new_string, new_type, new_field, written_field_name, written_by}
-use Rattle.names_law.specs.Ascending.{AllAscend}
-use Rattle.names_law.specs.Used.{IsUsed, IsShort, IsClosed, UsesField}
-use Rattle.names_law.proofs.Closed.{used_closed}
-use Rattle.names_law.proofs.Rising.{all_ascend}
+use Rattle.write_laws.specs.Ascending.{AllAscend}
+use Rattle.write_laws.specs.Used.{IsUsed, IsShort, IsClosed, UsesField}
+use Rattle.write_laws.proofs.Closed.{used_closed}
+use Rattle.write_laws.proofs.Rising.{all_ascend}
 use Rattle.write_laws.proofs.Tabled.{short_of, is_short}
 use Rattle.written_file.proofs.Fit.{Parts, parts_of}
 use Rattle.written_file.proofs.In.{in_got, all_in}

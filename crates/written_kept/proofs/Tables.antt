@@ -19,13 +19,13 @@ use Rattle.program_model.specs.declared.pools.MethodName.{MethodName}
 use Rattle.program_model.specs.declared.pools.Proto.{Proto}
 use Rattle.program_model.specs.declared.program.Program.{Program}
 use Rattle.dex_defs.specs.Written.{new_string, new_type, new_proto, written_proto, written_field_name, written_method_name, written_by}
-use Rattle.names_law.specs.Used.{IsSet, IsUsed, UsesProto, UsesField, UsesMethod, IsShort, IsClosed}
-use Rattle.names_law.specs.Owning.{IsNoLonger}
-use Rattle.names_law.specs.Ascending.{AllAscend}
-use Rattle.names_law.proofs.Closed.{used_closed}
-use Rattle.names_law.proofs.Owning.{order_set, no_longer}
-use Rattle.names_law.proofs.Ascending.{once}
-use Rattle.names_law.proofs.Rising.{all_ascend}
+use Rattle.write_laws.specs.Used.{IsSet, IsUsed, UsesProto, UsesField, UsesMethod, IsShort, IsClosed}
+use Rattle.write_laws.specs.Owning.{IsNoLonger}
+use Rattle.write_laws.specs.Ascending.{AllAscend}
+use Rattle.write_laws.proofs.Closed.{used_closed}
+use Rattle.write_laws.proofs.Owning.{order_set, no_longer}
+use Rattle.write_laws.proofs.Ascending.{once}
+use Rattle.write_laws.proofs.Rising.{all_ascend}
 use Rattle.read_laws.proofs.Differing.{texts_differ, types_differ, protos_differ, fields_differ, methods_differ}
 use Rattle.written_file.proofs.In.{all_in}
 use Rattle.written_kept.proofs.Kept.{Has, string_kept, type_kept, proto_kept, string_same, letter_same}

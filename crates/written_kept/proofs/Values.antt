@@ -28,8 +28,8 @@ use Rattle.program_model.specs.Neighbours.{neighbours}
 use Rattle.program_model.specs.Texts.{has_string, has_type}
 use Rattle.program_model.specs.ValueRules.{element_fits, named_in_order, note_fits, names_fit, value_fits, mark_fits, typed_in_order, marks_fit}
 use Rattle.dex_defs.specs.Written.{in_order, new_string, new_type, new_layer, new_element, new_note, new_value, new_mark, new_marks, written_by}
-use Rattle.names_law.specs.Used.{IsUsed, IsShort}
-use Rattle.names_law.proofs.Reordered.{ordered}
+use Rattle.write_laws.specs.Used.{IsUsed, IsShort}
+use Rattle.write_laws.proofs.Reordered.{ordered}
 use Rattle.written_file.proofs.In.{In, in_left, in_right, in_flat, in_joined, all_in}
 use Rattle.written_file.proofs.Naming.{element_named, value_named, note_named, element_of, note_of, element_is, note_is}
 use Rattle.written_file.proofs.Sorting.{Differ}

@@ -31,10 +31,10 @@ use Rattle.program_model.proofs.Formed.{Formed, formed, well_formed}
 use Rattle.class_defs.specs.ClassGraph.{IsTwice, IsAncestor}
 use Rattle.dex_defs.specs.Written.{in_order, new_type, new_field, new_marks, new_body, written_proto, written_field, written_method, written_class, field_below, method_below, class_order, entries, one_entry, written_by}
 use Rattle.dex_write.specs.Order.{IsOrder}
-use Rattle.names_law.specs.Used.{IsUsed, IsShort}
-use Rattle.names_law.proofs.Ascending.{once}
-use Rattle.names_law.proofs.Carried.{entries_long}
-use Rattle.names_law.proofs.Marking.{all_left}
+use Rattle.write_laws.specs.Used.{IsUsed, IsShort}
+use Rattle.write_laws.proofs.Ascending.{once}
+use Rattle.write_laws.proofs.Carried.{entries_long}
+use Rattle.write_laws.proofs.Marking.{all_left}
 use Rattle.write_laws.proofs.Tabled.{short_of, is_short}
 use Rattle.written_file.proofs.Fit.{Parts, parts_of, FitsClass, class_at_fits}
 use Rattle.written_file.proofs.In.{In, Place, place_in, in_left, in_right, in_flat, all_of}

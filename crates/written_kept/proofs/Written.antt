@@ -27,11 +27,11 @@ use Rattle.program_model.specs.ProgramRules.{is_well_formed}
 use Rattle.program_model.specs.declared.program.Method.{Method}
 use Rattle.program_model.specs.declared.program.Class.{Class}
 use Rattle.program_model.specs.declared.program.Program.{Program}
-use Rattle.names_law.specs.Used.{IsShort}
+use Rattle.write_laws.specs.Used.{IsShort}
 use Rattle.pass_defs.specs.Typed.{Table, IsTyping, IsTyped}
-use Rattle.names_law.specs.Members.{KeepsMethod, KeepsClass}
-use Rattle.names_law.proofs.Carried.{entries_long}
-use Rattle.names_law.proofs.Keeping.{classes_kept}
+use Rattle.write_laws.specs.Members.{KeepsMethod, KeepsClass}
+use Rattle.write_laws.proofs.Carried.{entries_long}
+use Rattle.write_laws.proofs.Keeping.{classes_kept}
 use Rattle.write_laws.proofs.Tabled.{short_of, is_short}
 use Rattle.removal_law.specs.Reach.{TellsApart}
 use Rattle.removal_law.proofs.Lists.{clash}

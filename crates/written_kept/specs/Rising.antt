@@ -8,7 +8,7 @@ use Rattle.dex_pools.specs.Numbering.{used_in}
 use Rattle.dex_pools.specs.Order.{list_below, field_below}
 use Rattle.program_model.specs.declared.program.Program.{Program}
 use Rattle.dex_defs.specs.Written.{new_field}
-use Rattle.names_law.specs.Used.{IsUsed}
+use Rattle.write_laws.specs.Used.{IsUsed}
 
 -- new numbers of used fields rise with the old ones
 pub record FieldsRise (p : Program) (i : Interner) : Type 0 where

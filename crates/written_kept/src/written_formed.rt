@@ -20,7 +20,7 @@ ghost use Rattle.program_model.specs.MemberRules.{class_fits};
 ghost use Rattle.program_model.specs.declared.program.Class.{Class};
 ghost use Rattle.program_model.specs.ValueRules.{marks_fit};
 ghost use Rattle.program_model.specs.declared.value.Mark.{Mark};
-ghost use Rattle.names_law.specs.Used.{IsShort, IsUsed};
+ghost use Rattle.write_laws.specs.Used.{IsShort, IsUsed};
 ghost use Rattle.dex_defs.specs.Written.{new_body, new_marks, written_by, written_class};
 
 /// The tables of the written program of a program whose tables fit do so, where it has no more classes.

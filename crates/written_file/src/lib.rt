@@ -3,8 +3,6 @@
 //! directories and first values where they are named, so that the file is valid where classes are spelled and their code stands
 //! (written_classes). It declares no types of its own; its functions have an empty body, and their contracts are the laws.
 //!
-//! Laws.
-//!
 //! The parts of the classes of a written file, and where they are named: members in order, sets, directories, and first values,
 //! whose texts are those of the written program.
 //!

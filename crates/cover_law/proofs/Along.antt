@@ -42,14 +42,14 @@ use Rattle.cover_law.specs.Sound.{AreSmall, IsSmall, IsSoundOn, IsWord, NumberOf
 use Rattle.cover_law.proofs.Numbers.{cut}
 use Rattle.pass_defs.specs.Analysis.{Analysis, IsRanged, Holds, HoldsBoth, IsNone, IsReference, on_sort, on_number, read_item}
 use Rattle.run_facts.specs.Closed.{put, put_wide, put_sized, moved, refined, refined_both, then_put, arm, cases, keys_of, switched, edges, packed_key, packed_keys}
-use Rattle.invariant_law.specs.Fine.{IsThere}
-use Rattle.invariant_law.specs.Holds.{Each}
-use Rattle.invariant_law.specs.Invariant.{Grows}
-use Rattle.invariant_law.proofs.Growing.{grows_same, grows_with, grows_put, kind_later}
-use Rattle.invariant_law.proofs.Fine.{each_get}
-use Rattle.stuck_law.proofs.Climbs.{none_some, some_one}
-use Rattle.stuck_law.proofs.ArrayForms.{kind_new}
-use Rattle.form_law.specs.Changes.{operands}
+use Rattle.run_laws.specs.Fine.{IsThere}
+use Rattle.run_laws.specs.Holds.{Each}
+use Rattle.run_laws.specs.Invariant.{Grows}
+use Rattle.run_laws.proofs.Growing.{grows_same, grows_with, grows_put, kind_later}
+use Rattle.run_laws.proofs.Fine.{each_get}
+use Rattle.run_laws.proofs.Climbs.{none_some, some_one}
+use Rattle.run_laws.proofs.ArrayForms.{kind_new}
+use Rattle.form_laws.specs.Changes.{operands}
 
 -- ---- registers that are written
 

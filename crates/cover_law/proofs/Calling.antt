@@ -37,20 +37,20 @@ use Rattle.pass_defs.specs.Live.{IsMade, unconditional}
 use Rattle.pass_defs.specs.Typed.{finds_static, is_static_call, words_of}
 use Rattle.pass_defs.specs.Demands.{Constructed, Fits, is_constructed, is_constructor_name, meets, passed}
 use Rattle.pass_defs.specs.Registers.{kind_at}
-use Rattle.invariant_law.specs.Invariant.{Callee, Owing}
-use Rattle.invariant_law.proofs.Fine.{each_get, each_or}
-use Rattle.invariant_law.proofs.Growing.{grows_same}
-use Rattle.invariant_law.proofs.Stacked.{EnteredOver}
+use Rattle.run_laws.specs.Invariant.{Callee, Owing}
+use Rattle.run_laws.proofs.Fine.{each_get, each_or}
+use Rattle.run_laws.proofs.Growing.{grows_same}
+use Rattle.run_laws.proofs.Stacked.{EnteredOver}
 use Rattle.run_facts.specs.Covered.{Sees, CoversTop, CoversWorld, AwaitsCall, Used}
-use Rattle.stuck_law.specs.TypedStates.{KindHolds, TypedFrame, TypedWorld}
-use Rattle.stuck_law.proofs.Settled.{IsSettled, IsFound, FindsRegularly}
-use Rattle.stuck_law.proofs.Registers.{and_left, and_right}
-use Rattle.stuck_law.proofs.Climbs.{none_some, some_one, or_cases, under_self, step_up, defined_by, plain_by, plain_defined}
-use Rattle.stuck_law.proofs.Arrays.{true_false}
-use Rattle.stuck_law.proofs.Calls.{right_method, right_super, own_class, virtual_object, virtual_flags}
-use Rattle.stuck_law.proofs.FieldForms.{fitting}
-use Rattle.stuck_law.proofs.Forms.{first_in, or_right, reg_held}
-use Rattle.stuck_law.proofs.Here.{setting, get_contains}
+use Rattle.run_laws.specs.TypedStates.{KindHolds, TypedFrame, TypedWorld}
+use Rattle.run_laws.proofs.Settled.{IsSettled, IsFound, FindsRegularly}
+use Rattle.run_laws.proofs.Registers.{and_left, and_right}
+use Rattle.run_laws.proofs.Climbs.{none_some, some_one, or_cases, under_self, step_up, defined_by, plain_by, plain_defined}
+use Rattle.run_laws.proofs.Arrays.{true_false}
+use Rattle.run_laws.proofs.Calls.{right_method, right_super, own_class, virtual_object, virtual_flags}
+use Rattle.run_laws.proofs.FieldForms.{fitting}
+use Rattle.run_laws.proofs.Forms.{first_in, or_right, reg_held}
+use Rattle.run_laws.proofs.Here.{setting, get_contains}
 use Rattle.cover_law.proofs.Ready.{IsReady}
 use Rattle.cover_law.specs.Known.{KnownFrame, KnownWorld, MadeThing}
 use Rattle.cover_law.proofs.Along.{Looks}

@@ -30,11 +30,11 @@ use Rattle.pass_defs.specs.Registers.{Kinds, all_below, state_below}
 use Rattle.pass_defs.specs.Typed.{Table, IsTyping, state_at, at_state, arrives, after, begun, edges as typed_edges, catches}
 use Rattle.pass_defs.specs.Walks.{form_at, onward}
 use Rattle.run_facts.specs.Covered.{Sees, SeesAll, TakesFrom, CoversTop}
-use Rattle.stuck_law.specs.TypedStates.{TypedFrame}
-use Rattle.stuck_law.proofs.Settled.{IsSettled}
-use Rattle.stuck_law.proofs.Registers.{and_left, and_right}
-use Rattle.stuck_law.proofs.Climbs.{none_some, some_one}
-use Rattle.stuck_law.proofs.Here.{At, each_at, all_in, into_left, into_map}
+use Rattle.run_laws.specs.TypedStates.{TypedFrame}
+use Rattle.run_laws.proofs.Settled.{IsSettled}
+use Rattle.run_laws.proofs.Registers.{and_left, and_right}
+use Rattle.run_laws.proofs.Climbs.{none_some, some_one}
+use Rattle.run_laws.proofs.Here.{At, each_at, all_in, into_left, into_map}
 use Rattle.cover_law.proofs.Ready.{IsReady}
 
 -- ---- positions where there is no result

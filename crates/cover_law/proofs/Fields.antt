@@ -24,15 +24,15 @@ use Rattle.dalvik_defs.specs.declared.tables.Framework.{Framework}
 use Rattle.pass_defs.specs.Analysis.{Analysis, read_item}
 use Rattle.pass_defs.specs.Facts.{Facts, own_key, begun_with}
 use Rattle.pass_defs.specs.Typed.{wrong_item}
-use Rattle.invariant_law.specs.Fine.{IsThere}
-use Rattle.invariant_law.specs.Invariant.{Grows}
-use Rattle.invariant_law.proofs.Growing.{grows_same, grows_put}
+use Rattle.run_laws.specs.Fine.{IsThere}
+use Rattle.run_laws.specs.Invariant.{Grows}
+use Rattle.run_laws.proofs.Growing.{grows_same, grows_put}
 use Rattle.run_facts.specs.Covered.{Sees, CoversWorld}
-use Rattle.stuck_law.specs.TypedStates.{KindHolds, ValueOf}
-use Rattle.stuck_law.proofs.Settled.{IsSettled}
-use Rattle.stuck_law.proofs.Registers.{and_left, and_right}
-use Rattle.stuck_law.proofs.Climbs.{none_some, some_one, class_in}
-use Rattle.stuck_law.proofs.Forms.{wide_kind}
+use Rattle.run_laws.specs.TypedStates.{KindHolds, ValueOf}
+use Rattle.run_laws.proofs.Settled.{IsSettled}
+use Rattle.run_laws.proofs.Registers.{and_left, and_right}
+use Rattle.run_laws.proofs.Climbs.{none_some, some_one, class_in}
+use Rattle.run_laws.proofs.Forms.{wide_kind}
 use Rattle.cover_law.proofs.Ready.{IsReady}
 use Rattle.cover_law.proofs.Along.{sees_later}
 use Rattle.cover_law.proofs.Worlds.{FieldsThere}

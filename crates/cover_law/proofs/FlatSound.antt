@@ -25,7 +25,7 @@ use Rattle.dalvik_defs.specs.State.{word_of}
 use Rattle.dalvik_defs.specs.declared.state.Value.{Value}
 use Rattle.dalvik_defs.specs.declared.state.Value.TheVariants.{Word, Low}
 use Rattle.dalvik_defs.specs.declared.tables.Floats.{Floats}
-use Rattle.stuck_law.proofs.Climbs.{none_some, some_one}
+use Rattle.run_laws.proofs.Climbs.{none_some, some_one}
 use Rattle.pass_defs.specs.Flat.{Flat, Bottom, KnownWord, KnownWide, Any, FlatBelow, of_words, of_wides, of_shift, of_number, word_or_none, wide_or_none, flat_of, flat_sort, flat_literal, flat_stored, flat_unary, flat_compared, flat_outcome, flat_zero, flat_number, no_floats, is_exact}
 use Rattle.pass_defs.specs.Analysis.{IsSound, Holds, HoldsBoth, IsNone, on_sort, on_number}
 use Rattle.pass_defs.specs.FlatAnalysis.{flat_holds, same_bool, flat_tested, flat_keyed, flat_unkeyed, flat_analysis}

@@ -28,16 +28,16 @@ use Rattle.dalvik_defs.specs.declared.tables.Framework.{Framework}
 use Rattle.pass_defs.specs.Analysis.{IsRanged}
 use Rattle.pass_defs.specs.Facts.{IsEnteredStatic}
 use Rattle.pass_defs.specs.Live.{IsMade, unconditional}
-use Rattle.invariant_law.specs.Fine.{IsThere}
-use Rattle.invariant_law.specs.Holds.{Each}
-use Rattle.invariant_law.proofs.Fine.{each_append, each_get, each_to, new_there}
-use Rattle.invariant_law.proofs.Growing.{grows_with, there_later}
-use Rattle.stuck_law.specs.TypedStates.{IsObject, TypedWorld}
-use Rattle.stuck_law.proofs.Settled.{IsSettled, FindsRegularly}
-use Rattle.stuck_law.proofs.Climbs.{none_some, some_one, class_in, defined_below, found_in_list}
-use Rattle.stuck_law.proofs.Framework.{object_under}
-use Rattle.stuck_law.proofs.Values.{instance_thing}
-use Rattle.stuck_law.proofs.Worlds.{at_typed}
+use Rattle.run_laws.specs.Fine.{IsThere}
+use Rattle.run_laws.specs.Holds.{Each}
+use Rattle.run_laws.proofs.Fine.{each_append, each_get, each_to, new_there}
+use Rattle.run_laws.proofs.Growing.{grows_with, there_later}
+use Rattle.run_laws.specs.TypedStates.{IsObject, TypedWorld}
+use Rattle.run_laws.proofs.Settled.{IsSettled, FindsRegularly}
+use Rattle.run_laws.proofs.Climbs.{none_some, some_one, class_in, defined_below, found_in_list}
+use Rattle.run_laws.proofs.Framework.{object_under}
+use Rattle.run_laws.proofs.Values.{instance_thing}
+use Rattle.run_laws.proofs.Worlds.{at_typed}
 use Rattle.cover_law.specs.Known.{KnownWorld, MadeThing, RangedGiven, MaybeGiven, MaybeRanged}
 use Rattle.cover_law.proofs.Worlds.{SameFields, same_heap, same_world, same_with, same_then}
 

@@ -24,3 +24,6 @@ pub mod Runs
 pub mod ValueSound
 pub mod Suits
 mod SoundOn
+mod ValueNumbers
+mod Tests
+pub mod Sound

@@ -38,10 +38,10 @@ use Rattle.dalvik_defs.specs.declared.tables.Floats.{Floats}
 use Rattle.dalvik_defs.specs.declared.tables.Framework.{Framework}
 use Rattle.pass_defs.specs.Bare.{may_throw}
 use Rattle.pass_defs.specs.Live.{Family, IsClosedFamily, IsLiveMethod, unconditional}
-use Rattle.invariant_law.specs.Holds.{Each}
-use Rattle.invariant_law.specs.Invariant.{Invariant}
-use Rattle.invariant_law.proofs.Stacked.{KeptOver, LeadsOver, LandedOver, EnteredOver, ShownOver, WrittenOver}
-use Rattle.stuck_law.proofs.Climbs.{none_some, some_one}
+use Rattle.run_laws.specs.Holds.{Each}
+use Rattle.run_laws.specs.Invariant.{Invariant}
+use Rattle.run_laws.proofs.Stacked.{KeptOver, LeadsOver, LandedOver, EnteredOver, ShownOver, WrittenOver}
+use Rattle.run_laws.proofs.Climbs.{none_some, some_one}
 use Rattle.removal_law.specs.Agree.{searched, sieve, sieved, Agree, AgreeOnDeclared, CalmDone, Each as EachOf}
 use Rattle.removal_law.specs.Left.{left_of}
 use Rattle.removal_law.specs.Reach.{OkType, MadeType, LiveMethod, Says, ReachedAt, LeftAgrees, is_idle}

@@ -21,7 +21,7 @@ use Rattle.dalvik_defs.specs.declared.forms.Form.{Form}
 use Rattle.dalvik_defs.specs.declared.forms.Form.TheVariants as form
 use Rattle.dalvik_defs.specs.declared.tables.Floats.{Floats}
 use Rattle.pass_defs.specs.Bare.{may_throw}
-use Rattle.stuck_law.proofs.Forms.{sort_divides, sort_throws, divides_op, literal_divides}
+use Rattle.run_laws.proofs.Forms.{sort_divides, sort_throws, divides_op, literal_divides}
 use Rattle.cover_law.proofs.Worlds.{SameFields, same_world, same_with, same_put}
 
 -- what stays in its frame: no call, no field, no monitor, no class and no end

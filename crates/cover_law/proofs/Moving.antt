@@ -28,18 +28,18 @@ use Rattle.dalvik_defs.specs.declared.tables.Framework.{Framework}
 use Rattle.pass_defs.specs.Analysis.{Analysis, IsRanged}
 use Rattle.run_facts.specs.Closed.{IsEntered, Enters, Makes}
 use Rattle.pass_defs.specs.Facts.{Facts, Initialises, Itself, First, IsEnteredStatic, IsEnteredOn}
-use Rattle.invariant_law.specs.Fine.{IsThere}
-use Rattle.invariant_law.specs.Holds.{Each}
-use Rattle.invariant_law.proofs.Fine.{each_get}
-use Rattle.invariant_law.proofs.Plain.{gets_grow}
-use Rattle.invariant_law.proofs.Stacked.{EnteredOver, WrittenOver}
+use Rattle.run_laws.specs.Fine.{IsThere}
+use Rattle.run_laws.specs.Holds.{Each}
+use Rattle.run_laws.proofs.Fine.{each_get}
+use Rattle.run_laws.proofs.Plain.{gets_grow}
+use Rattle.run_laws.proofs.Stacked.{EnteredOver, WrittenOver}
 use Rattle.run_facts.specs.Covered.{Sees, CoversClass, CoversWorld}
-use Rattle.stuck_law.specs.TypedStates.{TypedWorld}
-use Rattle.stuck_law.proofs.Settled.{IsSettled, FindsRegularly}
-use Rattle.stuck_law.proofs.Registers.{and_left, and_right}
-use Rattle.stuck_law.proofs.Climbs.{none_some, defined_by}
-use Rattle.stuck_law.proofs.Framework.{untrue}
-use Rattle.stuck_law.proofs.Here.{setting}
+use Rattle.run_laws.specs.TypedStates.{TypedWorld}
+use Rattle.run_laws.proofs.Settled.{IsSettled, FindsRegularly}
+use Rattle.run_laws.proofs.Registers.{and_left, and_right}
+use Rattle.run_laws.proofs.Climbs.{none_some, defined_by}
+use Rattle.run_laws.proofs.Framework.{untrue}
+use Rattle.run_laws.proofs.Here.{setting}
 use Rattle.cover_law.proofs.Ready.{IsReady}
 use Rattle.cover_law.specs.Known.{KnownWorld}
 use Rattle.cover_law.proofs.Entering.{Passes, entry_top}

@@ -35,14 +35,14 @@ use Rattle.dalvik_defs.specs.declared.tables.Floats.{Floats}
 use Rattle.dalvik_defs.specs.declared.tables.Framework.{Framework}
 use Rattle.pass_defs.specs.Analysis.{Analysis, IsRanged}
 use Rattle.pass_defs.specs.Facts.{Facts}
-use Rattle.invariant_law.specs.Holds.{Each}
-use Rattle.invariant_law.specs.Invariant.{Invariant}
-use Rattle.invariant_law.proofs.Fine.{each_join, each_same, each_set}
-use Rattle.invariant_law.proofs.Stacked.{KeptOver, LeadsOver, LandedOver, EnteredOver, ShownOver, WrittenOver}
-use Rattle.stuck_law.specs.TypedStates.{TypedFrame, typed_states}
-use Rattle.stuck_law.proofs.Settled.{IsSettled, FindsRegularly}
-use Rattle.stuck_law.proofs.Climbs.{none_some, some_one}
-use Rattle.stuck_law.proofs.Here.{at_form, get_contains, setting}
+use Rattle.run_laws.specs.Holds.{Each}
+use Rattle.run_laws.specs.Invariant.{Invariant}
+use Rattle.run_laws.proofs.Fine.{each_join, each_same, each_set}
+use Rattle.run_laws.proofs.Stacked.{KeptOver, LeadsOver, LandedOver, EnteredOver, ShownOver, WrittenOver}
+use Rattle.run_laws.specs.TypedStates.{TypedFrame, typed_states}
+use Rattle.run_laws.proofs.Settled.{IsSettled, FindsRegularly}
+use Rattle.run_laws.proofs.Climbs.{none_some, some_one}
+use Rattle.run_laws.proofs.Here.{at_form, get_contains, setting}
 use Rattle.cover_law.proofs.Ready.{IsReady}
 use Rattle.cover_law.specs.Known.{MaybeGiven, MaybeRanged, RangedFrame, RangedGiven, RangedThing, RangedWorld, ranged_states}
 use Rattle.cover_law.proofs.Fields.{found_own}

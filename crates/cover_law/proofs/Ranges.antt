@@ -36,13 +36,13 @@ use Rattle.dalvik_defs.specs.declared.names.FieldKey.{FieldKey}
 use Rattle.dalvik_defs.specs.declared.forms.Form.{Form}
 use Rattle.dalvik_defs.specs.declared.forms.Form.TheVariants as form
 use Rattle.dalvik_defs.specs.declared.tables.Floats.{Floats}
-use Rattle.invariant_law.specs.Holds.{Each}
-use Rattle.invariant_law.proofs.Growing.{show_heap, option_heap, all_heap}
-use Rattle.invariant_law.proofs.Fine.{each_append, each_set, each_get, each_or, each_join, each_drop, each_map, each_same}
+use Rattle.run_laws.specs.Holds.{Each}
+use Rattle.run_laws.proofs.Growing.{show_heap, option_heap, all_heap}
+use Rattle.run_laws.proofs.Fine.{each_append, each_set, each_get, each_or, each_join, each_drop, each_map, each_same}
 use Rattle.std.proofs.lemmas.Bool.{ltb-true, lt-ltb}
 use Rattle.dalvik_defs.specs.Operators.{float_answer}
 use Rattle.pass_defs.specs.Analysis.{IsRanged}
-use Rattle.stuck_law.proofs.Climbs.{none_some, some_one}
+use Rattle.run_laws.proofs.Climbs.{none_some, some_one}
 use Rattle.cover_law.specs.Coverable.{IsFormed}
 use Rattle.cover_law.specs.Sound.{IsSmall}
 use Rattle.cover_law.specs.Known.{MaybeRanged, RangedThing, RangedWorld, RangedFrame}

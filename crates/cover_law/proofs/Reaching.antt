@@ -28,7 +28,7 @@ use Rattle.pass_defs.specs.Calls.{is_within}
 use Rattle.run_facts.specs.Closed.{IsBound}
 use Rattle.pass_defs.specs.Facts.{IsEnteredOn, finds_itself, is_called_back, answers_kept as answers_by, keeps_virtual}
 use Rattle.pass_defs.specs.Live.{IsMade, KeepsAbove, everything, unconditional}
-use Rattle.stuck_law.proofs.Settled.{IsSettled, FindsRegularly, IsFound}
+use Rattle.run_laws.proofs.Settled.{IsSettled, FindsRegularly, IsFound}
 use Rattle.removal_law.specs.Left.{In, NamesNone}
 use Rattle.removal_law.specs.Reach.{IsRegular, IsSoundTable, TellsProtos}
 use Rattle.removal_law.proofs.CallsLeft.{is_called_outside}

@@ -27,7 +27,7 @@ use Rattle.dalvik_defs.specs.declared.program.NamedClass.{NamedClass}
 use Rattle.dalvik_defs.specs.declared.program.NamedProgram.{NamedProgram}
 use Rattle.dalvik_defs.specs.declared.tables.Floats.{Floats}
 use Rattle.dalvik_defs.specs.declared.tables.Framework.{Framework}
-use Rattle.form_law.specs.Changes.{operands}
+use Rattle.form_laws.specs.Changes.{operands}
 use Rattle.pass_defs.specs.Analysis.{Analysis}
 use Rattle.pass_defs.specs.Facts.{Facts}
 use Rattle.pass_defs.specs.Kinds.{Kind, kind_eq, is_number, is_initialised, is_plain, is_below, is_program_interface, is_null, fits, fits_holder, fits_array}
@@ -36,12 +36,12 @@ use Rattle.pass_defs.specs.Registers.{kind_at}
 use Rattle.pass_defs.specs.Demands.{Demand, Moved, Number, Pair, Behind, Initialised, Either, Fits, Receiver, Holder, Constructed, AnArray, ArrayOf, Filled, is_moved, is_array_where, is_constructed, holds_field, item_eq, has_width, meets, wide_or, number_or_pair, of_type, slot_demand, is_equality, tested, second_tested, like, put_item, passed, passed_wide, is_constructor_name, found_class}
 use Rattle.pass_defs.specs.Typed.{passed_words, wrong_method, wrong_super, words_of}
 use Rattle.run_facts.specs.Covered.{Sees, SeesAll}
-use Rattle.stuck_law.specs.TypedStates.{TypedFrame}
-use Rattle.stuck_law.proofs.Settled.{IsSettled}
-use Rattle.stuck_law.proofs.Registers.{and_left, and_right, all_long}
-use Rattle.stuck_law.proofs.Climbs.{or_cases}
-use Rattle.stuck_law.proofs.Here.{At}
-use Rattle.stuck_law.proofs.Forms.{or_right}
+use Rattle.run_laws.specs.TypedStates.{TypedFrame}
+use Rattle.run_laws.proofs.Settled.{IsSettled}
+use Rattle.run_laws.proofs.Registers.{and_left, and_right, all_long}
+use Rattle.run_laws.proofs.Climbs.{or_cases}
+use Rattle.run_laws.proofs.Here.{At}
+use Rattle.run_laws.proofs.Forms.{or_right}
 
 -- ---- kinds that meet a demand are known
 

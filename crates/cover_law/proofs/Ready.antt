@@ -24,8 +24,8 @@ use Rattle.pass_defs.specs.Calls.{is_within}
 use Rattle.run_facts.specs.Closed.{IsBound, IsClosed}
 use Rattle.pass_defs.specs.Facts.{Facts, IsEnteredOn, may_be_made}
 use Rattle.pass_defs.specs.Live.{IsMade, unconditional}
-use Rattle.silence_law.specs.Results.{AllTakeInPlace}
-use Rattle.stuck_law.specs.Regular.{IsRegular}
+use Rattle.program_laws.specs.Results.{AllTakeInPlace}
+use Rattle.run_laws.specs.Regular.{IsRegular}
 use Rattle.cover_law.specs.Coverable.{IsFormed}
 use Rattle.cover_law.specs.Sound.{IsSoundOn}
 

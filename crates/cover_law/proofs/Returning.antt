@@ -31,23 +31,23 @@ use Rattle.pass_defs.specs.Facts.{Facts, IsEnteredOn, own_key}
 use Rattle.pass_defs.specs.Kinds as kind
 use Rattle.pass_defs.specs.Typed.{receiver_register, is_static_call, words_of}
 use Rattle.pass_defs.specs.Walks.{form_at}
-use Rattle.invariant_law.specs.Fine.{IsThere}
-use Rattle.invariant_law.specs.Holds.{Each}
-use Rattle.invariant_law.specs.Invariant.{Callee}
-use Rattle.invariant_law.proofs.Fine.{each_get}
-use Rattle.invariant_law.proofs.Growing.{grows_same}
-use Rattle.invariant_law.proofs.Stacked.{LandedOver}
+use Rattle.run_laws.specs.Fine.{IsThere}
+use Rattle.run_laws.specs.Holds.{Each}
+use Rattle.run_laws.specs.Invariant.{Callee}
+use Rattle.run_laws.proofs.Fine.{each_get}
+use Rattle.run_laws.proofs.Growing.{grows_same}
+use Rattle.run_laws.proofs.Stacked.{LandedOver}
 use Rattle.run_facts.specs.Covered.{Sees, SeesAll, Stands, CoversTop, AwaitsCall, AwaitsAnswer, Used}
-use Rattle.silence_law.specs.Results.{gives_result}
-use Rattle.stuck_law.specs.TypedStates.{MaybeOf, AskedOf, TypedFrame}
-use Rattle.stuck_law.specs.Regular.{reads_value}
-use Rattle.stuck_law.proofs.Settled.{IsSettled}
-use Rattle.stuck_law.proofs.Climbs.{none_some, some_one}
-use Rattle.stuck_law.proofs.Sorts.{Sorted, OfWord, OfWide, OfReference, OfNone, sorted}
-use Rattle.stuck_law.proofs.Arrays.{true_false}
-use Rattle.stuck_law.proofs.Forms.{first_in}
-use Rattle.stuck_law.proofs.Here.{setting, own_body, get_contains, at_form}
-use Rattle.stuck_law.proofs.Here as typed
+use Rattle.program_laws.specs.Results.{gives_result}
+use Rattle.run_laws.specs.TypedStates.{MaybeOf, AskedOf, TypedFrame}
+use Rattle.run_laws.specs.Regular.{reads_value}
+use Rattle.run_laws.proofs.Settled.{IsSettled}
+use Rattle.run_laws.proofs.Climbs.{none_some, some_one}
+use Rattle.run_laws.proofs.Sorts.{Sorted, OfWord, OfWide, OfReference, OfNone, sorted}
+use Rattle.run_laws.proofs.Arrays.{true_false}
+use Rattle.run_laws.proofs.Forms.{first_in}
+use Rattle.run_laws.proofs.Here.{setting, own_body, get_contains, at_form}
+use Rattle.run_laws.proofs.Here as typed
 use Rattle.cover_law.proofs.Ready.{IsReady}
 use Rattle.cover_law.specs.Known.{KnownWorld, MaybeRanged, RangedThing}
 use Rattle.cover_law.proofs.Along.{Along, closer, item_ranged, then_item, just_item}

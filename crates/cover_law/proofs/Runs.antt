@@ -30,12 +30,12 @@ use Rattle.pass_defs.specs.Bare.{may_throw}
 use Rattle.pass_defs.specs.Facts.{Facts}
 use Rattle.pass_defs.specs.Live.{Family, IsClosedFamily, unconditional}
 use Rattle.pass_defs.specs.Walks.{form_at}
-use Rattle.invariant_law.specs.Holds.{Each, Holds as HoldsBy}
-use Rattle.invariant_law.specs.Invariant.{Invariant, Above, Callee, Owing, both}
-use Rattle.invariant_law.proofs.Fine.{stored_there}
-use Rattle.invariant_law.proofs.Plain.{grown, keeps_plainly, got_grows}
-use Rattle.invariant_law.proofs.Stacked.{KeptOver, LandedOver, ShownOver, keeps_both}
-use Rattle.invariant_law.proofs.Invariants.{holds_after, opens_with}
+use Rattle.run_laws.specs.Holds.{Each, Holds as HoldsBy}
+use Rattle.run_laws.specs.Invariant.{Invariant, Above, Callee, Owing, both}
+use Rattle.run_laws.proofs.Fine.{stored_there}
+use Rattle.run_laws.proofs.Plain.{grown, keeps_plainly, got_grows}
+use Rattle.run_laws.proofs.Stacked.{KeptOver, LandedOver, ShownOver, keeps_both}
+use Rattle.run_laws.proofs.Invariants.{holds_after, opens_with}
 use Rattle.run_facts.specs.Covered.{CoversTop, CoversWaiting, CoversWorld, CoversResult, covering}
 use Rattle.removal_law.specs.Reach.{DefinesOnce, LeftAgrees, TellsProtos}
 use Rattle.removal_law.proofs.Acyclic.{regular as upright}
@@ -44,15 +44,15 @@ use Rattle.removal_law.proofs.Lists.{contained}
 use Rattle.removal_law.proofs.Protos.{told_apart, protos_told}
 use Rattle.removal_law.proofs.Removal.{faces_agree}
 use Rattle.removal_law.proofs.TypedCode.{typed_code}
-use Rattle.stuck_law.specs.Regular.{IsRegular}
-use Rattle.stuck_law.specs.TypedStates.{AskedOf, MaybeOf, TypedWaiting, TypedWorld, typed_states}
-use Rattle.stuck_law.proofs.Settled.{IsSettled, FindsRegularly}
-use Rattle.stuck_law.proofs.Registers.{and_left, and_right}
-use Rattle.stuck_law.proofs.Climbs.{class_in, none_some, some_one}
-use Rattle.stuck_law.proofs.Here.{setting}
-use Rattle.stuck_law.proofs.Runs.{keeps_typed, typed_opening, settled}
-use Rattle.stuck_law.proofs.Searches.{finds_regularly}
-use Rattle.stuck_law.proofs.Worlds.{waiting_later}
+use Rattle.run_laws.specs.Regular.{IsRegular}
+use Rattle.run_laws.specs.TypedStates.{AskedOf, MaybeOf, TypedWaiting, TypedWorld, typed_states}
+use Rattle.run_laws.proofs.Settled.{IsSettled, FindsRegularly}
+use Rattle.run_laws.proofs.Registers.{and_left, and_right}
+use Rattle.run_laws.proofs.Climbs.{class_in, none_some, some_one}
+use Rattle.run_laws.proofs.Here.{setting}
+use Rattle.run_laws.proofs.Runs.{keeps_typed, typed_opening, settled}
+use Rattle.run_laws.proofs.Searches.{finds_regularly}
+use Rattle.run_laws.proofs.Worlds.{waiting_later}
 use Rattle.cover_law.specs.Coverable.{IsCoverable}
 use Rattle.cover_law.proofs.Ready.{IsReady}
 use Rattle.cover_law.proofs.Reaching.{reaches}

@@ -27,16 +27,16 @@ use Rattle.pass_defs.specs.Analysis.{Analysis}
 use Rattle.pass_defs.specs.Facts.{Facts, needs}
 use Rattle.pass_defs.specs.Registers.{kind_at}
 use Rattle.run_facts.specs.Closed.{At, Arrives, put_sized, is_wide_slot, refined, refined_both, arm, cases, keys_of, switched, edges, after, packed_keys}
-use Rattle.invariant_law.specs.Fine.{IsThere}
-use Rattle.invariant_law.specs.Invariant.{Above, Begun, Grows}
+use Rattle.run_laws.specs.Fine.{IsThere}
+use Rattle.run_laws.specs.Invariant.{Above, Begun, Grows}
 use Rattle.run_facts.specs.Covered.{SeesAll, Stands, TakesFrom, CoversTop, CoversWaiting}
-use Rattle.silence_law.specs.Results.{gives_result, takes_none, TakesInPlace}
-use Rattle.stuck_law.specs.TypedStates.{TypedFrame, TypedWaiting}
-use Rattle.stuck_law.proofs.Settled.{IsSettled}
-use Rattle.stuck_law.proofs.Registers.{there_held, all_at}
-use Rattle.stuck_law.proofs.Climbs.{none_some, some_one, found_in_list}
-use Rattle.stuck_law.proofs.Here.{all_in, into_left, into_right, into_map, own_body}
-use Rattle.stuck_law.proofs.Forms.{first_in, later_in}
+use Rattle.program_laws.specs.Results.{gives_result, takes_none, TakesInPlace}
+use Rattle.run_laws.specs.TypedStates.{TypedFrame, TypedWaiting}
+use Rattle.run_laws.proofs.Settled.{IsSettled}
+use Rattle.run_laws.proofs.Registers.{there_held, all_at}
+use Rattle.run_laws.proofs.Climbs.{none_some, some_one, found_in_list}
+use Rattle.run_laws.proofs.Here.{all_in, into_left, into_right, into_map, own_body}
+use Rattle.run_laws.proofs.Forms.{first_in, later_in}
 use Rattle.cover_law.proofs.Ready.{IsReady}
 use Rattle.cover_law.proofs.Along.{sees_later, read}
 

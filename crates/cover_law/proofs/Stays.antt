@@ -29,23 +29,23 @@ use Rattle.run_facts.specs.Closed.{At, put_sized, is_wide_slot, edges, Filled}
 use Rattle.pass_defs.specs.Facts.{Facts}
 use Rattle.pass_defs.specs.Kinds.{kind_eq, is_initialised}
 use Rattle.pass_defs.specs.Kinds as kind
-use Rattle.invariant_law.specs.Fine.{IsThere}
-use Rattle.invariant_law.specs.Holds.{Each}
-use Rattle.invariant_law.specs.Invariant.{Invariant, both}
-use Rattle.invariant_law.proofs.Fine.{each_get}
-use Rattle.invariant_law.proofs.Growing.{act_grows, EffectGrows}
-use Rattle.invariant_law.proofs.Stacked.{LeadsOver, LandedOver}
+use Rattle.run_laws.specs.Fine.{IsThere}
+use Rattle.run_laws.specs.Holds.{Each}
+use Rattle.run_laws.specs.Invariant.{Invariant, both}
+use Rattle.run_laws.proofs.Fine.{each_get}
+use Rattle.run_laws.proofs.Growing.{act_grows, EffectGrows}
+use Rattle.run_laws.proofs.Stacked.{LeadsOver, LandedOver}
 use Rattle.run_facts.specs.Covered.{SeesAll, TakesFrom, CoversTop, CoversWorld, covering}
-use Rattle.silence_law.specs.Results.{gives_result}
-use Rattle.stuck_law.specs.TypedStates.{KindHolds, TypedFrame, TypedWorld, typed_states}
-use Rattle.stuck_law.proofs.Settled.{IsSettled}
-use Rattle.stuck_law.proofs.Registers.{and_left}
-use Rattle.stuck_law.proofs.Orders.{kind_sound}
-use Rattle.stuck_law.proofs.ArrayForms.{kind_new, untrue2}
-use Rattle.stuck_law.proofs.Here.{setting}
-use Rattle.stuck_law.proofs.Here as typed
-use Rattle.stuck_law.proofs.Forms.{or_left}
-use Rattle.form_law.specs.Changes.{operands}
+use Rattle.program_laws.specs.Results.{gives_result}
+use Rattle.run_laws.specs.TypedStates.{KindHolds, TypedFrame, TypedWorld, typed_states}
+use Rattle.run_laws.proofs.Settled.{IsSettled}
+use Rattle.run_laws.proofs.Registers.{and_left}
+use Rattle.run_laws.proofs.Orders.{kind_sound}
+use Rattle.run_laws.proofs.ArrayForms.{kind_new, untrue2}
+use Rattle.run_laws.proofs.Here.{setting}
+use Rattle.run_laws.proofs.Here as typed
+use Rattle.run_laws.proofs.Forms.{or_left}
+use Rattle.form_laws.specs.Changes.{operands}
 use Rattle.cover_law.proofs.Ready.{IsReady}
 use Rattle.cover_law.specs.Known.{KnownFrame, KnownWorld, RangedThing, ranged_states, live_states}
 use Rattle.cover_law.proofs.Along.{Along, Looks, IsTold, act_along, sees_put, sees_wide}

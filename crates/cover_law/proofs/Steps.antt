@@ -19,13 +19,13 @@ use Rattle.dalvik_defs.specs.declared.tables.Framework.{Framework}
 use Rattle.pass_defs.specs.Analysis.{Analysis, IsReference}
 use Rattle.pass_defs.specs.Facts.{Facts}
 use Rattle.pass_defs.specs.Kinds.{is_initialised}
-use Rattle.invariant_law.proofs.Stacked.{LeadsOver}
+use Rattle.run_laws.proofs.Stacked.{LeadsOver}
 use Rattle.run_facts.specs.Covered.{CoversTop, CoversWorld}
-use Rattle.stuck_law.specs.TypedStates.{IsObject, TypedFrame, TypedWorld}
-use Rattle.stuck_law.proofs.Settled.{IsSettled, FindsRegularly}
-use Rattle.stuck_law.proofs.Registers.{and_left}
-use Rattle.stuck_law.proofs.ArrayForms.{untrue2}
-use Rattle.stuck_law.proofs.Here.{at_form, setting}
+use Rattle.run_laws.specs.TypedStates.{IsObject, TypedFrame, TypedWorld}
+use Rattle.run_laws.proofs.Settled.{IsSettled, FindsRegularly}
+use Rattle.run_laws.proofs.Registers.{and_left}
+use Rattle.run_laws.proofs.ArrayForms.{untrue2}
+use Rattle.run_laws.proofs.Here.{at_form, setting}
 use Rattle.cover_law.proofs.Ready.{IsReady}
 use Rattle.cover_law.specs.Known.{KnownFrame, KnownWorld}
 use Rattle.cover_law.proofs.Standing.{own_form}

@@ -19,12 +19,12 @@ use Rattle.pass_defs.specs.Demands.{Demand, meets, Number, Either, number_or_pai
 use Rattle.pass_defs.specs.Kinds.{Kind, is_number, is_initialised}
 use Rattle.pass_defs.specs.Kinds as kind
 use Rattle.pass_defs.specs.Registers.{kind_at}
-use Rattle.invariant_law.proofs.Fine.{each_or}
-use Rattle.stuck_law.specs.TypedStates.{IsObject, KindHolds, TypedFrame, TypedWorld}
-use Rattle.stuck_law.proofs.Forms.{reg_held, low_held}
-use Rattle.stuck_law.proofs.Here.{At}
-use Rattle.stuck_law.proofs.Registers.{and_left, and_right}
-use Rattle.stuck_law.proofs.Settled.{IsSettled}
+use Rattle.run_laws.proofs.Fine.{each_or}
+use Rattle.run_laws.specs.TypedStates.{IsObject, KindHolds, TypedFrame, TypedWorld}
+use Rattle.run_laws.proofs.Forms.{reg_held, low_held}
+use Rattle.run_laws.proofs.Here.{At}
+use Rattle.run_laws.proofs.Registers.{and_left, and_right}
+use Rattle.run_laws.proofs.Settled.{IsSettled}
 use Rattle.cover_law.specs.Coverable.{IsFormed}
 use Rattle.cover_law.specs.Known.{RangedFrame}
 use Rattle.cover_law.specs.Sound.{IsNarrow, IsWide, IsWord, NumberOf, TestedOf}

@@ -31,8 +31,8 @@ use Rattle.domains.specs.Values.{Parts, value_holds, kind_holds, any_value}
 use Rattle.domains.specs.Reducing.{reduced}
 use Rattle.domains.specs.ReducingLaws.{reduced_alike}
 use Rattle.pass_defs.specs.Analysis.{Analysis, Holds, IsReference, IsRanged, read_item}
-use Rattle.stuck_law.specs.Regular.{IsRegular as Regular}
-use Rattle.stuck_law.proofs.Climbs.{none_some, some_one}
+use Rattle.run_laws.specs.Regular.{IsRegular as Regular}
+use Rattle.run_laws.proofs.Climbs.{none_some, some_one}
 use Rattle.removal_law.specs.Left.{NamesNone}
 use Rattle.removal_law.specs.Reach.{IsAcyclic, IsRegular}
 use Rattle.removal_law.proofs.Acyclic.{regular as upright}

@@ -40,24 +40,24 @@ use Rattle.pass_defs.specs.Demands.{meets, of_type, holds_field}
 use Rattle.pass_defs.specs.Registers.{kind_at}
 use Rattle.pass_defs.specs.Kinds.{fits_holder}
 use Rattle.pass_defs.specs.Typed.{wrong_item, wrong_field, wrong_first, differ}
-use Rattle.invariant_law.specs.Invariant.{Above, Begun, Owing, Grows}
-use Rattle.invariant_law.proofs.Growing.{grows_same, grows_put, show_heap}
+use Rattle.run_laws.specs.Invariant.{Above, Begun, Owing, Grows}
+use Rattle.run_laws.proofs.Growing.{grows_same, grows_put, show_heap}
 use Rattle.run_facts.specs.Covered.{Sees, CoversTop, CoversWaiting, CoversWorld, Awaits, IsPast}
-use Rattle.silence_law.specs.Results.{gives_result}
-use Rattle.invariant_law.proofs.Fine.{each_or}
-use Rattle.stuck_law.specs.TypedStates.{KindHolds, ValueOf, TypedFrame, TypedWorld}
-use Rattle.stuck_law.proofs.Settled.{IsSettled}
-use Rattle.stuck_law.proofs.Registers.{and_left, and_right}
-use Rattle.stuck_law.proofs.Climbs.{none_some}
-use Rattle.stuck_law.proofs.Sorts.{Sorted, OfWord, OfWide, OfReference, OfNone, sorted}
-use Rattle.stuck_law.proofs.Arrays.{true_false}
-use Rattle.stuck_law.proofs.ArrayForms.{kind_new}
-use Rattle.stuck_law.proofs.FirstValues.{first_held}
-use Rattle.stuck_law.proofs.Forms.{or_left, or_right, typed_value}
-use Rattle.stuck_law.proofs.FieldForms.{holds_instance, puts_instance, or_value, stored_value}
-use Rattle.stuck_law.proofs.Here.{get_contains}
-use Rattle.stuck_law.proofs.Worlds.{at_typed, zero_value}
-use Rattle.form_law.specs.Changes.{operands}
+use Rattle.program_laws.specs.Results.{gives_result}
+use Rattle.run_laws.proofs.Fine.{each_or}
+use Rattle.run_laws.specs.TypedStates.{KindHolds, ValueOf, TypedFrame, TypedWorld}
+use Rattle.run_laws.proofs.Settled.{IsSettled}
+use Rattle.run_laws.proofs.Registers.{and_left, and_right}
+use Rattle.run_laws.proofs.Climbs.{none_some}
+use Rattle.run_laws.proofs.Sorts.{Sorted, OfWord, OfWide, OfReference, OfNone, sorted}
+use Rattle.run_laws.proofs.Arrays.{true_false}
+use Rattle.run_laws.proofs.ArrayForms.{kind_new}
+use Rattle.run_laws.proofs.FirstValues.{first_held}
+use Rattle.run_laws.proofs.Forms.{or_left, or_right, typed_value}
+use Rattle.run_laws.proofs.FieldForms.{holds_instance, puts_instance, or_value, stored_value}
+use Rattle.run_laws.proofs.Here.{get_contains}
+use Rattle.run_laws.proofs.Worlds.{at_typed, zero_value}
+use Rattle.form_laws.specs.Changes.{operands}
 use Rattle.cover_law.specs.Coverable.{IsFormed, has_values}
 use Rattle.cover_law.specs.Sound.{IsWord}
 use Rattle.cover_law.proofs.Ready.{IsReady}

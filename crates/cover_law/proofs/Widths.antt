@@ -8,8 +8,8 @@ use Rattle.dalvik_defs.specs.declared.script.Given.{Given}
 use Rattle.dalvik_defs.specs.declared.script.Given.TheVariants as given
 use Rattle.dalvik_defs.specs.declared.script.Move.{Move}
 use Rattle.dalvik_defs.specs.declared.script.Move.TheVariants as move
-use Rattle.invariant_law.specs.Holds.{Each}
-use Rattle.stuck_law.proofs.Registers.{and_left, and_right}
+use Rattle.run_laws.specs.Holds.{Each}
+use Rattle.run_laws.proofs.Registers.{and_left, and_right}
 use Rattle.cover_law.specs.Known.{RangedGiven, MaybeGiven, RangedMove}
 
 below : (a b : ℕ) → nat_lt a b ≡ true → a < b

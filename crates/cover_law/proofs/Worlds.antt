@@ -18,14 +18,14 @@ use Rattle.dalvik_defs.specs.declared.tables.Framework.{Framework}
 use Rattle.pass_defs.specs.Analysis.{Analysis}
 use Rattle.pass_defs.specs.Facts.{Facts}
 use Rattle.pass_defs.specs.Kinds as kind
-use Rattle.invariant_law.specs.Fine.{IsThere}
-use Rattle.invariant_law.specs.Invariant.{Grows}
-use Rattle.invariant_law.proofs.Growing.{grows_same, grows_then, grows_with, grows_put, grows_over, there_later, show_heap, option_heap, all_heap}
-use Rattle.invariant_law.proofs.Fine.{each_get}
+use Rattle.run_laws.specs.Fine.{IsThere}
+use Rattle.run_laws.specs.Invariant.{Grows}
+use Rattle.run_laws.proofs.Growing.{grows_same, grows_then, grows_with, grows_put, grows_over, there_later, show_heap, option_heap, all_heap}
+use Rattle.run_laws.proofs.Fine.{each_get}
 use Rattle.run_facts.specs.Covered.{CoversWorld}
-use Rattle.stuck_law.specs.TypedStates.{ValueOf, TypedThing, TypedWorld}
-use Rattle.stuck_law.proofs.Registers.{there_held}
-use Rattle.stuck_law.proofs.Climbs.{none_some, some_one}
+use Rattle.run_laws.specs.TypedStates.{ValueOf, TypedThing, TypedWorld}
+use Rattle.run_laws.proofs.Registers.{there_held}
+use Rattle.run_laws.proofs.Climbs.{none_some, some_one}
 use Rattle.cover_law.proofs.Along.{sees_later}
 
 -- ---- showing writes no field

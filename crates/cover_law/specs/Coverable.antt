@@ -23,8 +23,8 @@ use Rattle.pass_defs.specs.Analysis.{Analysis, IsRanged}
 use Rattle.run_facts.specs.Closed.{IsClosed}
 use Rattle.pass_defs.specs.Facts.{Facts, may_be_made}
 use Rattle.removal_law.specs.Reach.{IsAcyclic, IsDescribed, IsSoundTable}
-use Rattle.silence_law.specs.Results.{AllTakeInPlace}
-use Rattle.stuck_law.specs.Regular.{IsRegular}
+use Rattle.program_laws.specs.Results.{AllTakeInPlace}
+use Rattle.run_laws.specs.Regular.{IsRegular}
 use Rattle.cover_law.specs.Sound.{AreSmall, IsSmall, IsSoundOn}
 
 -- a type that values have

@@ -15,8 +15,8 @@ use Rattle.dalvik_defs.specs.declared.script.Move.{Move}
 use Rattle.dalvik_defs.specs.declared.script.Move.TheVariants as move
 use Rattle.dalvik_defs.specs.declared.state.Frame.{Frame}
 use Rattle.dalvik_defs.specs.declared.state.Value.{Value}
-use Rattle.invariant_law.specs.Holds.{Each}
-use Rattle.invariant_law.specs.Invariant.{Invariant, Grows}
+use Rattle.run_laws.specs.Holds.{Each}
+use Rattle.run_laws.specs.Invariant.{Invariant, Grows}
 use Rattle.pass_defs.specs.Analysis.{IsRanged}
 use Rattle.pass_defs.specs.Bare.{continues, may_throw}
 use Rattle.pass_defs.specs.Live.{Family, IsClosedFamily, IsLiveMethod, IsMade, unconditional}

@@ -3,3 +3,4 @@ pub mod Coverable
 pub mod States
 pub mod Apart
 pub mod Sound
+pub mod Operators

@@ -2,11 +2,11 @@
 use Rattle.dalvik_defs.specs.Outer.{Outer}
 use Rattle.dalvik_defs.specs.declared.program.NamedProgram.{NamedProgram}
 use Rattle.dalvik_defs.specs.declared.tables.Framework.{Framework}
-use Rattle.invariant_law.specs.Invariant.{Invariant, both}
+use Rattle.run_laws.specs.Invariant.{Invariant, both}
 use Rattle.pass_defs.specs.Analysis.{Analysis}
 use Rattle.pass_defs.specs.Facts.{Facts}
 use Rattle.run_facts.specs.Covered.{covering}
-use Rattle.stuck_law.specs.TypedStates.{typed_states}
+use Rattle.run_laws.specs.TypedStates.{typed_states}
 use Rattle.cover_law.specs.Known.{live_states, ranged_states}
 
 -- typed, with words of 32 bits

@@ -13,10 +13,10 @@ use Rattle.dex_read.specs.declared.members.Owner.{Owner}
 use Rattle.dex_read.specs.Ascending.{Rises}
 use Rattle.dex_read.specs.ClassData.{stepped_at, ascends_at, field_entry_at, method_entry_at, field_suits, method_suits, field_at, method_at, fields_at, methods_at, members_at}
 use Rattle.dex_read.specs.Tables.{sizes_in}
-use Rattle.code_laws.specs.Founds.{Founds}
+use Rattle.file_laws.specs.Founds.{Founds}
 use Rattle.file_laws.specs.ClassData.{entry_of, FieldSuits, MethodSuits, AreMembers}
 use Rattle.file_laws.proofs.Words.{finds_number}
-use Rattle.code_laws.proofs.Founding.{known, weaker, done, when, next, founds_run}
+use Rattle.file_laws.proofs.Founding.{known, weaker, done, when, next, founds_run}
 
 -- ---- one entry
 

@@ -20,10 +20,10 @@ use Rattle.dex_read.specs.Code.{item_at, units_at, body_at, sizes_for, of_code}
 use Rattle.dex_read.specs.Faults.{of_pool}
 use Rattle.dex_read.specs.Tables.{sizes_in}
 use Rattle.code_read.specs.Code.{code_of}
-use Rattle.code_laws.specs.Founds.{Founds}
-use Rattle.code_laws.specs.Items.{HasItem, IsItemBody}
-use Rattle.code_laws.proofs.Founding.{known, weaker, done, when, either, next, lifted}
-use Rattle.code_laws.proofs.Items.{founds_item}
+use Rattle.file_laws.specs.Founds.{Founds}
+use Rattle.file_laws.specs.Items.{HasItem, IsItemBody}
+use Rattle.file_laws.proofs.Founding.{known, weaker, done, when, either, next, lifted}
+use Rattle.file_laws.proofs.Items.{founds_item}
 use Rattle.file_laws.specs.Class.{IsReadDef, IsReadItem}
 use Rattle.file_laws.proofs.Words.{finds_word, finds_half, finds_need}
 

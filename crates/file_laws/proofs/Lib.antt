@@ -4,3 +4,15 @@ pub mod Tables
 pub mod ClassData
 pub mod Classes
 pub mod Lines
+pub mod Founding
+pub mod Fronts
+pub mod Sweeping
+pub mod Insns
+pub mod Payloads
+pub mod Fills
+pub mod Decoding
+pub mod Bodies
+pub mod Catches
+pub mod Shifts
+pub mod Trying
+pub mod Items

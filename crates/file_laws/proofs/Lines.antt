@@ -19,8 +19,8 @@ use Rattle.line_tables.specs.Text.{AscendsFrom}
 use Rattle.line_tables.proofs.ByEntries.{lines_are}
 use Rattle.dex_defs.specs.DebugItems.{lines_or_none, lines_of}
 use Rattle.dex_read.specs.Code.{kept_lines, counted_lines, lined_at}
-use Rattle.code_laws.specs.Founds.{Founds}
-use Rattle.code_laws.proofs.Founding.{weaker, done, when, either, next}
+use Rattle.file_laws.specs.Founds.{Founds}
+use Rattle.file_laws.proofs.Founding.{weaker, done, when, either, next}
 
 -- ---- each opcode ends behind its first byte
 

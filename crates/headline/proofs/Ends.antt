@@ -24,11 +24,11 @@ use Rattle.hierarchy.specs.declared.fault.HierarchyFault.TheVariants as fault
 use Rattle.pipeline.specs.Graph.{HasGraphFault, IsFault}
 use Rattle.compact.specs.Narrow.{has_narrow_classes}
 use Rattle.compact.specs.Renamed.{IsCompactedProgram}
-use Rattle.compact_bridge.specs.Bridged.{AllPacked}
-use Rattle.compact_bridge.proofs.Settled.{program_settled}
+use Rattle.bodies_kept.specs.CompactBridged.{AllPacked}
+use Rattle.bodies_kept.proofs.CompactSettled.{program_settled}
 use Rattle.copy_prop.specs.Propagated.{IsPropagatedProgram}
-use Rattle.copy_bridge.specs.Bridged.{AllFresh}
-use Rattle.copy_bridge.proofs.Settled.{program_settled as copies_settled}
+use Rattle.bodies_kept.specs.CopyBridged.{AllFresh}
+use Rattle.bodies_kept.proofs.CopySettled.{program_settled as copies_settled}
 use Rattle.type_bridge.proofs.Refused.{refused_program}
 use Rattle.pipeline.specs.Passes.{Removes, IsBarred, IsRemoval, Folds, KeepsForms, IsFolding, Rebinds, IsRebinding, Loosens, IsLoosening, Quiets, IsQuieting, Propagates, KeepsReads, NoneStale, Wide, Faulty, IllTyped, IsPropagation, Thins, IsCleaning, IsCompaction, passes, AreStill}
 use Rattle.headline.specs.Ended.{NoneKnown, NoneBindable, NoneLoosable, NoneQuiet, NoneUnreached}

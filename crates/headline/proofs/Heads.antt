@@ -8,8 +8,8 @@ use Rattle.dalvik_defs.specs.Names.{Text, text_eq}
 use Rattle.dalvik_defs.specs.Naming.{named, named_class, type_at}
 use Rattle.dalvik_defs.specs.Under.{defines}
 use Rattle.dalvik_defs.specs.declared.program.NamedClass.{NamedClass}
-use Rattle.bodies_law.specs.Others.{Pairwise}
-use Rattle.bodies_law.specs.Numbered.{NumberedCodes, OtherNumberedClass, OtherNumberedBodies}
+use Rattle.program_laws.specs.Others.{Pairwise}
+use Rattle.program_laws.specs.Numbered.{NumberedCodes, OtherNumberedClass, OtherNumberedBodies}
 
 abbrev is_there : Option NamedClass → Bool
 is_there o = elim o [ Some c ↦ true | None ↦ false ]

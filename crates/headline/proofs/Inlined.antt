@@ -17,8 +17,8 @@ use Rattle.verify.specs.Methods.{TypesAll}
 use Rattle.dead_code.specs.Dead.{is_quiet_field}
 use Rattle.dead_code.specs.Wishes.{NoneDead}
 use Rattle.compact.specs.Narrow.{has_narrow_classes}
-use Rattle.compact_bridge.specs.Bridged.{AllPacked}
-use Rattle.copy_bridge.specs.Bridged.{AllFresh}
+use Rattle.bodies_kept.specs.CompactBridged.{AllPacked}
+use Rattle.bodies_kept.specs.CopyBridged.{AllFresh}
 use Rattle.squeeze.specs.Needed.{NothingLeft}
 use Rattle.pipeline.specs.Inlined.{IsOptimisedInlined}
 use Rattle.pipeline.specs.Passes.{KeepsForms}
@@ -31,7 +31,7 @@ use Rattle.headline.proofs.Repeated.{all_rounds_owe}
 use Rattle.headline.proofs.Staying.{rounds_stay}
 use Rattle.static_kept.specs.Staying.{StaysAlongInlined}
 use Rattle.static_kept.proofs.Staying.{along_before, along_inlined}
-use Rattle.stay_law.proofs.Staying.{stays_behind}
+use Rattle.bodies_kept.proofs.Staying.{stays_behind}
 use Rattle.headline.specs.Admitted.{admitted_in}
 use Rattle.headline.proofs.Optimised.{silent_named, silent_outer, silent_sound, silent_holds}
 use Rattle.headline.proofs.StayingSilenced.{silent_stays}

@@ -8,16 +8,16 @@ use Rattle.hierarchy.specs.Shapes.{IsResolved}
 use Rattle.hierarchy.specs.declared.build.Hierarchy.{Hierarchy}
 use Rattle.dalvik_defs.specs.Outer.{outer_of}
 use Rattle.facts.specs.declared.facts.Facts.{Facts}
-use Rattle.fold_kept.proofs.NamedFacts.{are_named}
+use Rattle.facts_kept.proofs.NamedFacts.{are_named}
 use Rattle.inline_calls.specs.Asked.{Row}
 use Rattle.inline_calls.specs.Plans.{IsInlined}
-use Rattle.inline_kept.proofs.Kept.{inlined_holds, inlined_kept, frameless_kept}
-use Rattle.inline_kept.proofs.Stayed.{inlined_stays}
+use Rattle.calls_kept.proofs.InlinedKept.{inlined_holds, inlined_kept, frameless_kept}
+use Rattle.calls_kept.proofs.Stayed.{inlined_stays}
 use Rattle.pipeline.specs.declared.traces.Traced.{Traced}
 use Rattle.pipeline.specs.Inlining.{AreTaken, Found, Empty, Inlines, IsInlining, Inlined, Kept}
 use Rattle.pipeline.specs.Passes.{AreKnown}
-use Rattle.stay_law.specs.Stays.{FewRegisters, StaysInlined}
-use Rattle.stay_law.proofs.Staying.{few_same, stays_same_by}
+use Rattle.bodies_kept.specs.Stays.{FewRegisters, StaysInlined}
+use Rattle.bodies_kept.proofs.Staying.{few_same, stays_same_by}
 use Rattle.headline.specs.Owed.{IsSound, Owes}
 use Rattle.headline.proofs.Keeping.{kept_for_owes}
 use Rattle.headline.proofs.Owing.{owes_same}

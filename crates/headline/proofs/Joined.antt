@@ -38,7 +38,7 @@ use Rattle.headline.proofs.LaidOut.{left_lies, written_left_lies}
 use Rattle.headline.specs.Headline.{Headline, KeepsMeaning, IsSpelled, Shrinks}
 use Rattle.headline.specs.Admitted.{admitted_in}
 use Rattle.headline.proofs.Rising.{names_rise_for, fields_ascend_for, is_spelled}
-use Rattle.written_shown.proofs.Looks.{shown_on}
+use Rattle.written_kept.proofs.Looks.{shown_on}
 
 -- the table of rules, with conditions or without, shuts no method
 none_shut : (p : Program) (items : List Item) (o : Outside) → IsTableOf p items o → o.shut ≡ []

@@ -23,28 +23,28 @@ use Rattle.dead_code.specs.Dead.{is_quiet_field}
 use Rattle.dead_code.specs.Wishes.{AreCleaned}
 use Rattle.squeeze.specs.Needed.{NothingLeft}
 use Rattle.squeeze.specs.Skipping.{AreSkips}
-use Rattle.thin_bridge.specs.Kept.{AnyCode, IsKept}
-use Rattle.fold_kept.specs.Kept.{IsKeptFor}
-use Rattle.fold_kept.proofs.Kept.{folded_kept}
-use Rattle.fold_kept.proofs.NamedFacts.{are_named}
-use Rattle.squeeze_bridge.proofs.Squeezes.{squeezed_kept}
-use Rattle.dead_bridge.proofs.Cleans.{cleaned_kept}
+use Rattle.bodies_kept.specs.Kept.{AnyCode, IsKept}
+use Rattle.facts_kept.specs.Kept.{IsKeptFor}
+use Rattle.facts_kept.proofs.Kept.{folded_kept}
+use Rattle.facts_kept.proofs.NamedFacts.{are_named}
+use Rattle.bodies_kept.proofs.Squeezes.{squeezed_kept}
+use Rattle.bodies_kept.proofs.Cleans.{cleaned_kept}
 use Rattle.compact.specs.Narrow.{has_narrow_classes}
 use Rattle.compact.specs.Renamed.{IsCompactedProgram}
-use Rattle.kept_bridge.proofs.Compacted.{compacted_kept}
-use Rattle.copy_kept.proofs.Kept.{propagated_kept}
+use Rattle.bodies_kept.proofs.Compacted.{compacted_kept}
+use Rattle.bodies_kept.proofs.Kept.{propagated_kept}
 use Rattle.pipeline.specs.Passes.{Pass, Reach, ConstProp, Devirt, Staticise, QuietCalls, CopyProp, DeadCode, Squeeze, Compact, Removes, IsBarred, IsRemoval, Folds, KeepsForms, IsFolding, Rebinds, IsRebinding, Loosens, IsLoosening, Quiets, IsQuieting, Propagates, KeepsReads, IsPropagation, Thins, IsCleaning, IsCompaction}
 use Rattle.reach_bridge.specs.Names.{family_of}
 use Rattle.reach_bridge.proofs.Kept.{kept_named}
 use Rattle.reach_bridge.proofs.Within.{shows_the_same, keeps_shuts, keeps_typing}
-use Rattle.shut_bridge.proofs.Passes.{thinned_keeps, compacted_keeps, propagated_keeps}
-use Rattle.shut_bridge.proofs.Folded.{folded_keeps}
-use Rattle.rebind_kept.proofs.Shuts.{rebound_holds}
-use Rattle.rebind_kept.proofs.Kept.{rebound_kept}
-use Rattle.quiet_kept.proofs.Kept.{quieted_kept}
-use Rattle.quiet_kept.proofs.Shuts.{quieted_shut}
-use Rattle.outer_law.specs.Shutting.{with_shut}
-use Rattle.alike_law.specs.Virtual.{VirtualsStay}
+use Rattle.bodies_kept.proofs.PassesShut.{thinned_keeps, compacted_keeps, propagated_keeps}
+use Rattle.bodies_kept.proofs.Folded.{folded_keeps}
+use Rattle.calls_kept.proofs.ReboundShuts.{rebound_holds}
+use Rattle.calls_kept.proofs.ReboundKept.{rebound_kept}
+use Rattle.calls_kept.proofs.QuietKept.{quieted_kept}
+use Rattle.calls_kept.proofs.QuietShuts.{quieted_shut}
+use Rattle.program_laws.specs.Shutting.{with_shut}
+use Rattle.program_laws.specs.Virtual.{VirtualsStay}
 use Rattle.static_kept.specs.Owed as along
 use Rattle.static_kept.specs.Passing as loose
 use Rattle.static_kept.proofs.Left.{virtuals_numbered, virtuals_removed}

@@ -25,11 +25,11 @@ use Rattle.read_laws.proofs.Told.{is_read}
 use Rattle.redex_outside.specs.Voices.{Voice}
 use Rattle.redex_cli.specs.Accepted.{IsAccepted}
 use Rattle.redex_cli.specs.Finished.{LeavesBy}
-use Rattle.read_lays.proofs.Programs.{program_lies}
-use Rattle.layout_written.proofs.Falling.{read_ascends}
+use Rattle.layout_law.proofs.Programs.{program_lies}
+use Rattle.layout_law.proofs.Falling.{read_ascends}
 use Rattle.layout_steps.proofs.Silenced.{silent_lies}
-use Rattle.layout_written.specs.Ascending.{TextsAscend}
-use Rattle.layout_written.proofs.Written.{interned_lies}
+use Rattle.layout_law.specs.Ascending.{TextsAscend}
+use Rattle.layout_law.proofs.Written.{interned_lies}
 use Rattle.headline.specs.Owed.{IsSound, Owes}
 use Rattle.headline.proofs.Inlining.{inlining_owes}
 use Rattle.headline.proofs.Optimised.{silent_sound}

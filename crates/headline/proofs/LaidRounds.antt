@@ -11,20 +11,20 @@ use Rattle.squeeze.specs.Skipping.{AreSkips}
 use Rattle.const_prop.specs.Folds.{AreFolds}
 use Rattle.devirt.specs.Rebound.{AreRebindings}
 use Rattle.quiet_code.specs.Quieted.{Nops}
-use Rattle.stay_law.specs.Stays.{Stays}
-use Rattle.stay_law.proofs.Rewritten.{rewritten_stays}
-use Rattle.stay_law.proofs.Passes.{removed_stays, thinned_stays, propagated_stays, compacted_stays}
+use Rattle.bodies_kept.specs.Stays.{Stays}
+use Rattle.bodies_kept.proofs.RewrittenStay.{rewritten_stays}
+use Rattle.bodies_kept.proofs.PassesStay.{removed_stays, thinned_stays, propagated_stays, compacted_stays}
 use Rattle.pipeline.specs.declared.traces.Traced.{Traced}
 use Rattle.pipeline.specs.Inlining.{IsInlining, Inlined, Kept}
 use Rattle.pipeline.specs.Passes.{Pass, Reach, ConstProp, Devirt, Staticise, QuietCalls, CopyProp, DeadCode, Squeeze, Compact, Does, round_of, Steps, Last, Then}
 use Rattle.pipeline.specs.Rounds.{Rounds, Ended, Next}
 use Rattle.pipeline.specs.Silence.{is_quiet, silenced, IsSilent}
 use Rattle.inline_calls.specs.Asked.{Row}
-use Rattle.inline_kept.proofs.Stayed.{inlined_stays}
+use Rattle.calls_kept.proofs.Stayed.{inlined_stays}
 use Rattle.dex_defs.specs.LaysOut.{LaysOut}
 use Rattle.layout_steps.proofs.Passes.{pass_lies}
 use Rattle.layout_steps.proofs.Inlined.{inlined_lies}
-use Rattle.layout_written.specs.Ascending.{TextsAscend}
+use Rattle.layout_law.specs.Ascending.{TextsAscend}
 use Rattle.headline.specs.Owed.{IsSound, Owes}
 use Rattle.headline.proofs.Keeping.{each_keeps}
 use Rattle.headline.proofs.Owing.{steps_owe}

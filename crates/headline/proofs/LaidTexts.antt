@@ -23,9 +23,9 @@ use Rattle.static_protos.specs.declared.tables.Wanted.{Wanted}
 use Rattle.static_protos.specs.Tables.{Tables, tables_of, wanted, texts_with, text_at, proto_at, strings_with, items_with, is_taken, has_room, with_new}
 use Rattle.staticise.specs.Judging.{is_loose, behind_proto, behind_entry, behind_method, behind_methods, behind_classes, judged}
 use Rattle.staticise.specs.Loosened.{IsLoosenedBy, IsStaticisedBy}
-use Rattle.stay_law.specs.Stays.{StaysBy}
-use Rattle.layout_written.specs.Ascending.{TextsAscend}
-use Rattle.layout_written.proofs.Falling.{fitting, type_string}
+use Rattle.bodies_kept.specs.Stays.{StaysBy}
+use Rattle.layout_law.specs.Ascending.{TextsAscend}
+use Rattle.layout_law.proofs.Falling.{fitting, type_string}
 
 -- ---- tables that stay
 

@@ -22,8 +22,8 @@ use Rattle.pipeline.specs.Silence.{is_quiet, silenced_body, silenced_method, sil
 use Rattle.dead_code.specs.Dead.{is_quiet_field}
 use Rattle.dead_code.specs.Wishes.{NoneDead}
 use Rattle.compact.specs.Narrow.{has_narrow_classes}
-use Rattle.compact_bridge.specs.Bridged.{AllPacked}
-use Rattle.copy_bridge.specs.Bridged.{AllFresh}
+use Rattle.bodies_kept.specs.CompactBridged.{AllPacked}
+use Rattle.bodies_kept.specs.CopyBridged.{AllFresh}
 use Rattle.squeeze.specs.Needed.{NothingLeft}
 use Rattle.pipeline.specs.Passes.{KeepsForms}
 use Rattle.pipeline.specs.Rounds.{first_of, IsOptimised}
@@ -36,9 +36,9 @@ use Rattle.headline.proofs.Repeated.{all_rounds_owe}
 use Rattle.headline.proofs.Staying.{rounds_stay}
 use Rattle.static_kept.specs.Staying.{StaysAlong}
 use Rattle.static_kept.proofs.Staying.{along_kept, along_then}
-use Rattle.shut_law.proofs.Silent.{silenced_holds}
-use Rattle.silence_law.proofs.Silenced.{silenced_typed}
-use Rattle.silence_law.proofs.WellFormed.{well_placed}
+use Rattle.program_laws.proofs.Silent.{silenced_holds}
+use Rattle.program_laws.proofs.Silenced.{silenced_typed}
+use Rattle.program_laws.proofs.WellFormed.{well_placed}
 use Rattle.headline.specs.Admitted.{admitted_in}
 use Rattle.headline.proofs.Silenced.{silenced_named}
 use Rattle.headline.proofs.StayingSilenced.{silent_stays}

@@ -6,8 +6,8 @@ use Rattle.dalvik_defs.specs.Naming.{named}
 use Rattle.dalvik_defs.specs.Outer.{Outer, outer_of}
 use Rattle.dalvik_defs.specs.Shown.{SameShown}
 use Rattle.dalvik_defs.proofs.Same.{same_shown_refl, same_shown_on}
-use Rattle.outer_law.specs.Shutting.{with_shut}
-use Rattle.alike_law.proofs.Alike.{alike_on, shown_on, virtuals_on}
+use Rattle.program_laws.specs.Shutting.{with_shut}
+use Rattle.program_laws.proofs.ShutAlike.{alike_on, shown_on, virtuals_on}
 use Rattle.pipeline.specs.declared.traces.Traced.{Traced}
 use Rattle.pipeline.specs.Passes.{Pass, round_of, Steps, Last, Then}
 use Rattle.pipeline.specs.Rounds.{Rounds, Ended, Next}

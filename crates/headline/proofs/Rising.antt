@@ -23,23 +23,23 @@ use Rattle.dex_read.specs.File.{program_at}
 use Rattle.read_laws.proofs.Rising.{strings_rise}
 use Rattle.read_laws.proofs.Told.{IsRead, is_read}
 use Rattle.class_defs.proofs.WellFormed.{sound}
-use Rattle.written_formed.specs.Rising.{FieldsAscend}
-use Rattle.written_formed.proofs.Rising.{written_formed}
+use Rattle.written_kept.specs.Rising.{FieldsAscend}
+use Rattle.written_kept.proofs.Rising.{written_formed}
 use Rattle.staticise.specs.Loosened.{marks_loosened}
 use Rattle.static_kept.specs.Staying.{MethodStaysAlongBy, ClassStaysAlongBy, StaysAlongBy}
-use Rattle.written_tables.proofs.Fit.{Parts, parts_of, class_at_fits}
-use Rattle.written_tables.proofs.In.{all_in, in_got}
-use Rattle.written_order.specs.Rises.{MarksLow, ClassLow, NamesRise}
-use Rattle.written_sets.proofs.Low.{class_low}
-use Rattle.written_spelled.proofs.Whole.{written_is_valid}
-use Rattle.written_shown.proofs.Written.{written_shows, written_typed}
+use Rattle.written_file.proofs.Fit.{Parts, parts_of, class_at_fits}
+use Rattle.written_file.proofs.In.{all_in, in_got}
+use Rattle.written_file.specs.Rises.{MarksLow, ClassLow, NamesRise}
+use Rattle.written_file.proofs.Low.{class_low}
+use Rattle.written_code.proofs.Whole.{written_is_valid}
+use Rattle.written_kept.proofs.Written.{written_shows, written_typed}
 use Rattle.class_defs.specs.ClassGraph.{IsTwice, IsAncestor}
 use Rattle.dex_write.specs.Written as writer
 use Rattle.dex_defs.specs.LaysOut.{LaysOut}
 use Rattle.dex_defs.specs.Written.{written_by}
 use Rattle.spelled_law.proofs.OnceFile.{spells_once}
 use Rattle.spelled_law.proofs.Whole.{read_is_spelled}
-use Rattle.stay_law.specs.Stays.{Stands, NoMoreRegisters, FewRegisters}
+use Rattle.bodies_kept.specs.Stays.{Stands, NoMoreRegisters, FewRegisters}
 use Rattle.headline.specs.Headline.{StaysFor, IsSpelled}
 
 stands_all : {X : Type 0} (P : X → Type 0) (xs : List X) → ((x : X) → Stands xs x → P x) → AllByRecursion P xs

@@ -15,10 +15,10 @@ use Rattle.devirt.specs.Rebound.{AreRebindings}
 use Rattle.quiet_code.specs.Quieted.{Nops}
 use Rattle.compact.specs.Narrow.{has_narrow_classes}
 use Rattle.compact.specs.Renamed.{IsCompactedProgram}
-use Rattle.stay_law.specs.Stays.{Stays}
-use Rattle.stay_law.proofs.Staying.{stays_same}
-use Rattle.stay_law.proofs.Rewritten.{rewritten_stays}
-use Rattle.stay_law.proofs.Passes.{removed_stays, thinned_stays, propagated_stays, compacted_stays}
+use Rattle.bodies_kept.specs.Stays.{Stays}
+use Rattle.bodies_kept.proofs.Staying.{stays_same}
+use Rattle.bodies_kept.proofs.RewrittenStay.{rewritten_stays}
+use Rattle.bodies_kept.proofs.PassesStay.{removed_stays, thinned_stays, propagated_stays, compacted_stays}
 use Rattle.pipeline.specs.declared.traces.Traced.{Traced}
 use Rattle.pipeline.specs.Passes.{Pass, Reach, ConstProp, Devirt, Staticise, QuietCalls, CopyProp, DeadCode, Squeeze, Compact, Removes, IsBarred, Folds, KeepsForms, Rebinds, Loosens, Quiets, Propagates, KeepsReads, Thins, IsCleaning, Does, round_of, AreWithin, Steps, Last, Then}
 use Rattle.pipeline.specs.Rounds.{Rounds, Ended, Next}

@@ -6,9 +6,9 @@ use Rattle.program_model.specs.declared.body.Body.{Body}
 use Rattle.program_model.specs.declared.program.Class.{Class}
 use Rattle.program_model.specs.declared.program.Method.{Method}
 use Rattle.program_model.specs.declared.program.Program.{Program}
-use Rattle.stay_law.specs.Stays.{NoMoreRegisters, MethodStays, ClassStays, Stays}
-use Rattle.stay_law.proofs.Standing.{in_map}
-use Rattle.stay_law.proofs.Staying.{method_same, stays_same}
+use Rattle.bodies_kept.specs.Stays.{NoMoreRegisters, MethodStays, ClassStays, Stays}
+use Rattle.bodies_kept.proofs.Standing.{in_map}
+use Rattle.bodies_kept.proofs.Staying.{method_same, stays_same}
 use Rattle.pipeline.specs.Graph.{HasGraphFault}
 use Rattle.pipeline.specs.Silence.{is_quiet, silenced_body, silenced_method, silenced_class, silenced, IsSilent}
 

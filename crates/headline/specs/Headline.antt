@@ -23,8 +23,8 @@ use Rattle.dead_code.specs.Dead.{is_quiet_field}
 use Rattle.dead_code.specs.Wishes.{NoneDead}
 use Rattle.squeeze.specs.Needed.{NothingLeft}
 use Rattle.compact.specs.Narrow.{has_narrow_classes}
-use Rattle.compact_bridge.specs.Bridged.{AllPacked}
-use Rattle.copy_bridge.specs.Bridged.{AllFresh}
+use Rattle.bodies_kept.specs.CompactBridged.{AllPacked}
+use Rattle.bodies_kept.specs.CopyBridged.{AllFresh}
 use Rattle.pipeline.specs.Passes.{KeepsForms}
 use Rattle.pipeline.specs.Prepared.{IsAdvisedBy}
 use Rattle.headline.specs.Ended.{NoneKnown, NoneBindable, NoneLoosable, NoneQuiet, NoneUnreached}

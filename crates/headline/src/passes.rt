@@ -14,7 +14,7 @@ ghost use Rattle.pipeline.specs.declared.traces.Traced.{Traced};
 ghost use Rattle.pipeline.specs.Inlining.{IsInlining};
 ghost use Rattle.pipeline.specs.Passes.{Reach, ConstProp, Devirt, Staticise, QuietCalls, CopyProp, DeadCode, Squeeze, Compact, AreKnown};
 ghost use Rattle.headline.specs.Owed.{IsSound, Owes, Keeps};
-ghost use Rattle.stay_law.specs.Stays.{StaysInlined};
+ghost use Rattle.bodies_kept.specs.Stays.{StaysInlined};
 
 /// A removal of what is not reached keeps what a pass owes, and so does a removal that is barred.
 pub fn reach_keeps_law()

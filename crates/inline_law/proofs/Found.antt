@@ -20,13 +20,13 @@ use Rattle.dalvik_defs.specs.declared.program.NamedMethod.{NamedMethod}
 use Rattle.dalvik_defs.specs.declared.program.NamedClass.{NamedClass}
 use Rattle.dalvik_defs.specs.declared.program.NamedProgram.{NamedProgram}
 use Rattle.dalvik_defs.proofs.Calm.{text_sound}
-use Rattle.silence_law.proofs.Heads.{class_case}
+use Rattle.program_laws.proofs.Heads.{class_case}
 use Rattle.pass_defs.specs.Walks.{form_at, IsRead, Here, Onward}
 use Rattle.pass_defs.specs.Inlined.{Callee, with_body, callee_found, callee_of, is_among, callee_at, callee_registers, greatest}
-use Rattle.frame_laws.specs.Alike.{gets_void}
+use Rattle.program_laws.specs.Alike.{gets_void}
 use Rattle.inline_law.specs.Inlining.{IsNeed, IsCallee}
 use Rattle.inline_law.specs.Sound.{Finding, FindsStatic, FindsDirect, IsSoundCallee}
-use Rattle.bodies_law.proofs.Keys.{key_found}
+use Rattle.program_laws.proofs.Keys.{key_found}
 use Rattle.inline_law.proofs.Lists.{find_passes, text_same}
 
 module _ (p : NamedProgram) where

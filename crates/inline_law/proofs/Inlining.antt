@@ -40,12 +40,12 @@ use Rattle.pass_defs.specs.Walks.{form_at, onward, successors, Stays as Arrives,
 use Rattle.inline_law.specs.Inlining.{Sites, Behind, Untaken, TakenBy, Passes, PassesNone, PassesOne, PassesTwo, IsCallee, Stand, Copied, Kept, Ended, Dropped, Handed, IsCopied, Went, Past as WasPast, Stood, Replaced, IsInlined, AreInlined, Neither as HasNeither, Both as HasBoth}
 use Rattle.dalvik_defs.proofs.Blocks.{Block, alone, with_top, under, stacked, Glides}
 use Rattle.inline_law.proofs.Lists.{index_high, set_low, set_length, append_length, cut, overwritten, overwritten_length, agree_entry}
-use Rattle.frame_laws.proofs.Walks.{walk_on, goes_onward}
+use Rattle.program_laws.proofs.Walks.{walk_on, goes_onward}
 use Rattle.inline_law.proofs.Ways.{onward_untaken}
-use Rattle.frame_laws.proofs.Acts.{own}
-use Rattle.frame_laws.specs.Standing.{Goes, Stands, Past, Leaps, Later, Entries, Neither, Both, GoAlike}
-use Rattle.frame_laws.proofs.Blocks.{block_none, block_on, step_stays}
-use Rattle.frame_laws.proofs.Standing.{standing_shown}
+use Rattle.program_laws.proofs.Acts.{own}
+use Rattle.program_laws.specs.Standing.{Goes, Stands, Past, Leaps, Later, Entries, Neither, Both, GoAlike}
+use Rattle.program_laws.proofs.Blocks.{block_none, block_on, step_stays}
+use Rattle.program_laws.proofs.Standing.{standing_shown}
 use Rattle.insn_set.specs.Registers.{in_operand}
 use Rattle.inline_law.proofs.Pairs.{second_own, Paired, Inside, Pairs, OneFrame, TwoFrames, form_of, arrives, write_high, write_two, read_inside, outer_stands, inner_stands}
 

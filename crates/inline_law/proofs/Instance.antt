@@ -7,8 +7,8 @@ use Rattle.lemmas.proofs.Options.{none_some, some_same}
 use Rattle.dalvik_defs.specs.declared.forms.Form.{Form}
 use Rattle.pass_defs.specs.Bare.{reads, writes}
 use Rattle.pass_defs.specs.Walks.{form_at, onward, caught, IsReadAt, Here, Onward, Caught}
-use Rattle.silence_law.specs.Results.{gives_result, takes_none}
-use Rattle.frame_laws.specs.Alike.{gets_void}
+use Rattle.program_laws.specs.Results.{gives_result, takes_none}
+use Rattle.program_laws.specs.Alike.{gets_void}
 use Rattle.inline_law.specs.Inlining.{PassesNone}
 use Rattle.inline_law.specs.Sound.{IsSoundCallee}
 use Rattle.inline_law.specs.Examples.{five, gives, body, caller_key, callee}

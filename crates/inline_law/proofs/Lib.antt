@@ -9,3 +9,6 @@ pub mod Found
 pub mod Statics
 pub mod Passing
 pub mod Instance
+pub mod Written
+pub mod Unread
+pub mod Reached

@@ -5,9 +5,9 @@ use Rattle.lemmas.proofs.Numbers.{same_number}
 use Rattle.lemmas.proofs.Options.{none_some, some_same}
 use Rattle.dalvik_defs.specs.Names.{Text, text_eq}
 use Rattle.dalvik_defs.specs.declared.state.Value.{Value}
-use Rattle.silence_law.proofs.Lists.{and_both}
-use Rattle.frame_laws.specs.Agree.{Agree}
-use Rattle.frame_laws.proofs.Agree.{agree_refl}
+use Rattle.program_laws.proofs.ChangedLists.{and_both}
+use Rattle.program_laws.specs.Agree.{Agree}
+use Rattle.program_laws.proofs.Agree.{agree_refl}
 
 pub find_passes : {X : Type 0} (test : X → Bool) (xs : List X) (x : X) → find test xs ≡ Some x → test x ≡ true
 find_passes test [] x e = none_some x e

@@ -23,18 +23,18 @@ use Rattle.pass_defs.specs.Inlined.{Callee}
 use Rattle.pass_defs.specs.Quiet.{takes_result}
 use Rattle.pass_defs.specs.Remade.{remade, retargeted}
 use Rattle.pass_defs.specs.Walks.{form_at, onward, successors, IsReached}
-use Rattle.silence_law.specs.Results.{gives_result}
-use Rattle.frame_laws.specs.Alike.{gets_void}
+use Rattle.program_laws.specs.Results.{gives_result}
+use Rattle.program_laws.specs.Alike.{gets_void}
 use Rattle.inline_law.specs.Inlining.{Sites, Lives, IsCallee, stays_form, IsCopied, IsInlined}
 use Rattle.dalvik_defs.proofs.Blocks.{Block, alone, caught_or}
-use Rattle.frame_laws.specs.Agree.{Agree}
-use Rattle.frame_laws.proofs.Agree.{agree_fewer, agree_at, agree_set}
+use Rattle.program_laws.specs.Agree.{Agree}
+use Rattle.program_laws.proofs.Agree.{agree_fewer, agree_at, agree_set}
 use Rattle.inline_law.proofs.Lists.{index_low, index_high, set_low, set_high, set_length, append_length}
-use Rattle.frame_laws.proofs.Walks.{walk_on, goes_onward, goes_caught, goes_next, goes_there, handler_caught, no_handler}
+use Rattle.program_laws.proofs.Walks.{walk_on, goes_onward, goes_caught, goes_next, goes_there, handler_caught, no_handler}
 use Rattle.inline_law.proofs.Ways.{onward_untaken, caught_untaken, lives_onward, lives_caught}
-use Rattle.frame_laws.specs.Alike.{is_return, Nothing, Only, Holds, Accepts}
-use Rattle.frame_laws.proofs.Acts.{own}
-use Rattle.frame_laws.specs.Standing.{Land, Nowhere, Caught, Standing}
+use Rattle.program_laws.specs.Alike.{is_return, Nothing, Only, Holds, Accepts}
+use Rattle.program_laws.proofs.Acts.{own}
+use Rattle.program_laws.specs.Standing.{Land, Nowhere, Caught, Standing}
 
 pub form_of : (find : Bodies) (f : Frame) (b : NamedBody) (o : Option Form) → find f.method ≡ Some b → form_at b f.position ≡ o → form_here find f ≡ o
 form_of find f b o h e = ap (λ y. option_and_then (λ x. slice_get x.forms f.position) y) h ∙ e

@@ -11,7 +11,7 @@ use Rattle.pass_defs.specs.Kinds.{Kind}
 use Rattle.pass_defs.specs.Demands.{Demand, Pair, Fits, meets, passed, passed_wide}
 use Rattle.pass_defs.specs.Typed.{words_of}
 use Rattle.inline_law.specs.Inlining.{Passes, PassesNone, PassesOne, PassesTwo}
-use Rattle.silence_law.proofs.Lists.{and_left}
+use Rattle.program_laws.proofs.ChangedLists.{and_left}
 
 module _ (p : NamedProgram) (c : NamedClass) (ks : List Kind) where
   abbrev all_met : List (ℕ × Demand) → Bool

@@ -20,10 +20,10 @@ use Rattle.dalvik_defs.specs.declared.tables.Floats.{Floats}
 use Rattle.pass_defs.specs.Inlined.{Callee, inlined}
 use Rattle.pass_defs.specs.Remade.{remade}
 use Rattle.pass_defs.specs.Walks.{form_at}
-use Rattle.silence_law.specs.Results.{TakesInPlace}
-use Rattle.bodies_law.specs.Others.{OtherBodies}
-use Rattle.bodies_law.proofs.Faces.{others_face}
-use Rattle.bodies_law.proofs.Found.{others_found}
+use Rattle.program_laws.specs.Results.{TakesInPlace}
+use Rattle.program_laws.specs.Others.{OtherBodies}
+use Rattle.program_laws.proofs.Faces.{others_face}
+use Rattle.program_laws.proofs.Found.{others_found}
 use Rattle.inline_law.specs.Inlining.{Went, Past, Stood, IsInlined, AreInlined, Neither, Both}
 use Rattle.inline_law.specs.Entered.{AreEnterable, FactsHold, AcceptedIn, sites_in, sites_of}
 use Rattle.inline_law.specs.Programs.{Inlines, NoCode, Same, Inlined, IsInlining}

@@ -20,7 +20,7 @@ use Rattle.dalvik_defs.specs.declared.tables.Framework.{Framework}
 use Rattle.dalvik_defs.proofs.Quiet.{trivial_quiet}
 use Rattle.pass_defs.specs.Walks.{form_at}
 use Rattle.pass_defs.specs.Inlined.{Callee, callee_of, callee_at}
-use Rattle.bodies_law.specs.Others.{OtherBodies}
+use Rattle.program_laws.specs.Others.{OtherBodies}
 use Rattle.inline_law.specs.Entered.{Enterable, Statically, AcceptedIn, sites_in, sites_of}
 use Rattle.inline_law.specs.Programs.{Inlines, IsInlining}
 use Rattle.inline_law.specs.Sound.{Finding, FindsStatic, FindsDirect, IsSoundCaller, IsStaticInlining}

@@ -17,8 +17,8 @@ use Rattle.pass_defs.specs.Bare.{may_throw, continues, targets}
 use Rattle.pass_defs.specs.Inlined.{Callee}
 use Rattle.pass_defs.specs.Quiet.{takes_result}
 use Rattle.pass_defs.specs.Walks.{form_at, onward, caught, successors, next_position, handlers_at, handlers_of, listed, region_at, Walk, Stays as Arrives, Goes as Steps}
-use Rattle.silence_law.specs.Results.{gives_result, takes_none, TakesInPlace}
-use Rattle.silence_law.proofs.Lists.{and_left}
+use Rattle.program_laws.specs.Results.{gives_result, takes_none, TakesInPlace}
+use Rattle.program_laws.proofs.ChangedLists.{and_left}
 use Rattle.inline_law.specs.Inlining.{Lives}
 
 all_there : (p : ℕ → Bool) (l : List ℕ) (m : ℕ) → list_all p l ≡ true → Contains l m → p m ≡ true

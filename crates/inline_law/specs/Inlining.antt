@@ -16,8 +16,8 @@ use Rattle.pass_defs.specs.Remade.{remade, retargeted}
 use Rattle.pass_defs.specs.Walks.{form_at, onward, IsReached}
 use Rattle.pass_defs.specs.Quiet.{takes_result}
 use Rattle.pass_defs.specs.Inlined.{Callee, Taken, passed_types, moves_of}
-use Rattle.silence_law.specs.Results.{TakesInPlace}
-use Rattle.frame_laws.specs.Alike.{gets_void}
+use Rattle.program_laws.specs.Results.{TakesInPlace}
+use Rattle.program_laws.specs.Alike.{gets_void}
 
 -- ---- the caller
 

@@ -4,3 +4,4 @@ pub mod Entered
 pub mod Programs
 pub mod Sound
 pub mod Examples
+pub mod Takes

@@ -6,7 +6,7 @@ use Rattle.dalvik_defs.specs.declared.program.NamedBody.{NamedBody}
 use Rattle.dalvik_defs.specs.declared.program.NamedMethod.{NamedMethod}
 use Rattle.dalvik_defs.specs.declared.program.NamedProgram.{NamedProgram}
 use Rattle.pass_defs.specs.Inlined.{inlined}
-use Rattle.silence_law.specs.Results.{TakesInPlace}
+use Rattle.program_laws.specs.Results.{TakesInPlace}
 use Rattle.inline_law.specs.Accepted.{AreAccepted}
 use Rattle.inline_law.specs.Entered.{AcceptedIn}
 

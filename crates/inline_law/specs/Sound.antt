@@ -18,8 +18,8 @@ use Rattle.pass_defs.specs.Bare.{reads, writes}
 use Rattle.pass_defs.specs.Walks.{form_at, IsReached, IsRead}
 use Rattle.pass_defs.specs.Quiet.{takes_result}
 use Rattle.pass_defs.specs.Inlined.{Callee, taken_by, is_among, callee_of, callee_at, passed_types}
-use Rattle.silence_law.specs.Results.{TakesInPlace}
-use Rattle.frame_laws.specs.Alike.{gets_void}
+use Rattle.program_laws.specs.Results.{TakesInPlace}
+use Rattle.program_laws.specs.Alike.{gets_void}
 use Rattle.inline_law.specs.Inlining.{Passes}
 use Rattle.inline_law.specs.Accepted.{Suits}
 use Rattle.inline_law.specs.Entered.{AcceptedIn}

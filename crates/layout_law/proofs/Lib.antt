@@ -9,3 +9,15 @@ pub mod Shortened
 pub mod Thinned
 pub mod Lower
 pub mod Methods
+pub mod Ordered
+pub mod Falling
+pub mod Named
+pub mod Written
+pub mod NumbersRead
+pub mod Chains
+pub mod Low
+pub mod Literals
+pub mod Units
+pub mod Gaps
+pub mod BodiesRead
+pub mod Programs

@@ -1,3 +1,4 @@
 pub mod Shorter
 pub mod Circles
 pub mod Lower
+pub mod Ascending

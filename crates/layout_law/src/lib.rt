@@ -1,9 +1,8 @@
-//! Bodies lay out still where their instructions get no longer. A list of sizes that has room lies above a least one, so it is
-//! enough that the least sizes of the old body, at the positions that are left, have room for the new one. Then no distance
-//! grows: branches reach, regions stay near, and no list of handlers gets longer; equal lists stay equal, as the numbers in them
-//! can be read back. Stated of instructions written over others (`specs/Shorter.antt`), and of positions that go
-//! (`specs/Circles.antt`). This crate declares no types of its own. Its functions have an empty body, and their contracts are the
-//! laws.
+//! Laws of what lays out: bodies whose instructions get no longer and whose positions move nearer do still (layout_law), so does a
+//! program with its numbers as written (layout_written), and a program that was read does (read_lays). It declares no types of its
+//! own; its functions have an empty body, and their contracts are the laws.
 #![tactic(auto)]
 
-pub mod laws;
+pub mod layout_law;
+pub mod layout_written;
+pub mod read_lays;

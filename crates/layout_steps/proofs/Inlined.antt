@@ -25,8 +25,8 @@ use Rattle.pass_defs.specs.Thinned.{region_moved}
 use Rattle.splice.specs.declared.callee.Callee.{Callee}
 use Rattle.splice.specs.Shifted.{word, place_in}
 use Rattle.splice.specs.Pieces.{places_in}
-use Rattle.thin_rules.proofs.Rules.{rest_of, may_begin_at}
-use Rattle.thin_rules.proofs.Tidied.{code_rules}
+use Rattle.thin_laws.proofs.Rules.{rest_of, may_begin_at}
+use Rattle.thin_laws.proofs.Tidied.{code_rules}
 use Rattle.inline_calls.specs.declared.site.Caller.{Caller}
 use Rattle.inline_calls.specs.declared.caller.Inliner.{Inliner}
 use Rattle.inline_calls.specs.declared.editing.Edit.{Edit}
@@ -36,7 +36,7 @@ use Rattle.inline_calls.specs.Asked.{Row}
 use Rattle.inline_calls.specs.Edited.{method_by, each_by, class_by, program_by}
 use Rattle.inline_calls.specs.Plans.{nothing_done, edit_of, IsCallerOf, LooksAt, Bare, Barred, Looked, LooksAtMethod, LooksInClass, IsInlined}
 use Rattle.inline_calls.specs.Rooms.{HasRoom, spliced_by, new_of}
-use Rattle.inline_kept.proofs.Looked.{looked_long, looked_at}
+use Rattle.calls_kept.proofs.Looked.{looked_long, looked_at}
 use Rattle.dex_defs.specs.LaysOut.{LaysOutMethod, LaysOutBody, LaysOut}
 use Rattle.layout_law.proofs.Methods.{MethodLies, ClassLies, got_all, all_got, contained}
 use Rattle.layout_steps.proofs.Short.{Inside, short_lies}

@@ -3,3 +3,10 @@ pub mod Loosened
 pub mod Passes
 pub mod Short
 pub mod Inlined
+pub mod Programs
+pub mod Written
+pub mod Renamed
+pub mod Folded
+pub mod Recalled
+pub mod Circles
+pub mod Thinned

@@ -12,12 +12,12 @@ use Rattle.squeeze.specs.Needed.{NothingLeft}
 use Rattle.squeeze.specs.Skipping.{AreSkips}
 use Rattle.pipeline.specs.Passes.{Pass, Reach, ConstProp, Devirt, Staticise, QuietCalls, CopyProp, DeadCode, Squeeze, Compact, Does, IsRemoval, IsFolding, IsRebinding, IsLoosening, IsQuieting, IsPropagation, Thins, IsCleaning, IsCompaction}
 use Rattle.dex_defs.specs.LaysOut.{LaysOut}
-use Rattle.layout_bridge.proofs.Programs.{removed_lies}
-use Rattle.layout_bridge.proofs.Thinned.{thinned_lies}
-use Rattle.layout_bridge.proofs.Folded.{folded_lies}
-use Rattle.layout_bridge.proofs.Recalled.{rebound_lies, quieted_lies}
+use Rattle.layout_steps.proofs.Programs.{removed_lies}
+use Rattle.layout_steps.proofs.Thinned.{thinned_lies}
+use Rattle.layout_steps.proofs.Folded.{folded_lies}
+use Rattle.layout_steps.proofs.Recalled.{rebound_lies, quieted_lies}
 use Rattle.layout_steps.proofs.Loosened.{staticised_lies}
-use Rattle.layout_bridge.proofs.Renamed.{propagated_lies, compacted_lies}
+use Rattle.layout_steps.proofs.Renamed.{propagated_lies, compacted_lies}
 
 module _ (o : Outside) (admitted : List Bool) (p q : Program) (moved : List (List Origin)) (formed : is_well_formed p ≡ true) (l : LaysOut p) where
   stays_so : q ≡ p → LaysOut q

@@ -18,10 +18,10 @@ use Rattle.dex_defs.specs.Instructions.{AreInsns}
 use Rattle.dex_defs.specs.CodeItems.{Frame, tries_at}
 use Rattle.dex_defs.specs.CodeFaults.{BadSweep}
 use Rattle.dex_defs.specs.CodeFaults as bad
-use Rattle.code_laws.specs.Founds.{Founds}
-use Rattle.code_laws.proofs.Founding.{weaker, done, next}
-use Rattle.code_laws.proofs.Bodies.{founds_code}
-use Rattle.code_laws.proofs.Sweeping.{Swept, Instructed, founds_swept, are_instructed}
+use Rattle.file_laws.specs.Founds.{Founds}
+use Rattle.file_laws.proofs.Founding.{weaker, done, next}
+use Rattle.file_laws.proofs.Bodies.{founds_code}
+use Rattle.file_laws.proofs.Sweeping.{Swept, Instructed, founds_swept, are_instructed}
 use Rattle.refused_law.proofs.Failing.{Fails, sound, fails_with, unless, fails_next, fails_more}
 use Rattle.refused_code.proofs.Sweeping.{fails_pieces}
 use Rattle.refused_code.proofs.Reading.{fails_checked, fails_insns, one_of}

@@ -28,10 +28,10 @@ use Rattle.dex_defs.specs.CodeItems.{Frame}
 use Rattle.dex_defs.specs.CodeFaults.{kind_for}
 use Rattle.dex_defs.specs.Limits.{IsMethodCode, HasEntries, IsCell}
 use Rattle.dex_defs.specs.Limits as limits
-use Rattle.code_laws.specs.Founds.{Founds}
-use Rattle.code_laws.proofs.Founding.{weaker, done, when, either}
-use Rattle.code_laws.proofs.Payloads.{Found, found_payload, at_drop, is_payload}
-use Rattle.code_laws.proofs.Sweeping.{Instructed}
+use Rattle.file_laws.specs.Founds.{Founds}
+use Rattle.file_laws.proofs.Founding.{weaker, done, when, either}
+use Rattle.file_laws.proofs.Payloads.{Found, found_payload, at_drop, is_payload}
+use Rattle.file_laws.proofs.Sweeping.{Instructed}
 use Rattle.refused_law.proofs.Failing.{Fails, sound, fails_with, fails_either, fails_next, fails_more}
 use Rattle.refused_code.proofs.Reading.{IsTable, is_table, fails_entries_at}
 use Rattle.past_law.specs.Told.{Told, one_past}

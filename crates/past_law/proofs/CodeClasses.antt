@@ -20,7 +20,7 @@ use Rattle.dex_read.specs.Classes as classes
 use Rattle.dex_read.specs.Code.{method_at}
 use Rattle.dex_read.specs.File.{head_at}
 use Rattle.dex_read.specs.Steps.{for_each}
-use Rattle.code_laws.specs.Founds.{Founds}
+use Rattle.file_laws.specs.Founds.{Founds}
 use Rattle.file_laws.specs.Class.{def_of, IsReadDef}
 use Rattle.file_laws.specs.ClassData.{entry_of, lists_of}
 use Rattle.file_laws.proofs.Classes.{founds_def}

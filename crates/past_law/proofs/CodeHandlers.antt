@@ -31,8 +31,8 @@ use Rattle.dex_defs.specs.CodeItems.{Frame, tries_at, lists_at}
 use Rattle.dex_defs.specs.CodeFaults.{HasTries, HasCatches}
 use Rattle.dex_defs.specs.Limits.{IsMethodCode, IsItem, handlers_in}
 use Rattle.dex_defs.specs.Limits as limits
-use Rattle.code_laws.proofs.Catches.{HasLists, has_lists, sees_caught}
-use Rattle.code_laws.proofs.Shifts.{shift_uleb, shift_chain, shift_catches}
+use Rattle.file_laws.proofs.Catches.{HasLists, has_lists, sees_caught}
+use Rattle.file_laws.proofs.Shifts.{shift_uleb, shift_chain, shift_catches}
 use Rattle.refused_code.proofs.Trying.{try_of, tries_from}
 use Rattle.past_law.specs.Told.{Told, one_past}
 use Rattle.past_law.proofs.Told.{none as nothing}

@@ -26,8 +26,8 @@ use Rattle.dex_defs.specs.Limits as limits
 use Rattle.dex_read.specs.declared.fault.DexFault.{DexFault}
 use Rattle.dex_read.specs.Code.{kept_lines, counted_lines, lined_at}
 use Rattle.dex_read.specs.Header.{past}
-use Rattle.code_laws.specs.Founds.{Founds}
-use Rattle.code_laws.proofs.Founding.{weaker, done, when, either, next}
+use Rattle.file_laws.specs.Founds.{Founds}
+use Rattle.file_laws.proofs.Founding.{weaker, done, when, either, next}
 use Rattle.past_law.specs.Told.{Told}
 use Rattle.past_law.proofs.CodeReads.{Reads, gives, refuses, by_test}
 use Rattle.past_law.proofs.CodeTold.{renamed, lined}

@@ -33,8 +33,8 @@ use Rattle.dex_read.specs.Code.{gap, item_at, frame_at, units_at, body_at, sizes
 use Rattle.dex_read.specs.Faults.{of_base}
 use Rattle.dex_read.specs.Header.{need_at, past}
 use Rattle.dex_read.specs.Word.{half_at, word_at}
-use Rattle.code_laws.specs.Founds.{Founds}
-use Rattle.code_laws.proofs.Founding.{known}
+use Rattle.file_laws.specs.Founds.{Founds}
+use Rattle.file_laws.proofs.Founding.{known}
 use Rattle.file_laws.specs.Class.{IsReadItem}
 use Rattle.file_laws.specs.ClassData.{entry_of}
 use Rattle.file_laws.proofs.Classes.{founds_frame}

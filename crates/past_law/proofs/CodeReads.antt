@@ -7,7 +7,7 @@ use Rattle.code_read.specs.declared.fault.CodeFault.{CodeFault}
 use Rattle.code_read.specs.declared.fault.CodeFault.TheVariants as code
 use Rattle.dex_read.specs.declared.fault.DexFault.{DexFault}
 use Rattle.dex_read.specs.declared.fault.DexFault.TheVariants as dex
-use Rattle.code_laws.specs.Founds.{Founds}
+use Rattle.file_laws.specs.Founds.{Founds}
 use Rattle.refused_law.proofs.Failing.{Fails}
 use Rattle.past_law.specs.Code.{OnPast}
 

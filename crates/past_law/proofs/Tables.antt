@@ -41,8 +41,8 @@ use Rattle.dex_read.specs.Faults.{of_pool}
 use Rattle.dex_read.specs.File.{tables_with, tables_at, head_at}
 use Rattle.dex_read.specs.Header.{version_at, fixed_at, sum_at, size_at, header_at, past, magic_035, magic_037}
 use Rattle.file_laws.proofs.Words as words
-use Rattle.code_laws.specs.Founds.{Founds}
-use Rattle.code_laws.proofs.Founding.{done, weaker, lifted}
+use Rattle.file_laws.specs.Founds.{Founds}
+use Rattle.file_laws.proofs.Founding.{done, weaker, lifted}
 use Rattle.spelled_law.proofs.Values.{founds_count}
 use Rattle.refused_law.proofs.Failing.{Fails, sound, fails_with, unless, fails_next, fails_lifted, fails_more}
 use Rattle.refused_law.proofs.Tables.{entry_at}

@@ -29,16 +29,16 @@ use Rattle.dalvik_defs.proofs.Calm.{text_sound}
 use Rattle.dalvik_defs.proofs.Simulation.{after_suc}
 use Rattle.pass_defs.specs.Kinds.{is_plain}
 use Rattle.pass_defs.specs.Walks.{form_at}
-use Rattle.invariant_law.specs.Holds.{Holds}
-use Rattle.stuck_law.specs.Regular.{IsRegular}
-use Rattle.stuck_law.specs.TypedStates.{IsObject, TypedFrame, TypedWorld, typed_states}
-use Rattle.stuck_law.proofs.Here.{At}
-use Rattle.stuck_law.proofs.Climbs.{class_in, name_of, plain_defined, defined_below, none_some}
-use Rattle.stuck_law.proofs.Values.{instance_thing}
-use Rattle.stuck_law.proofs.Worlds.{at_typed}
-use Rattle.stuck_law.proofs.Runs.{settled, typed_regular}
-use Rattle.stuck_law.proofs.Searches.{finds_regularly}
-use Rattle.stuck_law.proofs.Settled.{IsSettled, FindsRegularly}
+use Rattle.run_laws.specs.Holds.{Holds}
+use Rattle.run_laws.specs.Regular.{IsRegular}
+use Rattle.run_laws.specs.TypedStates.{IsObject, TypedFrame, TypedWorld, typed_states}
+use Rattle.run_laws.proofs.Here.{At}
+use Rattle.run_laws.proofs.Climbs.{class_in, name_of, plain_defined, defined_below, none_some}
+use Rattle.run_laws.proofs.Values.{instance_thing}
+use Rattle.run_laws.proofs.Worlds.{at_typed}
+use Rattle.run_laws.proofs.Runs.{settled, typed_regular}
+use Rattle.run_laws.proofs.Searches.{finds_regularly}
+use Rattle.run_laws.proofs.Settled.{IsSettled, FindsRegularly}
 use Rattle.removal_law.specs.Left.{NamesNone}
 use Rattle.removal_law.specs.Reach.{IsAcyclic}
 use Rattle.removal_law.specs.Reach as reach

@@ -21,13 +21,13 @@ use Rattle.dalvik_defs.specs.declared.tables.Framework.{Framework}
 use Rattle.pass_defs.specs.Analysis.{Analysis}
 use Rattle.pass_defs.specs.Facts.{Facts}
 use Rattle.pass_defs.specs.Walks.{form_at}
-use Rattle.invariant_law.specs.Holds.{Holds}
+use Rattle.run_laws.specs.Holds.{Holds}
 use Rattle.run_facts.specs.Covered.{CoversTop}
-use Rattle.stuck_law.specs.Regular.{IsRegular}
-use Rattle.stuck_law.specs.TypedStates.{IsObject, TypedFrame, TypedWorld}
-use Rattle.stuck_law.proofs.Runs.{settled}
-use Rattle.stuck_law.proofs.Searches.{finds_regularly}
-use Rattle.stuck_law.proofs.Settled.{IsSettled, FindsRegularly}
+use Rattle.run_laws.specs.Regular.{IsRegular}
+use Rattle.run_laws.specs.TypedStates.{IsObject, TypedFrame, TypedWorld}
+use Rattle.run_laws.proofs.Runs.{settled}
+use Rattle.run_laws.proofs.Searches.{finds_regularly}
+use Rattle.run_laws.proofs.Settled.{IsSettled, FindsRegularly}
 use Rattle.cover_law.specs.Coverable.{IsCoverable}
 use Rattle.cover_law.specs.States.{covered_states}
 use Rattle.cover_law.proofs.Runs.{covered_regular}

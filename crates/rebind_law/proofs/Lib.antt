@@ -7,3 +7,9 @@ pub mod Retyping
 pub mod Middle
 pub mod Others
 pub mod Places
+mod NoName
+mod Positions
+mod Regular
+mod Entering
+mod Keeping
+pub mod ByReasons

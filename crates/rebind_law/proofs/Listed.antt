@@ -16,8 +16,8 @@ use Rattle.pass_defs.specs.Live.{KeepsAbove, everything}
 use Rattle.removal_law.specs.Reach.{IsRegular}
 use Rattle.removal_law.proofs.Climbs.{climb_under, answer_climbs}
 use Rattle.removal_law.proofs.Searches.{nothing_finds, at_in}
-use Rattle.stuck_law.proofs.Settled.{IsFound}
-use Rattle.stuck_law.proofs.Sorts.{class_alone}
+use Rattle.run_laws.proofs.Settled.{IsFound}
+use Rattle.run_laws.proofs.Sorts.{class_alone}
 use Rattle.rebind_law.specs.Receivers.{finds_listed}
 
 clash : {A : Type 0} → true ≡ false → A

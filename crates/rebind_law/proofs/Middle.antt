@@ -12,7 +12,7 @@ use Rattle.dalvik_defs.specs.declared.program.NamedClass.{NamedClass}
 use Rattle.dalvik_defs.specs.declared.program.NamedProgram.{NamedProgram}
 use Rattle.dalvik_defs.specs.declared.tables.Framework.{Framework}
 use Rattle.dalvik_defs.proofs.Same.{fits_less, same_shown_on}
-use Rattle.stuck_law.specs.Regular.{IsRegular}
+use Rattle.run_laws.specs.Regular.{IsRegular}
 use Rattle.removal_law.specs.Reach.{IsAcyclic}
 use Rattle.rebind_law.specs.Receivers.{BoundByClass, AreChanged}
 use Rattle.rebind_law.proofs.ByClass.{by_class_shown}

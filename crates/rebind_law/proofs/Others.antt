@@ -6,9 +6,9 @@ use Rattle.dalvik_defs.specs.declared.forms.Form.{Form}
 use Rattle.dalvik_defs.specs.declared.names.MethodKey.{MethodKey}
 use Rattle.dalvik_defs.specs.declared.program.NamedBody.{NamedBody}
 use Rattle.dalvik_defs.specs.declared.program.NamedProgram.{NamedProgram}
-use Rattle.bodies_law.specs.Others.{OtherBodies}
-use Rattle.bodies_law.proofs.Faces.{others_face}
-use Rattle.bodies_law.proofs.Found.{others_found}
+use Rattle.program_laws.specs.Others.{OtherBodies}
+use Rattle.program_laws.proofs.Faces.{others_face}
+use Rattle.program_laws.proofs.Found.{others_found}
 use Rattle.rebind_law.specs.Receivers.{IsChanged, AreChanged, ChangesCode, NoCode, Kept, Changed}
 
 some_is : {A : Type 0} (x y : A) → Some x ≡ Some y → x ≡ y

@@ -25,12 +25,12 @@ use Rattle.pass_defs.specs.Demands.{Constructed, Fits, meets, passed, is_constru
 use Rattle.pass_defs.specs.Kinds.{is_plain, fits}
 use Rattle.pass_defs.specs.Registers.{kind_at}
 use Rattle.pass_defs.specs.Walks.{form_at}
-use Rattle.stuck_law.specs.TypedStates.{IsObject, TypedFrame, TypedWorld}
-use Rattle.stuck_law.proofs.Settled.{IsSettled, FindsRegularly}
-use Rattle.stuck_law.proofs.Registers.{and_left}
-use Rattle.stuck_law.proofs.Here.{At, at_form}
-use Rattle.stuck_law.proofs.Calls.{fits_object}
-use Rattle.stuck_law.proofs.FieldForms.{fitting}
+use Rattle.run_laws.specs.TypedStates.{IsObject, TypedFrame, TypedWorld}
+use Rattle.run_laws.proofs.Settled.{IsSettled, FindsRegularly}
+use Rattle.run_laws.proofs.Registers.{and_left}
+use Rattle.run_laws.proofs.Here.{At, at_form}
+use Rattle.run_laws.proofs.Calls.{fits_object}
+use Rattle.run_laws.proofs.FieldForms.{fitting}
 use Rattle.rebind_law.specs.Receivers.{Renames}
 
 some_is : {A : Type 0} (x y : A) → Some x ≡ Some y → x ≡ y

@@ -21,8 +21,8 @@ use Rattle.pass_defs.specs.Kinds.{kind_of}
 use Rattle.pass_defs.specs.Registers.{Kinds, kind_at, state_below}
 use Rattle.pass_defs.specs.Typed.{Table, state_at, at_state, each, arrives, edges, after, begun, constructed, receiver_register, is_static_call, catches_in, is_wrong, wrong_method, words_of, IsTyping, IsTyped}
 use Rattle.pass_defs.specs.Walks.{form_at, is_covered, region_at, onward}
-use Rattle.bodies_law.specs.Others.{OtherBodies}
-use Rattle.bodies_law.proofs.Typed.{others_typed}
+use Rattle.program_laws.specs.Others.{OtherBodies}
+use Rattle.program_laws.proofs.Typed.{others_typed}
 use Rattle.rebind_law.specs.Retyping.{Retypes, IsRetyped, Retyped, NoCode, Kept, Changed}
 
 some_is : {A : Type 0} (x y : A) → Some x ≡ Some y → x ≡ y

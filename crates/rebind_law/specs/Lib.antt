@@ -1,3 +1,5 @@
 pub mod Rebinding
 pub mod Receivers
 pub mod Retyping
+pub mod Asking
+pub mod Reasons

@@ -25,9 +25,9 @@ use Rattle.dex_defs.specs.Sweep.{starts_of, Piece, Places, instructions, places_
 use Rattle.dex_defs.specs.CodeItems.{Frame, tries_at}
 use Rattle.dex_defs.specs.CodeFaults.{HasUnits, BadSweep, BadInsn, BadTry, IsHandlerAt, BadCode}
 use Rattle.dex_defs.specs.CodeFaults as bad
-use Rattle.code_laws.specs.Founds.{Founds}
-use Rattle.code_laws.proofs.Founding.{weaker, done, next}
-use Rattle.code_laws.proofs.Sweeping.{Swept, Instructed, founds_swept, are_instructed, fewer}
+use Rattle.file_laws.specs.Founds.{Founds}
+use Rattle.file_laws.proofs.Founding.{weaker, done, next}
+use Rattle.file_laws.proofs.Sweeping.{Swept, Instructed, founds_swept, are_instructed, fewer}
 use Rattle.refused_law.proofs.Failing.{Fails, sound, fails_with, unless, fails_next, fails_more}
 use Rattle.refused_code.proofs.Sweeping.{fails_pieces}
 use Rattle.refused_code.proofs.Flowing.{none_begins, are_apart, Sized, are_sized, continuing, gap_there}
@@ -35,7 +35,7 @@ use Rattle.refused_code.proofs.Targeting.{bad_target}
 use Rattle.refused_code.proofs.Trying.{RisesFrom, they_rise, fails_regions}
 use Rattle.refused_code.proofs.Moving.{astray}
 use Rattle.refused_code.proofs.Handling.{is_handled, none_handled}
-use Rattle.code_laws.proofs.Decoding.{founds_right}
+use Rattle.file_laws.proofs.Decoding.{founds_right}
 use Rattle.code_read.specs.Checks.{targets_inside}
 use Rattle.code_read.specs.Payloads.{has_payload, is_right}
 use Rattle.std.proofs.lemmas.List.Quantifiers.{position-Some}

@@ -22,8 +22,8 @@ use Rattle.code_read.specs.Payloads.{has_payload, payload_size}
 use Rattle.code_read.specs.Sweep.{Piece, piece_size, payload_kind, first_unit, is_payload, is_nop, only_fills, instructions}
 use Rattle.dex_defs.specs.Sweep.{Places, PiecesTo, starts_of}
 use Rattle.dex_defs.specs.CodeFaults.{continues}
-use Rattle.code_laws.proofs.Sweeping.{Lies}
-use Rattle.code_laws.proofs.Insns.{IsKind, ACall, ABranch, ATable, APlain}
+use Rattle.file_laws.proofs.Sweeping.{Lies}
+use Rattle.file_laws.proofs.Insns.{IsKind, ACall, ABranch, ATable, APlain}
 use Rattle.spelled_law.proofs.Starts.{some_piece}
 use Rattle.refused_code.proofs.Reading.{either_true}
 

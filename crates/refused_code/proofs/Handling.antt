@@ -17,7 +17,7 @@ use Rattle.dex_defs.specs.Handlers.{Try, IsTry, Catches, covers, covering, IsHan
 use Rattle.dex_defs.specs.CodeItems.{Frame, tries_at, lists_at}
 use Rattle.dex_defs.specs.CodeFaults.{HasTries, HasCatches, IsHandlerAt}
 use Rattle.dex_defs.specs.CodeFaults as bad
-use Rattle.code_laws.proofs.Trying.{founds_regions}
+use Rattle.file_laws.proofs.Trying.{founds_regions}
 use Rattle.spelled_law.proofs.Once.{each_once}
 use Rattle.spelled_law.proofs.OnceCode.{catches_once, try_once}
 use Rattle.refused_code.proofs.Caught.{any_got}

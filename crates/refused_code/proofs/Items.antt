@@ -29,9 +29,9 @@ use Rattle.dex_read.specs.Header.{need_at, past}
 use Rattle.dex_read.specs.Tables.{sizes_in}
 use Rattle.dex_read.specs.Word.{half_at, word_at}
 use Rattle.line_tables.specs.Item.{lines_at}
-use Rattle.code_laws.specs.Founds.{Founds}
-use Rattle.code_laws.proofs.Founding.{known, weaker, done, next}
-use Rattle.code_laws.proofs.Bodies.{whatever}
+use Rattle.file_laws.specs.Founds.{Founds}
+use Rattle.file_laws.proofs.Founding.{known, weaker, done, next}
+use Rattle.file_laws.proofs.Bodies.{whatever}
 use Rattle.file_laws.specs.Class.{IsReadItem}
 use Rattle.file_laws.specs.ClassData.{entry_of}
 use Rattle.file_laws.proofs.Classes.{founds_frame}

@@ -31,11 +31,11 @@ use Rattle.dex_defs.specs.Instructions as d
 use Rattle.dex_defs.specs.CodeItems.{Frame}
 use Rattle.dex_defs.specs.CodeFaults.{HasInsn, IsGoneTo, IsHandlerAt, BadMove, moves_result, moves_caught, offsets_at, kind_for}
 use Rattle.dex_defs.specs.CodeFaults as bad
-use Rattle.code_laws.specs.Founds.{Founds}
-use Rattle.code_laws.proofs.Founding.{weaker, done, when}
-use Rattle.code_laws.proofs.Sweeping.{Instructed}
-use Rattle.code_laws.proofs.Insns.{IsKind, ACall, ABranch, ATable, APlain, leads}
-use Rattle.code_laws.proofs.Payloads.{Found, found_payload, is_payload}
+use Rattle.file_laws.specs.Founds.{Founds}
+use Rattle.file_laws.proofs.Founding.{weaker, done, when}
+use Rattle.file_laws.proofs.Sweeping.{Instructed}
+use Rattle.file_laws.proofs.Insns.{IsKind, ACall, ABranch, ATable, APlain, leads}
+use Rattle.file_laws.proofs.Payloads.{Found, found_payload, is_payload}
 use Rattle.refused_law.proofs.Defs.{and_none}
 use Rattle.refused_code.proofs.Flowing.{continuing, numbered, unequal}
 use Rattle.refused_code.proofs.Reading.{IsTable, is_table, AreRead, read_kind, founds_checked}

@@ -27,11 +27,11 @@ use Rattle.dex_defs.specs.Sweep.{Piece, Places, starts_of}
 use Rattle.dex_defs.specs.Instructions as d
 use Rattle.dex_defs.specs.CodeFaults.{BadPayload, BadOperand, kind_for}
 use Rattle.dex_defs.specs.CodeFaults as bad
-use Rattle.code_laws.specs.Founds.{Founds}
-use Rattle.code_laws.proofs.Founding.{weaker, done, when, next}
-use Rattle.code_laws.proofs.Sweeping.{Instructed}
-use Rattle.code_laws.proofs.Insns.{IsKind, ACall, ABranch, ATable, APlain, founds_kind}
-use Rattle.code_laws.proofs.Payloads.{Found, found_payload, at_drop, is_payload, signed_there}
+use Rattle.file_laws.specs.Founds.{Founds}
+use Rattle.file_laws.proofs.Founding.{weaker, done, when, next}
+use Rattle.file_laws.proofs.Sweeping.{Instructed}
+use Rattle.file_laws.proofs.Insns.{IsKind, ACall, ABranch, ATable, APlain, founds_kind}
+use Rattle.file_laws.proofs.Payloads.{Found, found_payload, at_drop, is_payload, signed_there}
 use Rattle.refused_law.proofs.Defs.{and_none}
 use Rattle.refused_law.proofs.Failing.{Fails, sound, fails_with, unless, fails_either, fails_next}
 

@@ -24,8 +24,8 @@ use Rattle.dex_defs.specs.Sweep.{Piece, Places}
 use Rattle.dex_defs.specs.Instructions as d
 use Rattle.dex_defs.specs.CodeFaults.{BadTarget, offsets_at}
 use Rattle.dex_defs.specs.CodeFaults as bad
-use Rattle.code_laws.proofs.Insns.{IsKind, ACall, ABranch, ATable, APlain}
-use Rattle.code_laws.proofs.Payloads.{Found, found_payload, at_drop, is_payload, signed_there}
+use Rattle.file_laws.proofs.Insns.{IsKind, ACall, ABranch, ATable, APlain}
+use Rattle.file_laws.proofs.Payloads.{Found, found_payload, at_drop, is_payload, signed_there}
 use Rattle.refused_law.proofs.Defs.{and_none}
 use Rattle.refused_code.proofs.Reading.{IsTable, is_table}
 

@@ -29,10 +29,10 @@ use Rattle.dex_defs.specs.Handlers.{Try, IsTry, Catches, AreCatches, AreCatchesA
 use Rattle.dex_defs.specs.CodeItems.{Frame, tries_at, lists_at}
 use Rattle.dex_defs.specs.CodeFaults.{HasTries, IsBefore, BadRegion, BadTry}
 use Rattle.dex_defs.specs.CodeFaults as bad
-use Rattle.code_laws.specs.Founds.{Founds}
-use Rattle.code_laws.proofs.Founding.{weaker, done, failed, when, either}
-use Rattle.code_laws.proofs.Catches.{HasLists, has_lists, sees_end}
-use Rattle.code_laws.proofs.Shifts.{shift_uleb, shift_chain, shift_catches}
+use Rattle.file_laws.specs.Founds.{Founds}
+use Rattle.file_laws.proofs.Founding.{weaker, done, failed, when, either}
+use Rattle.file_laws.proofs.Catches.{HasLists, has_lists, sees_end}
+use Rattle.file_laws.proofs.Shifts.{shift_uleb, shift_chain, shift_catches}
 use Rattle.refused_law.proofs.Defs.{and_none}
 use Rattle.refused_law.proofs.Failing.{Fails, sound, fails_with, unless, fails_either, fails_next}
 use Rattle.refused_code.proofs.Flowing.{ApartFrom, unequal}

@@ -37,7 +37,7 @@ use Rattle.dex_read.specs.Steps.{change_at, steps}
 use Rattle.dex_read.specs.Tables.{sizes_in}
 use Rattle.file_laws.specs.ClassData.{entry_of}
 use Rattle.file_laws.proofs.Words.{finds_number}
-use Rattle.code_laws.proofs.Founding.{lifted}
+use Rattle.file_laws.proofs.Founding.{lifted}
 use Rattle.spelled_law.proofs.Firsts.{layer_same, founds_give}
 use Rattle.spelled_law.proofs.Values.{founds_value}
 use Rattle.refused_law.specs.Just.{IsJust}

@@ -41,8 +41,8 @@ use Rattle.dex_defs.specs.Faults.{HasText, HasTypeText, shorty_letter, HasLetter
 use Rattle.dex_defs.specs.Faults as faults
 use Rattle.dex_defs.specs.ClassFaults.{HasFault, BadPart, BadPools, BadOrder}
 use Rattle.dex_defs.specs.Parts as parts
-use Rattle.code_laws.specs.Founds.{Founds}
-use Rattle.code_laws.proofs.Founding.{known, weaker, done, when, either, next, founds_run}
+use Rattle.file_laws.specs.Founds.{Founds}
+use Rattle.file_laws.proofs.Founding.{known, weaker, done, when, either, next, founds_run}
 use Rattle.spelled_law.proofs.Once.{two}
 use Rattle.spelled_law.proofs.Values.{each_of}
 use Rattle.refused_law.specs.Just.{IsJustPool}

@@ -46,9 +46,9 @@ use Rattle.dex_defs.specs.Placed as placed
 use Rattle.dex_defs.specs.Faults.{HasText, HasTypeText}
 use Rattle.dex_defs.specs.Faults as faults
 use Rattle.dex_defs.specs.ClassFaults.{BadPart, BadPools, BadOrder}
-use Rattle.code_laws.specs.Founds.{Founds}
-use Rattle.code_laws.proofs.Founding.{known, weaker, done, next, founds_run}
-use Rattle.code_laws.proofs.Bodies.{whatever}
+use Rattle.file_laws.specs.Founds.{Founds}
+use Rattle.file_laws.proofs.Founding.{known, weaker, done, next, founds_run}
+use Rattle.file_laws.proofs.Bodies.{whatever}
 use Rattle.spelled_law.proofs.Values.{each_of}
 use Rattle.refused_law.specs.Just.{IsJustPool}
 use Rattle.refused_law.proofs.Failing.{Fails, sound, fails_with, stands, unless, fails_next, fails_lifted, fails_more, fails_by, fails_each, fails_run, each_at, NotAscends, fails_ascending}

@@ -37,8 +37,8 @@ use Rattle.dex_defs.specs.Faults as faults
 use Rattle.dex_defs.specs.Values.{tag_at, argument_at, HasTag, AreItems, IsElement, IsNote, IsValueIn, IsValue}
 use Rattle.dex_defs.specs.Values as defs
 use Rattle.dex_defs.specs.ClassFaults.{BadPart, BadOrder, BadValues}
-use Rattle.code_laws.specs.Founds.{Founds}
-use Rattle.code_laws.proofs.Founding.{known, weaker, done, when, next, founds_run}
+use Rattle.file_laws.specs.Founds.{Founds}
+use Rattle.file_laws.proofs.Founding.{known, weaker, done, when, next, founds_run}
 use Rattle.spelled_law.proofs.Values.{chain_of, each_of, founds_value, founds_byte, founds_few, founds_index, founds_counted, founds_element, founds_marked}
 use Rattle.refused_law.specs.Just.{IsJustPool}
 use Rattle.refused_law.proofs.Failing.{Fails, sound, fails_with, unless, fails_either, fails_next, fails_lifted, fails_more, fails_by, fails_run, each_at, NotAscends, fails_ascending}

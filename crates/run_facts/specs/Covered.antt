@@ -22,7 +22,7 @@ use Rattle.dalvik_defs.specs.Stack.{form_at}
 use Rattle.dalvik_defs.specs.Effect.{register}
 use Rattle.pass_defs.specs.Typed.{receiver_register}
 use Rattle.pass_defs.specs.Facts.{Facts, Initialises, needs, IsEnteredOn}
-use Rattle.invariant_law.specs.Invariant.{Above, Callee, Begun, Owing, Invariant, Grows}
+use Rattle.run_laws.specs.Invariant.{Above, Callee, Begun, Owing, Invariant, Grows}
 use Rattle.pass_defs.specs.Analysis.{Analysis}
 use Rattle.run_facts.specs.Closed.{At, MayCall, MayLeave, Results, IsNeeded}
 

@@ -16,8 +16,8 @@ use Rattle.dex_read.specs.declared.members.Owner.{Owner}
 use Rattle.dex_read.specs.Classes.{field_with, no_members, root_at, class_at}
 use Rattle.dex_read.specs.Classes as classes
 use Rattle.dex_read.specs.Tables.{sizes_in}
-use Rattle.code_laws.specs.Founds.{Founds}
-use Rattle.code_laws.proofs.Founding.{weaker, done, when, either}
+use Rattle.file_laws.specs.Founds.{Founds}
+use Rattle.file_laws.proofs.Founding.{weaker, done, when, either}
 use Rattle.file_laws.specs.Class.{def_of, IsReadDef}
 use Rattle.file_laws.specs.ClassData.{lists_of, FieldSuits, MethodSuits, AreMembers}
 use Rattle.file_laws.proofs.ClassData.{founds_members}

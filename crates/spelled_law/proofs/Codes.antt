@@ -22,10 +22,10 @@ use Rattle.dex_read.specs.Header.{need_at}
 use Rattle.dex_read.specs.Steps.{for_each}
 use Rattle.dex_read.specs.Tables.{sizes_in}
 use Rattle.dex_read.specs.Word.{half_at, word_at}
-use Rattle.code_laws.specs.Founds.{Founds}
-use Rattle.code_laws.specs.Items.{IsItemBody}
-use Rattle.code_laws.proofs.Founding.{known, weaker, done, either, next}
-use Rattle.code_laws.proofs.Bodies.{whatever}
+use Rattle.file_laws.specs.Founds.{Founds}
+use Rattle.file_laws.specs.Items.{IsItemBody}
+use Rattle.file_laws.proofs.Founding.{known, weaker, done, either, next}
+use Rattle.file_laws.proofs.Bodies.{whatever}
 use Rattle.file_laws.specs.Class.{IsReadItem}
 use Rattle.file_laws.proofs.Classes.{founds_frame, founds_body}
 use Rattle.file_laws.proofs.Lines.{founds_lines}

@@ -23,9 +23,9 @@ use Rattle.dex_read.specs.Directory.{pair_at, found_at, named_at, with_marks, wi
 use Rattle.dex_read.specs.Header.{need_at}
 use Rattle.dex_read.specs.Steps.{change_at}
 use Rattle.dex_read.specs.Tables.{sizes_in}
-use Rattle.code_laws.specs.Founds.{Founds}
-use Rattle.code_laws.proofs.Founding.{known, weaker, done, failed, when, either, next}
-use Rattle.code_laws.proofs.Bodies.{whatever}
+use Rattle.file_laws.specs.Founds.{Founds}
+use Rattle.file_laws.proofs.Founding.{known, weaker, done, failed, when, either, next}
+use Rattle.file_laws.proofs.Bodies.{whatever}
 use Rattle.file_laws.specs.ClassData.{entry_of}
 use Rattle.file_laws.proofs.Words.{finds_word}
 use Rattle.spelled_law.proofs.Values.{founds_set, founds_sets}

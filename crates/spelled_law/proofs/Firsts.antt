@@ -23,9 +23,9 @@ use Rattle.dex_read.specs.Faults.{of_pool}
 use Rattle.dex_read.specs.FirstValues.{layer_is_of, layer_is_zero, is_of, first_of, with_first, takes, give_first, firsts_at}
 use Rattle.dex_read.specs.Steps.{change_at, steps}
 use Rattle.dex_read.specs.Tables.{sizes_in}
-use Rattle.code_laws.specs.Founds.{Founds}
-use Rattle.code_laws.proofs.Founding.{known, weaker, done, when, either, next, lifted}
-use Rattle.code_laws.proofs.Bodies.{whatever}
+use Rattle.file_laws.specs.Founds.{Founds}
+use Rattle.file_laws.proofs.Founding.{known, weaker, done, when, either, next, lifted}
+use Rattle.file_laws.proofs.Bodies.{whatever}
 use Rattle.file_laws.proofs.Words.{finds_number}
 use Rattle.spelled_law.proofs.Values.{founds_value}
 

@@ -10,8 +10,8 @@ use Rattle.dex_defs.specs.Annotations.{pair_below, offset_for}
 use Rattle.dex_read.specs.declared.class_data.Listed.{Listed}
 use Rattle.dex_read.specs.ClassData.{place_in}
 use Rattle.dex_read.specs.Steps.{change_at, steps}
-use Rattle.code_laws.specs.Founds.{Founds}
-use Rattle.code_laws.proofs.Founding.{weaker, done, next}
+use Rattle.file_laws.specs.Founds.{Founds}
+use Rattle.file_laws.proofs.Founding.{weaker, done, next}
 
 -- ---- members beside their entries, before and behind a change
 

@@ -29,9 +29,9 @@ use Rattle.dex_defs.specs.Annotations.{IsMark, IsMarkOf, AreMarks, AreMarksOf, I
 use Rattle.dex_read.specs.Directory.{set_at, sets_at}
 use Rattle.dex_read.specs.Faults.{of_pool}
 use Rattle.dex_read.specs.Tables.{sizes_in}
-use Rattle.code_laws.specs.Founds.{Founds}
-use Rattle.code_laws.proofs.Founding.{known, weaker, done, failed, when, either, next, lifted, founds_run}
-use Rattle.code_laws.proofs.Bodies.{whatever}
+use Rattle.file_laws.specs.Founds.{Founds}
+use Rattle.file_laws.proofs.Founding.{known, weaker, done, failed, when, either, next, lifted, founds_run}
+use Rattle.file_laws.proofs.Bodies.{whatever}
 
 -- ---- pairs, and runs that are chains
 

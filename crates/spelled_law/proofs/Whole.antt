@@ -14,8 +14,8 @@ use Rattle.dex_defs.specs.Spells.{Spells}
 use Rattle.dex_read.specs.declared.members.Budget.{Budget}
 use Rattle.dex_read.specs.File.{tables_with, class_in, table_at, classes_at, program_at}
 use Rattle.dex_read.specs.Tables.{sizes_in}
-use Rattle.code_laws.specs.Founds.{Founds}
-use Rattle.code_laws.proofs.Founding.{known, weaker, done, either, next, founds_run}
+use Rattle.file_laws.specs.Founds.{Founds}
+use Rattle.file_laws.proofs.Founding.{known, weaker, done, either, next, founds_run}
 use Rattle.file_laws.specs.Tables.{IsHead}
 use Rattle.file_laws.proofs.Tables.{finds_head}
 use Rattle.file_laws.proofs.Words.{finds_word, finds_need}

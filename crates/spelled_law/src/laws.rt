@@ -14,7 +14,7 @@ ghost use Rattle.dex_read.specs.Classes.{class_at};
 ghost use Rattle.dex_read.specs.Directory.{set_at, sets_at};
 ghost use Rattle.dex_read.specs.File.{program_at};
 ghost use Rattle.dex_read.specs.Tables.{sizes_in};
-ghost use Rattle.code_laws.specs.Founds.{Founds};
+ghost use Rattle.file_laws.specs.Founds.{Founds};
 
 /// The values, the sets of annotations and the lists of such sets that are read stand there.
 pub fn values_law()

@@ -10,8 +10,8 @@ use Rattle.program_model.specs.declared.program.Method.{Method}
 use Rattle.program_model.specs.declared.program.Program.{Program}
 use Rattle.call_graph.specs.declared.live_set.LiveSet.{LiveSet}
 use Rattle.reach.specs.Kept.{is_marked, kept_in, kept_of, live_classes}
-use Rattle.bodies_law.specs.Numbered.{NumberedCodes, OtherNumberedBodies, OtherNumberedClass, OtherNumberedMethod}
-use Rattle.bodies_law.specs.Others.{Pairwise}
+use Rattle.program_laws.specs.Numbered.{NumberedCodes, OtherNumberedBodies, OtherNumberedClass, OtherNumberedMethod}
+use Rattle.program_laws.specs.Others.{Pairwise}
 use Rattle.facts.specs.declared.facts.Facts.{Facts}
 use Rattle.staticise.specs.Judging.{judged}
 use Rattle.staticise.specs.Left.{class_receivers, has_receiver_word, receivers_in}

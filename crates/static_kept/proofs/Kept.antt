@@ -27,39 +27,39 @@ use Rattle.facts.specs.declared.facts.Facts.{Facts}
 use Rattle.closed_facts.specs.Closed.{AreClosed}
 use Rattle.premises.specs.Makers.{MakersAreOwn}
 use Rattle.premises.specs.Numbers.{AllHaveWords}
-use Rattle.closed_bridge.specs.Names.{named_facts, values}
-use Rattle.closed_bridge.proofs.Closing.{closed_named}
-use Rattle.closed_bridge.proofs.Making.{makers_named}
-use Rattle.tabled_law.proofs.Apart.{tabled, tabled_apart}
-use Rattle.fold_bridge.specs.Folds.{AreNamed}
-use Rattle.outer_law.specs.Shutting.{ShutsAlike}
+use Rattle.facts_kept.specs.Names.{named_facts, values}
+use Rattle.facts_kept.proofs.Closing.{closed_named}
+use Rattle.facts_kept.proofs.Making.{makers_named}
+use Rattle.facts_kept.proofs.Apart.{tabled, tabled_apart}
+use Rattle.facts_kept.specs.Folds.{AreNamed}
+use Rattle.program_laws.specs.Shutting.{ShutsAlike}
 use Rattle.pass_defs.specs.Numbered.{tables_of}
 use Rattle.pass_defs.specs.Typed.{IsTyped}
 use Rattle.removal_law.specs.Reach.{ShutsHold, TellsApart}
 use Rattle.removal_law.proofs.Protos.{told_apart}
-use Rattle.stuck_law.specs.Regular.{IsRegular}
-use Rattle.stuck_bridge.proofs.Formed as stuck
-use Rattle.static_names.specs.Receiving.{HoldNoNull}
-use Rattle.static_names.specs.Static.{AreInTables, IsSound, MayAllBeStatic}
-use Rattle.static_names.proofs.Given.{sound as sound_names}
-use Rattle.static_names.proofs.Told.{static_told}
-use Rattle.static_names.proofs.Upright.{defines_once, names_once}
+use Rattle.run_laws.specs.Regular.{IsRegular}
+use Rattle.removal_bridge.proofs.TypedFormed as stuck
+use Rattle.static_law.specs.Receiving.{HoldNoNull}
+use Rattle.static_law.specs.Static.{AreInTables, IsSound, MayAllBeStatic}
+use Rattle.static_law.proofs.Given.{sound as sound_names}
+use Rattle.static_law.proofs.Told.{static_told}
+use Rattle.static_law.proofs.Upright.{defines_once, names_once}
 use Rattle.removal_bridge.proofs.Formed as upright
-use Rattle.loosened_bridge.specs.Edited.{IsEdited, IsPlanned, loose_in, target_of}
-use Rattle.loosened_bridge.proofs.Premises.{described, in_tables, names_described}
+use Rattle.static_law.specs.Edited.{IsEdited, IsPlanned, loose_in, target_of}
+use Rattle.static_law.proofs.Premises.{described, in_tables, names_described}
 use Rattle.staticise.specs.Judging.{judged}
 use Rattle.staticise.specs.Loosened.{IsLoosenedBy, IsStaticisedBy}
-use Rattle.static_choice.specs.Choice.{IsPlan, given_by}
-use Rattle.static_choice.proofs.Edited.{edited_by}
-use Rattle.static_choice.proofs.Made.{chosen}
-use Rattle.static_choice.proofs.May.{all_may}
-use Rattle.static_choice.proofs.Planned.{free, planned_by}
-use Rattle.static_bridge.proofs.Graph.{still_grounded, still_once, still_whole}
-use Rattle.static_bridge.proofs.Outers.{outer_same, shuts_alike}
-use Rattle.static_bridge.proofs.Shuts.{shuts_still}
-use Rattle.static_bridge.proofs.Whole.{defines_now, shown_now, typed_now}
-use Rattle.static_facts.specs.Knows.{KnowsNotNull}
-use Rattle.static_facts.proofs.NoNull.{hold_no_null}
+use Rattle.static_kept.specs.Choice.{IsPlan, given_by}
+use Rattle.static_kept.proofs.Edited.{edited_by}
+use Rattle.static_kept.proofs.MadeStatic.{chosen}
+use Rattle.static_kept.proofs.May.{all_may}
+use Rattle.static_kept.proofs.Planned.{free, planned_by}
+use Rattle.static_law.proofs.Graph.{still_grounded, still_once, still_whole}
+use Rattle.static_law.proofs.Outers.{outer_same, shuts_alike}
+use Rattle.static_law.proofs.Shuts.{shuts_still}
+use Rattle.static_law.proofs.NumberedWhole.{defines_now, shown_now, typed_now}
+use Rattle.static_kept.specs.Knows.{KnowsNotNull}
+use Rattle.static_kept.proofs.NoNull.{hold_no_null}
 use Rattle.static_kept.specs.Kept.{IsKeptStatic}
 use Rattle.static_kept.proofs.Known.{knows_receivers}
 use Rattle.static_kept.proofs.Virtuals.{virtuals_stay}

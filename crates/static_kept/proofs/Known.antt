@@ -36,17 +36,17 @@ use Rattle.pass_defs.specs.Calls.{may_find}
 use Rattle.pass_defs.specs.Loose.{HasReceiver, concerns, names_it}
 use Rattle.pass_defs.specs.Walks.{form_at}
 use Rattle.removal_law.proofs.Declared.{method_same}
-use Rattle.stuck_bridge.proofs.Listed.{method_fits_at}
-use Rattle.static_names.specs.Receiving.{KnowsReceivers}
-use Rattle.loosened_bridge.specs.Edited.{loose_in}
-use Rattle.loosened_bridge.proofs.Classes.{contains_at}
-use Rattle.loosened_bridge.proofs.Fitting.{body_of_code, method_holds}
-use Rattle.loosened_bridge.proofs.Tables.{loose_from}
+use Rattle.removal_bridge.proofs.Listed.{method_fits_at}
+use Rattle.static_law.specs.Receiving.{KnowsReceivers}
+use Rattle.static_law.specs.Edited.{loose_in}
+use Rattle.static_law.proofs.Classes.{contains_at}
+use Rattle.static_law.proofs.Fitting.{body_of_code, method_holds}
+use Rattle.static_law.proofs.Tables.{loose_from}
 use Rattle.loose_methods.specs.Loose as number
-use Rattle.static_choice.specs.Choice.{IsPlan, given_by}
-use Rattle.static_choice.proofs.Coded.{CallAt}
-use Rattle.static_choice.proofs.May.{KnownCall, call_known}
-use Rattle.static_facts.specs.Knows.{KnowsNotNull, holds_no_null, is_not_null, knows_not_null}
+use Rattle.static_kept.specs.Choice.{IsPlan, given_by}
+use Rattle.static_kept.proofs.Coded.{CallAt}
+use Rattle.static_kept.proofs.May.{KnownCall, call_known}
+use Rattle.static_kept.specs.Knows.{KnowsNotNull, holds_no_null, is_not_null, knows_not_null}
 
 -- the same of a register by both names
 not_null_same : (x : Nullness) → number.is_not_null x ≡ is_not_null x

@@ -17,11 +17,11 @@ use Rattle.removal_law.specs.Left.{In, here, there, left_in, left_of}
 use Rattle.removal_law.proofs.Classes.{class_left, dead_found}
 use Rattle.removal_law.proofs.Finds.{in_unfiltered}
 use Rattle.removal_law.proofs.Lists.{contained}
-use Rattle.bodies_law.specs.Numbered.{NumberedCodes, OtherNumberedBodies}
-use Rattle.bodies_law.specs.Others.{Codes, OtherBodies, OtherClass, OtherMethod, Pairwise}
-use Rattle.bodies_law.proofs.Named.{others_named}
-use Rattle.loosened_bridge.proofs.Programs.{in_from}
-use Rattle.alike_law.specs.Virtual.{HasVirtual, VirtualsStay}
+use Rattle.program_laws.specs.Numbered.{NumberedCodes, OtherNumberedBodies}
+use Rattle.program_laws.specs.Others.{Codes, OtherBodies, OtherClass, OtherMethod, Pairwise}
+use Rattle.program_laws.proofs.Named.{others_named}
+use Rattle.static_law.proofs.Programs.{in_from}
+use Rattle.program_laws.specs.Virtual.{HasVirtual, VirtualsStay}
 
 -- ---- removal
 

@@ -18,21 +18,21 @@ use Rattle.class_defs.specs.ClassGraph.{IsTwice}
 use Rattle.class_defs.proofs.WellFormed.{Sound, sound}
 use Rattle.name_bridge.proofs.Tables.{entry_at}
 use Rattle.facts.specs.declared.facts.Facts.{Facts}
-use Rattle.loosened_bridge.specs.Edited.{IsEdited, LetsClass, name_edited, target_of}
-use Rattle.loosened_bridge.proofs.Classes.{contains_at}
-use Rattle.stay_law.specs.Stays.{NoMoreRegisters, Stands}
+use Rattle.static_law.specs.Edited.{IsEdited, LetsClass, name_edited, target_of}
+use Rattle.static_law.proofs.Classes.{contains_at}
+use Rattle.bodies_kept.specs.Stays.{NoMoreRegisters, Stands}
 use Rattle.staticise.specs.Called.{IsUntouched}
 use Rattle.staticise.specs.Judging.{judged}
 use Rattle.staticise.specs.Loosened.{IsLoosenedBy, flags_loosened, marks_loosened}
 use Rattle.staticise.proofs.Called.{calls_known, untouched}
 use Rattle.staticise.proofs.Fresh.{fresh}
 use Rattle.staticise.proofs.Made.{all_made}
-use Rattle.static_choice.specs.Choice.{IsPlan, given_by}
-use Rattle.static_choice.specs.Stays.{ClassStaysBut, MethodStaysBut, SameFrame, StaysBut}
-use Rattle.static_choice.proofs.Edited.{edited_by}
-use Rattle.static_choice.proofs.Made.{AreChosen, IsChosen, chosen}
-use Rattle.static_choice.proofs.Planned.{lets, may, picked}
-use Rattle.static_choice.proofs.Staying.{stays_but}
+use Rattle.static_kept.specs.Choice.{IsPlan, given_by}
+use Rattle.static_kept.specs.Stays.{ClassStaysBut, MethodStaysBut, SameFrame, StaysBut}
+use Rattle.static_kept.proofs.Edited.{edited_by}
+use Rattle.static_kept.proofs.MadeStatic.{AreChosen, IsChosen, chosen}
+use Rattle.static_kept.proofs.Planned.{lets, may, picked}
+use Rattle.static_kept.proofs.PlanStays.{stays_but}
 use Rattle.static_kept.specs.Staying.{ClassStaysAlong, HadReceiver, MethodStaysAlong, NameMade, StaysAlong}
 
 -- what staticise's laws say of its plan

@@ -11,9 +11,9 @@ use Rattle.dalvik_defs.specs.Shown.{SameShown}
 use Rattle.dalvik_defs.specs.Silence.{key_in}
 use Rattle.dalvik_defs.specs.Under.{defines}
 use Rattle.removal_law.specs.Reach.{ShutsHold}
-use Rattle.outer_law.specs.Shutting.{with_shut}
-use Rattle.alike_law.specs.Virtual.{VirtualsStay}
-use Rattle.alike_law.proofs.Alike.{alike_on, shown_on, virtuals_on}
+use Rattle.program_laws.specs.Shutting.{with_shut}
+use Rattle.program_laws.specs.Virtual.{VirtualsStay}
+use Rattle.program_laws.proofs.ShutAlike.{alike_on, shown_on, virtuals_on}
 use Rattle.static_kept.specs.Kept.{IsKeptStatic}
 use Rattle.static_kept.specs.Owed.{IsSound, OwesAlong}
 

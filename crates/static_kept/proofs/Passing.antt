@@ -7,11 +7,11 @@ use Rattle.program_model.specs.declared.program.Program.{Program}
 use Rattle.class_defs.specs.ClassGraph.{IsTwice}
 use Rattle.dalvik_defs.specs.Outer.{outer_of}
 use Rattle.facts.specs.declared.facts.Facts.{Facts}
-use Rattle.closed_bridge.specs.Names.{named_facts}
-use Rattle.fold_bridge.specs.Folds.{AreNamed}
-use Rattle.fold_kept.proofs.NamedFacts.{are_named}
-use Rattle.static_formed.proofs.Whole.{staticised_formed}
-use Rattle.stay_law.proofs.Staying.{stays_same}
+use Rattle.facts_kept.specs.Names.{named_facts}
+use Rattle.facts_kept.specs.Folds.{AreNamed}
+use Rattle.facts_kept.proofs.NamedFacts.{are_named}
+use Rattle.static_kept.proofs.Whole.{staticised_formed}
+use Rattle.bodies_kept.proofs.Staying.{stays_same}
 use Rattle.staticise.specs.Loosened.{IsStaticisedBy}
 use Rattle.static_kept.specs.Kept.{IsKeptStatic}
 use Rattle.static_kept.specs.Owed.{IsSound, OwesAlong}

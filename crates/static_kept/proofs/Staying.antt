@@ -13,7 +13,7 @@ use Rattle.program_model.specs.declared.program.Field.{Field}
 use Rattle.program_model.specs.declared.program.Method.{Method}
 use Rattle.program_model.specs.declared.program.Program.{Program}
 use Rattle.staticise.specs.Loosened.{flags_loosened, marks_loosened}
-use Rattle.stay_law.specs.Stays.{ClassStaysBy, FewRegisters, MethodStaysBy, NoMoreRegisters, Stands, Stays, StaysBy, StaysInlined}
+use Rattle.bodies_kept.specs.Stays.{ClassStaysBy, FewRegisters, MethodStaysBy, NoMoreRegisters, Stands, Stays, StaysBy, StaysInlined}
 use Rattle.static_kept.specs.Staying.{ClassStaysAlongBy, HadReceiver, MethodStaysAlongBy, NameMade, StaysAlong, StaysAlongBy, StaysAlongInlined}
 
 -- ---- registers

@@ -19,14 +19,14 @@ use Rattle.pass_defs.specs.Loose.{static_class, static_method, staticised}
 use Rattle.removal_law.specs.Left.{In}
 use Rattle.removal_law.specs.Reach.{TellsApart}
 use Rattle.removal_law.proofs.Lists.{clash, contained}
-use Rattle.remade_law.specs.Remade.{Remethod, SameMethods, class_remade, remade}
-use Rattle.remade_law.proofs.Remade.{class_same}
-use Rattle.static_names.specs.Static.{IsSound, made_static}
-use Rattle.static_names.proofs.Declared.{from_map, turned_static}
-use Rattle.static_names.proofs.Methods.{stays}
-use Rattle.loosened_bridge.specs.Edited.{IsEdited, IsPlanned, loose_in}
-use Rattle.loosened_bridge.proofs.Programs.{in_from, named_now, new, same_methods}
-use Rattle.alike_law.specs.Virtual.{HasVirtual, VirtualsStay}
+use Rattle.program_laws.specs.Remade.{Remethod, SameMethods, class_remade, remade}
+use Rattle.program_laws.proofs.Remade.{class_same}
+use Rattle.static_law.specs.Static.{IsSound, made_static}
+use Rattle.static_law.proofs.Declared.{from_map, turned_static}
+use Rattle.static_law.proofs.Methods.{stays}
+use Rattle.static_law.specs.Edited.{IsEdited, IsPlanned, loose_in}
+use Rattle.static_law.proofs.Programs.{in_from, named_now, new, same_methods}
+use Rattle.program_laws.specs.Virtual.{HasVirtual, VirtualsStay}
 
 module _ (p : NamedProgram) (loose : MethodKey → Bool) (sound : IsSound p loose) (tells : TellsApart p) (new : Remethod) (same : SameMethods new (staticised p loose)) where
   no_virtual : (a b c : Bool) → a ≡ true → (not a && b && c) ≡ true → ⊥

@@ -10,8 +10,8 @@ use Rattle.dalvik_defs.specs.Outer.{outer_of}
 use Rattle.dalvik_defs.specs.Shown.{SameShown}
 use Rattle.dalvik_defs.specs.Under.{defines}
 use Rattle.hierarchy.specs.Splitting.{NoSplit}
-use Rattle.alike_law.specs.Virtual.{VirtualsStay}
-use Rattle.outer_law.specs.Shutting.{ShutsAlike, with_shut}
+use Rattle.program_laws.specs.Virtual.{VirtualsStay}
+use Rattle.program_laws.specs.Shutting.{ShutsAlike, with_shut}
 use Rattle.pass_defs.specs.Typed.{IsTyped}
 use Rattle.removal_law.specs.Reach.{ShutsHold}
 

@@ -9,7 +9,7 @@ use Rattle.program_model.specs.declared.program.Field.{Field}
 use Rattle.program_model.specs.declared.program.Method.{Method}
 use Rattle.program_model.specs.declared.program.Program.{Program}
 use Rattle.staticise.specs.Loosened.{flags_loosened, marks_loosened}
-use Rattle.stay_law.specs.Stays.{FewRegisters, NoMoreRegisters, Stands}
+use Rattle.bodies_kept.specs.Stays.{FewRegisters, NoMoreRegisters, Stands}
 
 -- A method keeps its number and annotations, and has code where it had some, with so many registers as is said. One that isn't made
 -- static keeps its flags and its parameters' annotations; one that is had a receiver, is static, and has no annotations of its new

@@ -33,8 +33,8 @@ use Rattle.removal_law.proofs.Outward.{any_here, Up, inside, through, object, un
 use Rattle.removal_law.proofs.Climbs.{climb_under, answer_climbs}
 use Rattle.removal_law.proofs.Virtuals.{IsMethodOf, answer, candidate, candidate_interface}
 use Rattle.removal_law.proofs.Searches.{at_in}
-use Rattle.rename_law.specs.Renames.{searched}
-use Rattle.static_names.specs.Static.{edit_found, edit_by, IsOld, key, IsSound, SiteKnown, StaysAsItIs, BecomesStatic, AreApart, IsApart, ReceiverKnown}
+use Rattle.program_laws.specs.Renames.{searched}
+use Rattle.static_law.specs.Static.{edit_found, edit_by, IsOld, key, IsSound, SiteKnown, StaysAsItIs, BecomesStatic, AreApart, IsApart, ReceiverKnown}
 
 module _ (p : NamedProgram) (loose : MethodKey → Bool) (f : Framework) (sound : IsSound p loose) (none : NamesNone p f) (regular : IsRegular p) (apart : AreApart p loose) where
   pub above : KeepsAbove p everything

@@ -36,11 +36,11 @@ use Rattle.removal_law.proofs.Lists.{clash, all_in}
 use Rattle.removal_law.proofs.Levels.{enough_steps}
 use Rattle.lemmas.proofs.Options.{some_same}
 use Rattle.removal_law.proofs.Fits.{fit_names_none}
-use Rattle.static_names.specs.Static.{IsSound, IsUnentered, Stands, AreApart, MayAllBeStatic, AreInTables, NamesDescribed, ReceiversKnown, ReceiversReached}
-use Rattle.static_names.proofs.Given.{defined_in, in_old, sound as sound_names, not_kept}
-use Rattle.static_names.proofs.Told.{static_told}
-use Rattle.static_names.proofs.Declared.{itself}
-use Rattle.static_names.proofs.Upright.{ends_within}
+use Rattle.static_law.specs.Static.{IsSound, IsUnentered, Stands, AreApart, MayAllBeStatic, AreInTables, NamesDescribed, ReceiversKnown, ReceiversReached}
+use Rattle.static_law.proofs.Given.{defined_in, in_old, sound as sound_names, not_kept}
+use Rattle.static_law.proofs.Told.{static_told}
+use Rattle.static_law.proofs.Declared.{itself}
+use Rattle.static_law.proofs.Upright.{ends_within}
 use Rattle.static_law.proofs.Sites.{staticised_shown}
 use Rattle.static_law.proofs.Known.{site_known}
 use Rattle.static_law.proofs.Reached.{unreached, reached_alike}

@@ -43,24 +43,24 @@ use Rattle.pass_defs.specs.Leaves.{misses, may_leave}
 use Rattle.pass_defs.specs.Loose.{HasReceiver, concerns, resolves_to, is_subclass, is_plain_call}
 use Rattle.pass_defs.specs.Registers.{kind_at}
 use Rattle.pass_defs.specs.Walks.{form_at}
-use Rattle.invariant_law.specs.Holds.{Holds}
-use Rattle.invariant_law.proofs.Invariants.{holds_after}
-use Rattle.invariant_law.proofs.Plain.{grown, keeps_plainly}
-use Rattle.stuck_law.specs.Regular.{IsRegular}
-use Rattle.stuck_law.specs.TypedStates.{IsObject, TypedFrame, TypedWorld, typed_states}
-use Rattle.stuck_law.proofs.Climbs.{plain_defined, defined_below}
-use Rattle.stuck_law.proofs.FieldForms.{fitting}
-use Rattle.stuck_law.proofs.Here.{At, at_form}
-use Rattle.stuck_law.proofs.Runs.{settled, keeps_typed, typed_opening, each_move}
-use Rattle.stuck_law.proofs.Searches.{finds_regularly}
-use Rattle.stuck_law.proofs.Settled.{IsSettled, FindsRegularly}
-use Rattle.stuck_law.proofs.Values.{instance_thing}
-use Rattle.stuck_law.proofs.Worlds.{at_typed}
+use Rattle.run_laws.specs.Holds.{Holds}
+use Rattle.run_laws.proofs.Invariants.{holds_after}
+use Rattle.run_laws.proofs.Plain.{grown, keeps_plainly}
+use Rattle.run_laws.specs.Regular.{IsRegular}
+use Rattle.run_laws.specs.TypedStates.{IsObject, TypedFrame, TypedWorld, typed_states}
+use Rattle.run_laws.proofs.Climbs.{plain_defined, defined_below}
+use Rattle.run_laws.proofs.FieldForms.{fitting}
+use Rattle.run_laws.proofs.Here.{At, at_form}
+use Rattle.run_laws.proofs.Runs.{settled, keeps_typed, typed_opening, each_move}
+use Rattle.run_laws.proofs.Searches.{finds_regularly}
+use Rattle.run_laws.proofs.Settled.{IsSettled, FindsRegularly}
+use Rattle.run_laws.proofs.Values.{instance_thing}
+use Rattle.run_laws.proofs.Worlds.{at_typed}
 use Rattle.removal_law.proofs.Lists.{clash, and_left, and_behind}
 use Rattle.removal_law.proofs.Declared.{method_same, not_false}
-use Rattle.static_names.specs.Receiving.{HoldNoNull, KnowsReceivers}
-use Rattle.static_names.specs.Static.{MayAllBeStatic, ReceiverKnown, ReceiversReached}
-use Rattle.static_names.proofs.Called.{first_called}
+use Rattle.static_law.specs.Receiving.{HoldNoNull, KnowsReceivers}
+use Rattle.static_law.specs.Static.{MayAllBeStatic, ReceiverKnown, ReceiversReached}
+use Rattle.static_law.proofs.Called.{first_called}
 
 module _ (p : NamedProgram) (o : Outer) (f : Framework) (a : Floats) (script : List Move) (regular : IsRegular p) (fit : Fit p o f script) where
   reg : IsSettled p

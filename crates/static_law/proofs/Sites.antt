@@ -35,16 +35,16 @@ use Rattle.pass_defs.specs.Loose.{new_signature, new_key, staticised}
 use Rattle.removal_law.specs.Agree.{Each}
 use Rattle.removal_law.specs.Reach.{TellsApart}
 use Rattle.removal_law.proofs.Lists.{clash, found_in as found_passes}
-use Rattle.rename_law.specs.Renames.{finding_of, face_with, searched, CallAlike, KeepsCall, TurnsCall}
-use Rattle.static_names.specs.Static.{renamed, edit_by, IsOld, key, IsSound, IsUnentered, Stands, SiteKnown, StaysAsItIs, BecomesStatic, made_static}
-use Rattle.remade_law.proofs.Remade.{some_same, framed_same}
-use Rattle.static_names.proofs.LookUps.{some_mapped, method_key, passed_key, new_found, statically_left, statically_moved, virtually_left, super_left}
-use Rattle.static_names.proofs.Called.{Called, at_called, first_called, not_empty, search_called, super_called}
-use Rattle.static_names.proofs.Faces.{face_same}
-use Rattle.static_names.proofs.Bodies.{renamed_loose, unrenamed, renamed_class, renamed_result, bodies_renamed, initialisers_kept}
+use Rattle.program_laws.specs.Renames.{finding_of, face_with, searched, CallAlike, KeepsCall, TurnsCall}
+use Rattle.static_law.specs.Static.{renamed, edit_by, IsOld, key, IsSound, IsUnentered, Stands, SiteKnown, StaysAsItIs, BecomesStatic, made_static}
+use Rattle.program_laws.proofs.Remade.{some_same, framed_same}
+use Rattle.static_law.proofs.LookUps.{some_mapped, method_key, passed_key, new_found, statically_left, statically_moved, virtually_left, super_left}
+use Rattle.static_law.proofs.Called.{Called, at_called, first_called, not_empty, search_called, super_called}
+use Rattle.static_law.proofs.Faces.{face_same}
+use Rattle.static_law.proofs.Bodies.{renamed_loose, unrenamed, renamed_class, renamed_result, bodies_renamed, initialisers_kept}
 use Rattle.removal_law.proofs.Declared.{name_same}
-use Rattle.static_names.proofs.Declared.{declared_alike}
-use Rattle.rename_law.proofs.Programs.{renamed_shown}
+use Rattle.static_law.proofs.Declared.{declared_alike}
+use Rattle.program_laws.proofs.Programs.{renamed_shown}
 
 -- ---- calls
 

@@ -24,13 +24,13 @@ use Rattle.removal_law.proofs.Levels.{enough_steps}
 use Rattle.removal_law.proofs.Lists.{contained}
 use Rattle.removal_law.proofs.Protos.{told_apart}
 use Rattle.removal_law.proofs.Trees.{class_in, defined}
-use Rattle.stuck_law.specs.Regular.{IsRegular}
-use Rattle.static_names.specs.Receiving.{HoldNoNull, KnowsReceivers}
-use Rattle.static_names.specs.Static.{AreInTables, MayAllBeStatic, NamesDescribed}
-use Rattle.static_names.proofs.Judged.{may_be_static, knows_receivers}
+use Rattle.run_laws.specs.Regular.{IsRegular}
+use Rattle.static_law.specs.Receiving.{HoldNoNull, KnowsReceivers}
+use Rattle.static_law.specs.Static.{AreInTables, MayAllBeStatic, NamesDescribed}
+use Rattle.static_law.proofs.Judged.{may_be_static, knows_receivers}
 use Rattle.static_law.proofs.Loosened.{static_shown}
 use Rattle.static_law.proofs.Receivers.{receivers_reached}
-use Rattle.static_names.proofs.Upright.{names_once, defines_once, stands_up}
+use Rattle.static_law.proofs.Upright.{names_once, defines_once, stands_up}
 
 -- methods that may be static, where facts know the receivers of calls that resolve to one
 pub known_static : (p : NamedProgram) (o : Outer) (methods : List MethodKey) (not_null : MethodKey → ℕ → ℕ → Type 0) (loose : MethodKey → Bool) → MayAllBeStatic p o methods loose → AreInTables p o methods

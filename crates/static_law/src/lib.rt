@@ -1,10 +1,14 @@
-//! The law of methods made static: a program shows the same in which loose methods are static, all of them at once, with their
-//! class in front of their parameters (`staticised` of pass_defs).
-//!
-//! By rename_law it is enough to know of each call, in states that a run reaches, that it stays and finds no loose method, or names
-//! one, finds it, and passes an object (`proofs/Known`, `Sites`), and that the framework enters no loose method (`Reached`). What
-//! facts know of receivers is asked of the states of a run that begins with the calm classes done (`Receivers`). This crate declares
-//! no types of its own. Its functions have an empty body, and their contracts are the laws.
+//! Laws of programs in which methods are made static, with their class in front of their parameters: what is asked of such methods
+//! and what names find then (static_names), that the same is shown (static_law), that the program stays typed (static_types) and
+//! keeps what a table of shut methods owes (static_shut); and the same by number, of tables in which entries of method names get
+//! other protos (loosened_bridge, static_bridge). It declares no types of its own; its functions have an empty body, and their
+//! contracts are the laws.
 #![tactic(auto)]
 
-pub mod laws;
+pub mod examples;
+pub mod loosened_bridge;
+pub mod static_bridge;
+pub mod static_law;
+pub mod static_names;
+pub mod static_shut;
+pub mod static_types;

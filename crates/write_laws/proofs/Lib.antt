@@ -24,3 +24,16 @@ pub mod Members
 pub mod Last
 pub mod Listed
 pub mod Tabled
+pub mod Placed
+pub mod Marking
+pub mod NamesOrdering
+pub mod Closed
+pub mod Carried
+pub mod Ranges
+pub mod Bodies
+pub mod Values
+pub mod Keeping
+pub mod Owning
+pub mod Reordered
+pub mod Ascending
+pub mod Rising

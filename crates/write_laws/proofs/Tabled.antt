@@ -14,11 +14,11 @@ use Rattle.program_model.specs.declared.pools.FieldName.{FieldName}
 use Rattle.program_model.specs.declared.pools.MethodName.{MethodName}
 use Rattle.program_model.specs.declared.program.Program.{Program}
 use Rattle.dex_defs.specs.Written.{written_by}
-use Rattle.names_law.specs.Used.{IsShort}
-use Rattle.names_law.specs.Owning.{OwnsProto, OwnsField, OwnsMethod, OwnsAll, IsNoLonger}
-use Rattle.names_law.specs.Ascending.{AllAscend}
-use Rattle.names_law.proofs.Owning.{owned, no_longer}
-use Rattle.names_law.proofs.Rising.{all_ascend}
+use Rattle.write_laws.specs.Used.{IsShort}
+use Rattle.write_laws.specs.Owning.{OwnsProto, OwnsField, OwnsMethod, OwnsAll, IsNoLonger}
+use Rattle.write_laws.specs.Ascending.{AllAscend}
+use Rattle.write_laws.proofs.Owning.{owned, no_longer}
+use Rattle.write_laws.proofs.Rising.{all_ascend}
 use Rattle.write_laws.specs.Fits.{FitsType, FitsField, FitsMethod, FitsProto, TextsFit, TablesFit}
 
 -- how short the tables of a well-formed program are

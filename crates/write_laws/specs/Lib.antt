@@ -3,3 +3,10 @@ pub mod Placing
 pub mod Fits
 pub mod Kinds
 pub mod Listing
+pub mod Used
+pub mod Orders
+pub mod Carried
+pub mod Members
+pub mod Owning
+pub mod Reordered
+pub mod Ascending

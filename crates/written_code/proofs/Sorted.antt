@@ -15,7 +15,7 @@ use Rattle.dex_base.specs.Leb.{uleb_text}
 use Rattle.dex_defs.specs.LaysOut as kept
 use Rattle.dex_defs.specs.LaysOut.{distinct, by_length, begins_from}
 use Rattle.dex_defs.specs.CodeTexts.{place_of}
-use Rattle.written_order.proofs.Sorting.{order_all, order_sum}
+use Rattle.written_file.proofs.Sorting.{order_all, order_sum}
 
 -- ---- the different ones
 

@@ -1,5 +1,5 @@
 use Rattle.static_kept.proofs.Fewer.{receivers_fewer, receivers_removed, receivers_same}
-use Rattle.thin_bridge.specs.Kept.{AnyCode}
+use Rattle.bodies_kept.specs.Kept.{AnyCode}
 use Rattle.static_kept.proofs.along.receivers_law.Goals as goal
 
 pub returns-clause-removed : goal.returns-clause-removed

@@ -1,5 +1,5 @@
 use Rattle.static_kept.proofs.Left.{virtuals_numbered, virtuals_removed}
-use Rattle.thin_bridge.specs.Kept.{AnyCode}
+use Rattle.bodies_kept.specs.Kept.{AnyCode}
 use Rattle.static_kept.proofs.along.virtuals_left_law.Goals as goal
 
 pub returns-clause-removed : goal.returns-clause-removed

@@ -1,0 +1,14 @@
+pub mod Right
+pub mod Kept
+pub mod Veiled
+pub mod Cleans
+pub mod CopyBridged
+pub mod Rereads
+pub mod CompactBridged
+pub mod Renames
+pub mod Unique
+pub mod Changing
+pub mod OperandBridged
+pub mod Packs
+pub mod Alike
+pub mod Stays

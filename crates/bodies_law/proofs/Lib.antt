@@ -1,5 +1,0 @@
-pub mod Keys
-pub mod Faces
-pub mod Found
-pub mod Named
-pub mod Typed

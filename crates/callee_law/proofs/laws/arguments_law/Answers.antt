@@ -1,5 +1,0 @@
-use Rattle.callee_law.proofs.Reached.{arguments_alone}
-use Rattle.callee_law.proofs.laws.arguments_law.Goals as goal
-
-pub returns : goal.returns
-returns g = λ p c m b t typing none r read. arguments_alone p c m b t typing none r read

@@ -1,6 +1,0 @@
-use Rattle.closed_bridge.proofs.Closing.{closed_named}
-use Rattle.closed_bridge.proofs.laws.accepted_closed_law.Goals as goal
-
-pub returns : goal.returns
-returns c = λ p h o live targets t formed resolved acyclic fits marks exact closed.
-    closed_named p o live targets t (record { formed = formed; once = resolved.of.once; grounded = acyclic; sized = fits; closed = marks }) exact closed

@@ -1,9 +1,0 @@
-use Rattle.class_defs.proofs.WellFormed.{sound}
-use Rattle.removal_bridge.proofs.Formed.{no_object}
-use Rattle.closed_bridge.specs.Names.{named_facts}
-use Rattle.closed_bridge.proofs.Edges.{edges_same}
-use Rattle.closed_bridge.proofs.Fielding.{gets_same}
-use Rattle.closed_bridge.proofs.laws.edges_law.Goals as goal
-
-pub returns : goal.returns
-returns c p fits once t n i h x = edges_same p (sound p fits) once (no_object p fits) (named_facts p t) t (gets_same p (sound p fits) t once (no_object p fits)) n i h x

@@ -1,5 +1,0 @@
-use Rattle.code_laws.proofs.Trying.{founds_regions}
-use Rattle.code_laws.proofs.laws.regions_law.Goals as goal
-
-pub returns : goal.returns
-returns c = λ bytes at sizes places. founds_regions bytes at sizes places

@@ -1,4 +1,0 @@
-pub mod Founds
-pub mod Code
-pub mod Regions
-pub mod Items

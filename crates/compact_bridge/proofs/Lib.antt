@@ -1,5 +1,0 @@
-pub mod Tests
-pub mod Conflicts
-pub mod Bodies
-pub mod Programs
-pub mod Settled

@@ -1,5 +1,0 @@
-use Rattle.copy_bridge.proofs.Rereads.{settles_by_number}
-use Rattle.copy_bridge.proofs.laws.settled_by_number_law.Goals as goal
-
-pub returns : goal.returns
-returns c = settles_by_number

@@ -1,5 +1,0 @@
-use Rattle.copy_kept.proofs.Kept.{propagated_kept}
-use Rattle.copy_kept.proofs.laws.propagated_kept_law.Goals as goal
-
-pub returns : goal.returns
-returns c = propagated_kept

@@ -1,4 +1,0 @@
-pub mod Least
-pub mod Writes
-pub mod Shifts
-pub mod Copies

@@ -1,4 +1,0 @@
-pub mod Copying
-pub mod Rereading
-pub mod TypedReads
-pub mod TypedRereading

@@ -1,5 +1,0 @@
-use Rattle.dead_bridge.proofs.Cleans.{cleaned_kept}
-use Rattle.dead_bridge.proofs.laws.cleaned_program_law.Goals as goal
-
-pub returns : goal.returns
-returns c = λ admitted p q fits twice ancestor typed t. cleaned_kept p fits twice ancestor admitted q t typed

@@ -1,2 +1,0 @@
-pub mod Veiled
-pub mod Cleans

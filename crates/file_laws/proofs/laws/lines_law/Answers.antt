@@ -1,5 +1,0 @@
-use Rattle.file_laws.proofs.Lines.{founds_lines}
-use Rattle.file_laws.proofs.laws.lines_law.Goals as goal
-
-pub returns : goal.returns
-returns c = λ bytes debug starts left ascend. founds_lines bytes debug starts left ascend

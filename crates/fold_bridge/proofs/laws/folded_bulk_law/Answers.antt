@@ -1,8 +1,0 @@
-use Rattle.fold_bridge.proofs.Bulk.{folded_size, folded_weight}
-use Rattle.fold_bridge.proofs.laws.folded_bulk_law.Goals as goal
-
-pub returns-clause-size : goal.returns-clause-size
-returns-clause-size g = folded_size
-
-pub returns-clause-weight : goal.returns-clause-weight
-returns-clause-weight g = folded_weight

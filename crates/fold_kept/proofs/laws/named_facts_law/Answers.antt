@@ -1,6 +1,0 @@
-use Rattle.fold_kept.proofs.NamedFacts.{are_named}
-use Rattle.fold_kept.proofs.laws.named_facts_law.Goals as goal
-
-pub returns : goal.returns
-returns g = λ p h o live targets facts w r acyclic fits marks exact closed plainly.
-    are_named p o live (record { formed = w; once = r.of.once; grounded = acyclic; sized = fits; closed = marks }) targets r.of.ranked plainly facts

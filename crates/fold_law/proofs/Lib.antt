@@ -1,4 +1,0 @@
-pub mod Folding
-pub mod FoldedRuns
-pub mod TypedFolding
-pub mod Lowering

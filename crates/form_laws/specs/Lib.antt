@@ -1,0 +1,12 @@
+pub mod Changes
+pub mod Kinds
+pub mod Rewriting
+pub mod Replaced
+pub mod Solid
+pub mod Copied
+pub mod Reread
+pub mod TypedCopies
+pub mod Renamed
+pub mod TypedRegisters
+pub mod Known
+pub mod Typed

@@ -1,5 +1,0 @@
-use Rattle.inline_bridge.proofs.Sites.{copied}
-use Rattle.inline_bridge.proofs.laws.site_found_law.Goals as goal
-
-pub returns : goal.returns
-returns g = λ p h facts at c m b n y w resolved typed is_class is_method has s. copied p h w resolved typed facts at c m b is_class is_method has n y s

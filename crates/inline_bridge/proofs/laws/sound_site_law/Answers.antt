@@ -1,5 +1,0 @@
-use Rattle.inline_bridge.proofs.Sites.{sound_site}
-use Rattle.inline_bridge.proofs.laws.sound_site_law.Goals as goal
-
-pub returns : goal.returns
-returns g = λ p h facts at c m b n y w resolved typed is_class is_method has s. sound_site p h w resolved typed facts at c m b is_class is_method has n y s

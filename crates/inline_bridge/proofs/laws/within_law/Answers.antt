@@ -1,5 +1,0 @@
-use Rattle.inline_bridge.proofs.Bodies.{is_within}
-use Rattle.inline_bridge.proofs.laws.within_law.Goals as goal
-
-pub returns : goal.returns
-returns g = λ p at c m b w is_class is_method has low. is_within p w at.class at.place c m b is_class is_method has low

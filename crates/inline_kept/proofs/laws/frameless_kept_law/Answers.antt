@@ -1,5 +1,0 @@
-use Rattle.inline_kept.proofs.Kept.{frameless_kept}
-use Rattle.inline_kept.proofs.laws.frameless_kept_law.Goals as goal
-
-pub returns : goal.returns
-returns g = λ p q h o facts admitted count origins rows w resolved acyclic typed none x formed. frameless_kept p q h facts admitted count origins rows w resolved typed x acyclic o none formed

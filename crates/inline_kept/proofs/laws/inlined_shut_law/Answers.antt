@@ -1,5 +1,0 @@
-use Rattle.inline_kept.proofs.Kept.{inlined_holds}
-use Rattle.inline_kept.proofs.laws.inlined_shut_law.Goals as goal
-
-pub returns : goal.returns
-returns g = λ p q h facts admitted count origins rows o w resolved typed x. inlined_holds p q h facts admitted count origins rows w resolved typed x o

@@ -1,5 +1,0 @@
-use Rattle.inline_kept.proofs.Stayed.{inlined_stays}
-use Rattle.inline_kept.proofs.laws.inlined_stays_law.Goals as goal
-
-pub returns : goal.returns
-returns c = inlined_stays

@@ -1,5 +1,0 @@
-use Rattle.inline_law.proofs.Statics.{statics_shown}
-use Rattle.inline_law.proofs.laws.static_inlining_law.Goals as goal
-
-pub returns : goal.returns
-returns c = λ p q o accepted h others. statics_shown p q accepted h others o

@@ -1,4 +1,0 @@
-pub mod Invariant
-pub mod Holds
-pub mod Fine
-pub mod Sized

@@ -1,5 +1,0 @@
-use Rattle.kept_bridge.proofs.Compacted.{compacted_kept}
-use Rattle.kept_bridge.proofs.laws.compacted_kept_law.Goals as goal
-
-pub returns : goal.returns
-returns c = λ admitted p q fits twice typed narrow i. compacted_kept admitted p q fits twice typed narrow i

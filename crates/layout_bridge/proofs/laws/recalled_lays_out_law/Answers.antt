@@ -1,8 +1,0 @@
-use Rattle.layout_bridge.proofs.Recalled.{rebound_lies, quieted_lies}
-use Rattle.layout_bridge.proofs.laws.recalled_lays_out_law.Goals as goal
-
-pub returns-clause-rebound : goal.returns-clause-rebound
-returns-clause-rebound c = λ admitted p h facts c r l. rebound_lies p h facts admitted c r l
-
-pub returns-clause-quieted : goal.returns-clause-quieted
-returns-clause-quieted c = quieted_lies

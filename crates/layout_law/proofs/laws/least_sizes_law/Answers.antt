@@ -1,5 +1,0 @@
-use Rattle.layout_law.proofs.Least.{least_under}
-use Rattle.layout_law.proofs.laws.least_sizes_law.Goals as goal
-
-pub returns : goal.returns
-returns c = least_under

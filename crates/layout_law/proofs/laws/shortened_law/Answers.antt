@@ -1,5 +1,0 @@
-use Rattle.layout_law.proofs.Shortened.{shortened}
-use Rattle.layout_law.proofs.laws.shortened_law.Goals as goal
-
-pub returns : goal.returns
-returns c = shortened

@@ -1,5 +1,0 @@
-use Rattle.layout_law.proofs.Thinned.{thinned_lays_out}
-use Rattle.layout_law.proofs.laws.thinned_law.Goals as goal
-
-pub returns : goal.returns
-returns c = thinned_lays_out

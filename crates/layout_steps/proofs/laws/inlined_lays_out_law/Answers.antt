@@ -1,5 +1,0 @@
-use Rattle.layout_steps.proofs.Inlined.{inlined_lies}
-use Rattle.layout_steps.proofs.laws.inlined_lays_out_law.Goals as goal
-
-pub returns : goal.returns
-returns c = inlined_lies

@@ -1,5 +1,0 @@
-use Rattle.layout_steps.proofs.Silenced.{silent_lies}
-use Rattle.layout_steps.proofs.laws.silenced_lays_out_law.Goals as goal
-
-pub returns : goal.returns
-returns c = silent_lies

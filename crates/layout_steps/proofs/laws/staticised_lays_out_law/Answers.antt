@@ -1,5 +1,0 @@
-use Rattle.layout_steps.proofs.Loosened.{staticised_lies}
-use Rattle.layout_steps.proofs.laws.staticised_lays_out_law.Goals as goal
-
-pub returns : goal.returns
-returns c = staticised_lies

@@ -1,4 +1,0 @@
-pub mod Ordered
-pub mod Falling
-pub mod Named
-pub mod Written

@@ -1,9 +1,0 @@
-use Rattle.class_defs.proofs.WellFormed.{sound}
-use Rattle.loosened_bridge.proofs.Programs.{new, named_now, same_methods}
-use Rattle.loosened_bridge.proofs.laws.named_static_law.Goals as goal
-
-pub returns : goal.returns
-returns c = λ given target p q w twice edited planned. (
-  new given target p q (sound p w) twice edited planned,
-  (named_now given target p q (sound p w) twice edited planned, same_methods given target p q (sound p w) twice edited planned),
-)

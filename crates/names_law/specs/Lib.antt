@@ -1,7 +1,0 @@
-pub mod Used
-pub mod Orders
-pub mod Carried
-pub mod Members
-pub mod Owning
-pub mod Reordered
-pub mod Ascending

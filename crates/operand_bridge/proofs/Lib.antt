@@ -1,3 +1,0 @@
-pub mod Remaking
-pub mod Widths
-pub mod Same

@@ -1,8 +1,0 @@
-use Rattle.place_law.proofs.Bodies.{replaced, none_replaced}
-use Rattle.place_law.proofs.laws.bodies_law.Goals as goal
-
-pub returns-clause-some : goal.returns-clause-some
-returns-clause-some c = replaced
-
-pub returns-clause-none : goal.returns-clause-none
-returns-clause-none c = none_replaced

@@ -1,3 +1,0 @@
-pub mod Rewriting
-pub mod Replaced
-pub mod Solid

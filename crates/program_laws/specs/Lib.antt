@@ -1,0 +1,13 @@
+pub mod Bodies
+pub mod Results
+pub mod Others
+pub mod Numbered
+pub mod Said
+pub mod Agree
+pub mod Alike
+pub mod Standing
+pub mod Rooted
+pub mod Shutting
+pub mod Virtual
+pub mod Remade
+pub mod Renames

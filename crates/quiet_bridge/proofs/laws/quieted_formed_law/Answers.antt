@@ -1,5 +1,0 @@
-use Rattle.quiet_bridge.proofs.Programs.{quieted_formed}
-use Rattle.quiet_bridge.proofs.laws.quieted_formed_law.Goals as goal
-
-pub returns : goal.returns
-returns c = λ p facts admitted changed fits q. quieted_formed p q.quiet facts.frames.items admitted changed fits q.rewritten

@@ -1,5 +1,0 @@
-use Rattle.quiet_kept.proofs.Shuts.{quieted_shut}
-use Rattle.quiet_kept.proofs.laws.quieted_shut_law.Goals as goal
-
-pub returns : goal.returns
-returns g = quieted_shut

@@ -1,3 +1,0 @@
-pub mod Gliding
-pub mod Leaving
-pub mod Dropped

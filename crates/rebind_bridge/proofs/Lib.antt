@@ -1,3 +1,0 @@
-pub mod Finding
-mod Calls
-pub mod Named

@@ -1,5 +1,0 @@
-pub mod Formed
-pub mod Planned
-pub mod FormedPrograms
-pub mod Shuts
-pub mod Kept

@@ -1,5 +1,0 @@
-use Rattle.rebind_kept.proofs.Kept.{frameless, kinds_kept}
-use Rattle.rebind_kept.proofs.laws.kinds_kept_law.Goals as goal
-
-pub returns : goal.returns
-returns g = λ p h o facts admitted c w r acyclic typed none x. kinds_kept p h o w r acyclic typed facts admitted c x (frameless facts none)

@@ -1,6 +1,0 @@
-use Rattle.rebind_kept.proofs.Kept.{rebound_kept}
-use Rattle.rebind_kept.proofs.laws.rebound_kept_law.Goals as goal
-
-pub returns : goal.returns
-returns g = λ p h o live targets facts admitted c w r acyclic typed words own fits marks exact closed names x.
-    rebound_kept p h o w r acyclic typed facts admitted c x words own live targets fits marks exact closed names

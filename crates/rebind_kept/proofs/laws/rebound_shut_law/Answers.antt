@@ -1,5 +1,0 @@
-use Rattle.rebind_kept.proofs.Shuts.{rebound_holds}
-use Rattle.rebind_kept.proofs.laws.rebound_shut_law.Goals as goal
-
-pub returns : goal.returns
-returns g = λ p h facts admitted c o w x. rebound_holds p w h facts admitted c o x

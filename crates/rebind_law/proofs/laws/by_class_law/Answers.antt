@@ -1,5 +1,0 @@
-use Rattle.rebind_law.proofs.ByClass.{by_class_shown}
-use Rattle.rebind_law.proofs.laws.by_class_law.Goals as goal
-
-pub returns : goal.returns
-returns c = λ p q o regular acyclic h. by_class_shown p q o regular acyclic h

@@ -1,5 +1,0 @@
-use Rattle.rebind_law.proofs.Retyping.{retyped_program}
-use Rattle.rebind_law.proofs.laws.retyped_law.Goals as goal
-
-pub returns : goal.returns
-returns c = λ p q typed h. retyped_program p q typed h

@@ -1,6 +1,0 @@
-mod NoName
-mod Positions
-mod Regular
-mod Entering
-mod Keeping
-pub mod ByReasons

@@ -1,3 +1,0 @@
-pub mod Remade
-pub mod Order
-pub mod Founds

@@ -1,5 +1,0 @@
-use Rattle.removal_bridge.proofs.Formed.{removed_program}
-use Rattle.removal_bridge.proofs.laws.removal_of_programs_law.Goals as goal
-
-pub returns : goal.returns
-returns c = removed_program

@@ -1,5 +1,0 @@
-pub mod Acts
-pub mod Along
-pub mod Renaming
-pub mod Calls
-pub mod Programs

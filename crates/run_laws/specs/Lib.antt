@@ -1,0 +1,9 @@
+pub mod Invariant
+pub mod Holds
+pub mod Fine
+pub mod Sized
+pub mod TypedStates
+pub mod Regular
+pub mod NeverStuck
+pub mod Examples
+pub mod Wides

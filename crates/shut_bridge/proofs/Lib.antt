@@ -1,4 +1,0 @@
-pub mod Saying
-pub mod Passes
-pub mod Rewritten
-pub mod Folded

@@ -1,8 +1,0 @@
-//! From copies by number to copies by name: the body that `splice` makes of a caller is by name that of the definition of
-//! inlining (`inlined` of pass_defs), with the accepted positions those at which a method is chosen, so long as no count of
-//! positions and no register comes near its greatest number. `specs/Copied.antt` says what is asked of a caller and of what is
-//! copied, and what is proved. This crate declares no types of its own. Its functions have an empty body, and their contracts are
-//! the laws.
-#![tactic(auto)]
-
-pub mod laws;

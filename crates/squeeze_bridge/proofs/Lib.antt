@@ -1,3 +1,0 @@
-mod Entered
-mod Squeezing
-pub mod Squeezes

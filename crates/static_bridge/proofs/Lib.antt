@@ -1,4 +1,0 @@
-pub mod Graph
-pub mod Outers
-pub mod Shuts
-pub mod Whole

@@ -1,3 +1,0 @@
-pub mod Static
-pub mod Receiving
-pub mod Examples

@@ -1,4 +1,0 @@
-pub mod Standing
-pub mod Staying
-pub mod Passes
-pub mod Rewritten

@@ -1,7 +1,0 @@
-use Rattle.dalvik_defs.specs.Naming.{named}
-use Rattle.stuck_law.proofs.Runs.{never_stuck_regular}
-use Rattle.stuck_bridge.proofs.Formed.{regular_program}
-use Rattle.stuck_bridge.proofs.laws.never_stuck_law.Goals as goal
-
-pub returns : goal.returns
-returns c p fits twice typed o f a script fit = never_stuck_regular (named p) o f a script (regular_program p fits twice typed) fit

@@ -1,5 +1,0 @@
-use Rattle.thin_bridge.proofs.Tidying.{tidy}
-use Rattle.thin_bridge.proofs.laws.tidy_law.Goals as goal
-
-pub returns : goal.returns
-returns c = λ p marks ws b fits right. tidy p marks ws b fits right

@@ -1,9 +1,0 @@
-pub mod Thinning
-pub mod Places
-pub mod Regions
-pub mod Fates
-pub mod Squeezed
-pub mod Pure
-pub mod Cleaned
-pub mod Programs
-pub mod Idles

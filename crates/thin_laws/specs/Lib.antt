@@ -1,0 +1,13 @@
+pub mod Recoded
+pub mod Rewritten
+pub mod Thin
+pub mod Fates
+pub mod Squeezing
+pub mod Cleaning
+pub mod Thins
+pub mod Tidy
+pub mod Tidied
+pub mod Examples
+pub mod Renamed
+pub mod Squeezed
+pub mod Calls

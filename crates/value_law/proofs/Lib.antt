@@ -1,3 +1,0 @@
-mod Numbers
-mod Tests
-pub mod Sound

@@ -1,9 +1,0 @@
-pub mod ClassTable
-pub mod Directories
-pub mod DataItems
-pub mod FirstFits
-pub mod Ending
-pub mod ClassParts
-pub mod Filed
-pub mod Whole
-pub mod Nothing

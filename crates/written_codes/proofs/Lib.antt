@@ -1,5 +1,0 @@
-pub mod Fitting
-pub mod Texts
-pub mod Codes
-pub mod All
-pub mod Coded

@@ -1,5 +1,0 @@
-use Rattle.written_formed.proofs.Whole.{written_but_items}
-use Rattle.written_formed.proofs.laws.written_formed_within_law.Goals as goal
-
-pub returns : goal.returns
-returns c = written_but_items

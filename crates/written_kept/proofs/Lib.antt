@@ -1,0 +1,14 @@
+pub mod Lists
+pub mod Kept
+pub mod Tables
+pub mod Bodies
+pub mod Values
+pub mod Members
+pub mod Whole
+pub mod Rising
+pub mod Alike
+pub mod Looks
+pub mod Twins
+pub mod Classes
+pub mod Typings
+pub mod Written

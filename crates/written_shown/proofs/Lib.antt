@@ -1,6 +1,0 @@
-pub mod Alike
-pub mod Looks
-pub mod Twins
-pub mod Classes
-pub mod Typings
-pub mod Written

@@ -8,7 +8,7 @@ use Rattle.flow_cfg.specs.Walks.{successors_of}
 use Rattle.body_graph.specs.Walks.{insn_at, onward, caught, Walk, IsReached}
 use Rattle.body_graph.proofs.Links.{step_insn}
 use Rattle.body_graph.proofs.Members.{get_inside}
-use Rattle.copy_histories.specs.Histories.{Step, IsPath}
+use Rattle.moves_law.specs.Histories.{Step, IsPath}
 use Rattle.moves_law.specs.Paths.{leaving, one_step, joined, or_else, between, path_to}
 use Rattle.moves_law.proofs.Lists.{some_same, no_some, is_in, in_it}
 

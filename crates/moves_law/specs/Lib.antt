@@ -1,3 +1,4 @@
 pub mod Paths
 pub mod Measure
 pub mod Example
+pub mod Histories

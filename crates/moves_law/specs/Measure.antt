@@ -7,7 +7,7 @@ use Rattle.program_model.specs.declared.program.Class.{Class}
 use Rattle.program_model.specs.declared.program.Program.{Program}
 use Rattle.insn_regs.specs.Remade.{operands_of}
 use Rattle.body_graph.specs.Walks.{insn_at}
-use Rattle.copy_histories.specs.Histories.{Step, moves}
+use Rattle.moves_law.specs.Histories.{Step, moves}
 use Rattle.moves_law.specs.Paths.{path_to}
 
 -- through how many Moves what an instruction reads went in all, along a path to it

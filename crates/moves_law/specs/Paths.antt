@@ -5,7 +5,7 @@ use Rattle.std.specs.List.{list_any}
 use Rattle.insn_set.specs.declared.form.Insn.{Insn}
 use Rattle.program_model.specs.declared.body.Body.{Body}
 use Rattle.body_graph.specs.Walks.{insn_at, onward, caught}
-use Rattle.copy_histories.specs.Histories.{Step}
+use Rattle.moves_law.specs.Histories.{Step}
 
 -- the one step from a position, where it goes on or is caught
 abbrev pub leaving : ℕ → Bool → Bool → Option (List Step)

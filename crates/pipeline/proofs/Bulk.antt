@@ -22,23 +22,23 @@ use Rattle.rewrite_pass.specs.Plans.{IsRewrittenBy}
 use Rattle.rewrite_pass.specs.Plans as over
 use Rattle.const_prop.specs.Folded.{IsFold}
 use Rattle.copy_prop.specs.Propagated.{IsPropagatedProgram}
-use Rattle.numbers_law.proofs.Compacted.{compacted_size, compacted_weight}
-use Rattle.numbers_law.proofs.Propagated.{propagated_size, propagated_weight}
+use Rattle.moves_law.proofs.NumbersCompacted.{compacted_size, compacted_weight}
+use Rattle.moves_law.proofs.NumbersPropagated.{propagated_size, propagated_weight}
 use Rattle.const_prop.specs.Measure.{open_forms}
 use Rattle.devirt.specs.Measure.{calls_in}
 use Rattle.devirt.specs.Rebound.{IsRecalledAt}
-use Rattle.calls_law.proofs.Compacted.{compacted_calls}
-use Rattle.calls_law.proofs.Propagated.{propagated_calls}
-use Rattle.calls_law.proofs.Rebound.{rebound_size, rebound_weight, rebound_open}
-use Rattle.open_law.proofs.Compacted.{compacted_open}
-use Rattle.open_law.proofs.Folded.{folded_size, folded_weight}
-use Rattle.open_law.proofs.Propagated.{propagated_open}
+use Rattle.moves_law.proofs.CallsCompacted.{compacted_calls}
+use Rattle.moves_law.proofs.CallsPropagated.{propagated_calls}
+use Rattle.moves_law.proofs.Rebound.{rebound_size, rebound_weight, rebound_open}
+use Rattle.moves_law.proofs.OpenCompacted.{compacted_open}
+use Rattle.moves_law.proofs.Folded.{folded_size, folded_weight}
+use Rattle.moves_law.proofs.OpenPropagated.{propagated_open}
 use Rattle.facts.specs.declared.facts.Facts.{Facts}
 use Rattle.staticise.specs.Left.{receivers_in}
 use Rattle.staticise.specs.Loosened.{IsStaticisedBy}
-use Rattle.receiver_counts.proofs.Bodies.{thinned_receivers, written_receivers, compacted_receivers, propagated_receivers}
-use Rattle.receiver_counts.proofs.Made.{made_size, made_weight}
-use Rattle.receiver_counts.proofs.Removed.{removed_receivers}
+use Rattle.moves_law.proofs.Bodies.{thinned_receivers, written_receivers, compacted_receivers, propagated_receivers}
+use Rattle.moves_law.proofs.Made.{made_size, made_weight}
+use Rattle.moves_law.proofs.ReceiversRemoved.{removed_receivers}
 use Rattle.pipeline.specs.Changes.{bulk_of}
 
 -- ---- removal

@@ -45,8 +45,8 @@ use Rattle.quiet_code.specs.Quiet.{AreDropped}
 use Rattle.quiet_code.specs.Quieted.{IsQuieted}
 use Rattle.copy_prop.specs.Propagated.{IsCounted, IsPropagatedProgram}
 use Rattle.moves_law.specs.Measure.{moves_in}
-use Rattle.moves_law.proofs.Propagated.{propagated_fewer}
-use Rattle.moves_law.proofs.Compacted.{compacted_same as compacted_moves}
+use Rattle.moves_law.proofs.MovesPropagated.{propagated_fewer}
+use Rattle.moves_law.proofs.MovesCompacted.{compacted_same as compacted_moves}
 use Rattle.verify.specs.Methods.{RefusesOne, TypesAll}
 use Rattle.verify.specs.declared.fault.TypeFault.{TypeFault}
 use Rattle.verify.specs.declared.fault.TypeFault.TheVariants as fault

@@ -1,4 +1,0 @@
-pub mod Standing
-pub mod Fewer
-pub mod Propagated
-pub mod Falling

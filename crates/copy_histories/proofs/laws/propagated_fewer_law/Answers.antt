@@ -1,9 +1,0 @@
-use Rattle.copy_histories.proofs.Fewer.{fewer}
-use Rattle.copy_histories.proofs.Propagated.{reads_no_later}
-use Rattle.copy_histories.proofs.laws.propagated_fewer_law.Goals as goal
-
-pub returns-clause-reads : goal.returns-clause-reads
-returns-clause-reads c = reads_no_later
-
-pub returns-clause-holds : goal.returns-clause-holds
-returns-clause-holds c = λ w b d x. fewer b d (reads_no_later w b d x)

@@ -1,5 +1,0 @@
-use Rattle.copy_histories.proofs.Standing.{stands}
-use Rattle.copy_histories.proofs.laws.standing_law.Goals as goal
-
-pub returns : goal.returns
-returns c = λ b at slot to from copy apart ss n w kept r i. stands b at slot to from copy apart ss n w kept r i

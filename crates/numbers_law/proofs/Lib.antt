@@ -1,4 +1,0 @@
-pub mod Thinned
-pub mod Removed
-pub mod Compacted
-pub mod Propagated

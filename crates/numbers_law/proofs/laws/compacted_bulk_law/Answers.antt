@@ -1,8 +1,0 @@
-use Rattle.numbers_law.proofs.Compacted.{compacted_size, compacted_weight}
-use Rattle.numbers_law.proofs.laws.compacted_bulk_law.Goals as goal
-
-pub returns-clause-size : goal.returns-clause-size
-returns-clause-size c = λ admitted p q i. compacted_size admitted p q i
-
-pub returns-clause-weight : goal.returns-clause-weight
-returns-clause-weight c = λ admitted p q i. compacted_weight admitted p q i

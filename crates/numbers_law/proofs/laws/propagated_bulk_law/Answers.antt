@@ -1,8 +1,0 @@
-use Rattle.numbers_law.proofs.Propagated.{propagated_size, propagated_weight}
-use Rattle.numbers_law.proofs.laws.propagated_bulk_law.Goals as goal
-
-pub returns-clause-size : goal.returns-clause-size
-returns-clause-size c = λ admitted p q i. propagated_size admitted p q i
-
-pub returns-clause-weight : goal.returns-clause-weight
-returns-clause-weight c = λ admitted p q i. propagated_weight admitted p q i

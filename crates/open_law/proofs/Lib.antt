@@ -1,3 +1,0 @@
-pub mod Compacted
-pub mod Folded
-pub mod Propagated

@@ -1,4 +1,0 @@
-pub mod Bodies
-pub mod Made
-pub mod Removed
-pub mod Sums

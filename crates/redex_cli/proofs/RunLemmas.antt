@@ -64,7 +64,7 @@ result_ends words voices tells old new f g p q notes_tell so sn n m text NoMemor
     no_memory_done : NoMemory ≡ Done → ⊥
     no_memory_done e = cc
 result_ends words voices tells old new f g p q notes_tell so sn n m text WriteFault r s = record {
-  cause = inr s.0;
+  cause = inr (record { command = r.answer.command; spelled = r.answer.spelled; rose = s.0; read = λ told. r.read told r.answer.command r.answer.spelled });
   unspelled = λ none. result_spelled words voices tells old new text WriteFault r none;
   too_long = λ counted told long. result_long words voices tells old new text counted WriteFault r told long;
   stays = λ told. record {

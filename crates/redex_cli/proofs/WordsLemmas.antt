@@ -45,10 +45,10 @@ words_cause words command tells old f g p q Usage spelled c = absurd c
 words_cause words command tells old f g p q (BadRules fault) spelled c = record { command = command; spelled = spelled; cause = c }
 words_cause words command tells old f g p q (BadDex fault) spelled c = record { command = command; spelled = spelled; cause = c }
 words_cause words command tells old f g p q (Limit fault) spelled c = record { command = command; spelled = spelled; cause = c }
-words_cause words command tells old f g p q ReadFault spelled c = record { command = command; spelled = spelled; rose = c }
-words_cause words command tells old f g p q WriteFault spelled c = record { command = command; spelled = spelled; rose = c }
+words_cause words command tells old f g p q ReadFault spelled c = record { command = command; spelled = spelled; cause = c }
+words_cause words command tells old f g p q WriteFault spelled c = record { command = command; spelled = spelled; cause = c }
 words_cause words command tells old f g p q NoMemory spelled c = tt
-words_cause words command tells old f g p q (BadScript line) spelled c = record { command = command; spelled = spelled; bad = c }
+words_cause words command tells old f g p q (BadScript line) spelled c = record { command = command; spelled = spelled; cause = c }
 
 long_of : (words : List (List ℕ)) (command : CommandWords) (old : Held) (counted : Counted)
     → ((c : CommandWords) → Spells words c → c ≡ command) → TooLong words old counted → FirstTooLong old (fetches command) counted

@@ -16,7 +16,7 @@ use Rattle.redex_cli.specs.Files.{AllInputsRead, AllRead, AllReadAs, AreHeld, Ar
 use Rattle.redex_cli.specs.Finished.{Checks, Finished, FinishedOf, IsChecked, IsOutputOf, IsResult, IsSummary}
 use Rattle.redex_cli.specs.Lists.{IsListed, ListsFile}
 use Rattle.redex_cli.specs.Refusals.{Cause, EndsTooLong, Gives, HoldsSummed, IsDexFault, IsLibraryFault, MadeRefused, ReadRefused, Refuses, TraceRefused, WorkRefused}
-use Rattle.redex_cli.specs.Stays.{OutputHolds, HoldsPart, Stays}
+use Rattle.redex_cli.specs.Stays.{OutputHolds, Stays}
 use Rattle.redex_cli.specs.Traces.{IsTraced, TracesFile}
 use Rattle.redex_cli.specs.declared.fetching.Inputs.{Inputs}
 use Rattle.redex_cli.specs.declared.fetching.Kind.{Kind}
@@ -301,7 +301,8 @@ pub check_refuses : (input bytes : List ℕ) (IsFinal : List ℕ → List ℕ �
     → (IsTrue tells → old input ≡ Some bytes) → (IsTrue tells → AllSame old new)
     → Refuses (file_alone input) None IsFinal tells old new f g p q status
 check_refuses input bytes IsFinal tells old new f g p q status r refused within there same = record {
-  cause = read_cause (file_alone input) None tells old f g p q status r within (λ _. (λ e. absurd (file_no_rules e), tt)) (λ told. inl (inl (holds_refused old input bytes status (there told) refused)));
+  cause = read_cause (file_alone input) None tells old f g p q status r within (λ _. (λ e. absurd (file_no_rules e), tt))
+      (λ told. inl (inl (holds_refused old input bytes status (there told) refused)));
   too_long = λ counted told long. absurd (within_or_long old (file_alone input) counted (within told) long);
   stays = λ told. stays_same (λ name. None ≡ Some name) IsFinal status p q old new (read_keeps status r) (same told);
 }

@@ -1,17 +1,17 @@
 -- Names that hold too much, counts that rise, and names that stay.
-use Rattle.std.proofs.Common.{◌≡◌, ◌⊎◌, ◌+◌, ◌-◌, ◌^◌, ◌<◌, ◌≤◌, min, ℕ, List, [], ◌∷◌, ◌++◌, length, Bool, IsTrue, Option, None, Some, refl, sym, ap, subst, ◌∙◌, inl, inr, arith}
+use Rattle.std.proofs.Common.{◌≡◌, ◌+◌, ◌≤◌, ℕ, List, [], ◌∷◌, ◌++◌, length, Bool, IsTrue, Option, None, Some, sym, ap, subst, ◌∙◌, inl, inr, arith}
 use Rattle.program_model.specs.Limits.{limit_of}
 use Rattle.program_model.specs.declared.limits.Counted.{Counted}
 use Rattle.program_model.specs.declared.limits.LimitFault.{LimitFault}
-use Rattle.redex_outside.specs.Counts.{NoneFell, Rose, raised}
+use Rattle.redex_outside.specs.Counts.{NoneFell, Rose}
 use Rattle.redex_outside.specs.Held.{Held, AllSame}
 use Rattle.redex_cli.specs.Commands.{Fetch, counted_as, input_files, library_file, rules_and_file, script_alone, trace_files}
 use Rattle.redex_cli.specs.Fetching.{Failures, HoldsWithin, HoldsTooMuch, AllWithin, FetchFailed, FetchRefused, FirstFailed, FirstTooLong, OneCounts, OneRose, OnlyFetched, PassesByOne}
 use Rattle.redex_cli.specs.Files.{AreHeld, HoldsNamed}
-use Rattle.redex_cli.specs.Stays.{IsRefusal, OutputHolds, Stays}
+use Rattle.redex_cli.specs.Stays.{OutputHolds, Stays}
 use Rattle.redex_cli.specs.declared.fetching.Inputs.{Inputs}
 use Rattle.redex_cli.specs.declared.status.Status.{Status}
-use Rattle.redex_cli.specs.declared.status.Status.TheVariants.{Done, Usage, BadRules, BadDex, Limit, ReadFault, WriteFault, NoMemory, BadScript}
+use Rattle.redex_cli.specs.declared.status.Status.TheVariants.{Done, Limit, ReadFault, WriteFault, NoMemory}
 
 some_equal : (x y : List ℕ) → Some x ≡ Some y → x ≡ y
 some_equal x y e = cc

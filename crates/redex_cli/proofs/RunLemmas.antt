@@ -1,6 +1,5 @@
 -- How a run ends, from what the words give or are refused with, and from the saying.
-use Rattle.std.proofs.Common.{◌≡◌, ◌⊎◌, ℕ, List, ◌++◌, Bool, IsTrue, refl, sym, subst, ◌∙◌, inl, inr}
-use Rattle.redex_outside.specs.Counts.{Rose}
+use Rattle.std.proofs.Common.{◌≡◌, ◌⊎◌, ℕ, List, Bool, IsTrue, sym, subst, inl, inr}
 use Rattle.redex_outside.specs.Held.{Held}
 use Rattle.redex_outside.specs.Voices.{Voice}
 use Rattle.program_model.specs.declared.limits.Counted.{Counted}
@@ -10,7 +9,7 @@ use Rattle.redex_cli.specs.Fetching.{Failures}
 use Rattle.redex_cli.specs.Finished.{Results}
 use Rattle.redex_cli.specs.Refusals.{CauseFor, EndsTooLong, EndsUnspelled, GivesFor, OutputBy, RefusesFor, TooLong}
 use Rattle.redex_cli.specs.Said.{Said, SaysResult, SaysStatus, unsaid}
-use Rattle.redex_cli.specs.Stays.{HoldsFinished, IsRefusal, Stays}
+use Rattle.redex_cli.specs.Stays.{HoldsFinished, IsRefusal}
 use Rattle.redex_cli.specs.declared.status.Status.{Status}
 use Rattle.redex_cli.specs.declared.status.Status.TheVariants.{Done, Usage, BadRules, BadDex, Limit, ReadFault, WriteFault, NoMemory, BadScript}
 use Rattle.redex_cli.proofs.FetchLemmas.{stays_same}

@@ -10,7 +10,7 @@ use Rattle.text_defs.specs.declared.fault.ScriptFault.TheVariants as script
 use Rattle.redex_cli.specs.Commands.{Fetch, counted_as}
 use Rattle.redex_cli.specs.declared.fetching.Kind.TheVariants as kind
 use Rattle.redex_cli.specs.declared.status.Status.{Status}
-use Rattle.redex_cli.specs.declared.status.Status.TheVariants.{Done, Usage, BadRules, BadDex, Limit, ReadFault, WriteFault, NoMemory, BadScript}
+use Rattle.redex_cli.specs.declared.status.Status.TheVariants.{Limit, ReadFault, WriteFault, NoMemory}
 
 -- How often something of each name has failed.
 abbrev pub Failures : Type 0

@@ -1,5 +1,5 @@
 -- Why a run is refused, and what holds where it is not.
-use Rattle.std.specs.Prelude.{◌≡◌, ◌⊎◌, ◌+◌, ◌++◌, ℕ, List, Bool, IsTrue, Option, None, Some, Err}
+use Rattle.std.specs.Prelude.{◌≡◌, ◌⊎◌, ◌+◌, ℕ, List, Bool, IsTrue, Option, None, Some, Err}
 use Rattle.if_text.specs.Faults.{IsIfFault}
 use Rattle.rule_text.specs.declared.fault.RuleFault.{RuleFault}
 use Rattle.rule_text.specs.declared.fault.RuleFault.TheVariants as rule
@@ -104,8 +104,8 @@ TraceRefused inputs text status = WorkRefused inputs status
 
 -- ---- the limits and the faults of what is fetched
 
--- Each cause says what comes before it in the order of refusals: the fetches of the names, the rules, the file with its class graph and
--- its types, the library, the script, the put and the saying. None of what comes before is refused.
+-- Refusals come in this order: the fetches, in the order of the names; the rules; the file, its class graph and its types; the library; the
+-- script; the put; the saying. Each cause says that nothing before it is refused, where the shelf tells what it holds.
 
 -- All names keep their limits, the rules are read, and a quantity that is counted inside the file or the library, which is none of bytes,
 -- passes its own.
@@ -161,7 +161,7 @@ pub record OutputRose (output : Option (List ℕ)) (old new : Failures) : Type 0
   pub is_output : output ≡ Some name
   pub rose : Rose (old name) (new name)
 
--- The same of a put behind all that is read.
+-- The same, behind all that is read.
 pub record PutFailed (tells : Bool) (held : Held) (names : List Fetch) (output : Option (List ℕ)) (old new : Failures) : Type 0 where
   pub rose : OutputRose output old new
   pub read : IsTrue tells → AllRead held names

@@ -147,4 +147,4 @@ completes words held old_fetches new_fetches old_puts new_puts old_notes new_not
 completes words held old_fetches new_fetches old_puts new_puts old_notes new_notes ReadFault good h = h
 completes words held old_fetches new_fetches old_puts new_puts old_notes new_notes WriteFault good h = h
 completes words held old_fetches new_fetches old_puts new_puts old_notes new_notes NoMemory good h = tt
-completes words held old_fetches new_fetches old_puts new_puts old_notes new_notes (BadScript line) good h = none_bad_line held (fetches h.command) (all_of held (fetches h.command) (its_fetches words held good h.command h.spelled)) line (h.bad refl)
+completes words held old_fetches new_fetches old_puts new_puts old_notes new_notes (BadScript line) good h = let cause = h.cause in none_bad_line held (fetches h.command) (all_of held (fetches h.command) (its_fetches words held good h.command h.spelled)) line (cause.bad refl)

@@ -1,5 +1,5 @@
 -- What a run has fetched that has no fault, and how the run ends then.
-use Rattle.std.specs.Prelude.{◌≡◌, ◌≤◌, ◌<◌, ◌⊎◌, ℕ, List, [], ◌∷◌, length, slice_index, Some, Err}
+use Rattle.std.specs.Prelude.{◌≡◌, ◌≤◌, ◌<◌, ◌⊎◌, ℕ, true, List, [], ◌∷◌, length, slice_index, Some, Err}
 use Rattle.command_line.specs.Spelling.{Spells as SpellsCommand}
 use Rattle.command_line.specs.declared.command.CommandWords.{CommandWords}
 use Rattle.dalvik_defs.specs.Naming.{named}
@@ -15,12 +15,11 @@ use Rattle.program_model.specs.declared.limits.LimitFault.{LimitFault}
 use Rattle.program_model.specs.declared.program.Program.{Program}
 use Rattle.redex_cli.specs.Commands.{Fetch, counted_as, fetches}
 use Rattle.redex_cli.specs.Fetching.{Failures}
-use Rattle.redex_cli.specs.Refusals.{IsRuleFault, CouldNotFetch, CouldNotPut}
+use Rattle.redex_cli.specs.Refusals.{IsRuleFault, CouldNotFetch, CouldNotPut, CouldNotSay}
 use Rattle.redex_cli.specs.declared.fetching.Kind.{Kind}
 use Rattle.redex_cli.specs.declared.fetching.Kind.TheVariants as kind
 use Rattle.redex_cli.specs.declared.status.Status.{Status}
 use Rattle.redex_cli.specs.declared.status.Status.TheVariants.{Done, Limit, ReadFault, WriteFault, NoMemory}
-use Rattle.redex_outside.specs.Counts.{Rose}
 use Rattle.redex_outside.specs.Held.{Held}
 use Rattle.refused_code.specs.Faultless.{IsFaultless}
 use Rattle.rule_text.specs.declared.fault.RuleFault.{RuleFault}
@@ -98,7 +97,7 @@ pub record PassesOne (words : List (List ℕ)) (held : Held) (fault : LimitFault
 abbrev pub EndsGood : List (List ℕ) → Held → Failures → Failures → Failures → Failures → ℕ → ℕ → Status → Type 0
 EndsGood words held fetches_old fetches_new puts_old puts_new notes_old notes_new Done = Unit {0}
 EndsGood words held fetches_old fetches_new puts_old puts_new notes_old notes_new NoMemory = Unit {0}
-EndsGood words held fetches_old fetches_new puts_old puts_new notes_old notes_new ReadFault = CouldNotFetch words fetches_old fetches_new
-EndsGood words held fetches_old fetches_new puts_old puts_new notes_old notes_new WriteFault = CouldNotPut words puts_old puts_new ⊎ Rose notes_old notes_new
+EndsGood words held fetches_old fetches_new puts_old puts_new notes_old notes_new ReadFault = CouldNotFetch words true held fetches_old fetches_new
+EndsGood words held fetches_old fetches_new puts_old puts_new notes_old notes_new WriteFault = CouldNotPut words true held puts_old puts_new ⊎ CouldNotSay words true held notes_old notes_new
 EndsGood words held fetches_old fetches_new puts_old puts_new notes_old notes_new (Limit fault) = PassesOne words held fault
 EndsGood words held fetches_old fetches_new puts_old puts_new notes_old notes_new status = ⊥

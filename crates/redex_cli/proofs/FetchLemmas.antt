@@ -1,17 +1,17 @@
 -- Names that hold too much, counts that rise, and names that stay.
-use Rattle.std.proofs.Common.{◌≡◌, ◌⊎◌, ◌+◌, ◌-◌, ◌^◌, ◌<◌, ◌≤◌, min, ℕ, List, [], ◌∷◌, ◌++◌, length, Bool, IsTrue, Option, None, Some, refl, sym, ap, subst, ◌∙◌, inl, inr, arith}
+use Rattle.std.proofs.Common.{◌≡◌, ◌+◌, ◌≤◌, ℕ, List, [], ◌∷◌, ◌++◌, length, Bool, IsTrue, Option, None, Some, sym, ap, subst, ◌∙◌, inl, inr, arith}
 use Rattle.program_model.specs.Limits.{limit_of}
 use Rattle.program_model.specs.declared.limits.Counted.{Counted}
 use Rattle.program_model.specs.declared.limits.LimitFault.{LimitFault}
-use Rattle.redex_outside.specs.Counts.{NoneFell, Rose, raised}
+use Rattle.redex_outside.specs.Counts.{NoneFell, Rose}
 use Rattle.redex_outside.specs.Held.{Held, AllSame}
 use Rattle.redex_cli.specs.Commands.{Fetch, counted_as, input_files, library_file, rules_and_file, script_alone, trace_files}
-use Rattle.redex_cli.specs.Fetching.{Failures, HoldsWithin, HoldsTooMuch, AllWithin, FetchRefused, FirstTooLong, OneCounts, OneRose, OnlyFetched, PassesByOne}
+use Rattle.redex_cli.specs.Fetching.{Failures, HoldsWithin, HoldsTooMuch, AllWithin, FetchFailed, FetchRefused, FirstFailed, FirstTooLong, OneCounts, OneRose, OnlyFetched, PassesByOne}
 use Rattle.redex_cli.specs.Files.{AreHeld, HoldsNamed}
-use Rattle.redex_cli.specs.Stays.{IsRefusal, OutputHolds, Stays}
+use Rattle.redex_cli.specs.Stays.{OutputHolds, Stays}
 use Rattle.redex_cli.specs.declared.fetching.Inputs.{Inputs}
 use Rattle.redex_cli.specs.declared.status.Status.{Status}
-use Rattle.redex_cli.specs.declared.status.Status.TheVariants.{Done, Usage, BadRules, BadDex, Limit, ReadFault, WriteFault, NoMemory, BadScript}
+use Rattle.redex_cli.specs.declared.status.Status.TheVariants.{Done, Limit, ReadFault, WriteFault, NoMemory}
 
 some_equal : (x y : List ℕ) → Some x ≡ Some y → x ≡ y
 some_equal x y e = cc
@@ -150,10 +150,32 @@ long_since old mid (n ∷ ns) counted same (inl c) = inl (record { bytes = c.0.b
 long_since old mid (n ∷ ns) counted same (inr c) =
     inr (record { bytes = c.0.bytes; there = sym (same n.name) ∙ c.0.there; within = c.0.within }, long_since old mid ns counted same c.1)
 
+failed_before : (held : Held) (f g : Failures) (names more : List Fetch) → FirstFailed held f g names → FirstFailed held f g (names ++ more)
+failed_before held f g [] more r = absurd r
+failed_before held f g (n ∷ ns) more (inl r) = inl r
+failed_before held f g (n ∷ ns) more (inr r) = inr (r.0, failed_before held f g ns more r.1)
+
+failed_behind : (held : Held) (f g : Failures) (names more : List Fetch) → AllWithin held names → FirstFailed held f g more → FirstFailed held f g (names ++ more)
+failed_behind held f g [] more w r = r
+failed_behind held f g (n ∷ ns) more w r = inr (w.0, failed_behind held f g ns more w.1 r)
+
+failed_since : (old mid : Held) (f m g : Failures) (names : List Fetch) → AllSame old mid → NoneFell f m → FirstFailed mid m g names → FirstFailed old f g names
+failed_since old mid f m g [] same fell r = absurd r
+failed_since old mid f m g (n ∷ ns) same fell (inl r) = inl (rose_since (f n.name) (m n.name) (g n.name) (fell n.name).no_less r)
+failed_since old mid f m g (n ∷ ns) same fell (inr r) =
+    inr (record { bytes = r.0.bytes; there = sym (same n.name) ∙ r.0.there; within = r.0.within }, failed_since old mid f m g ns same fell r.1)
+
+-- a fetch alone that failed
+pub failed_alone : (tells : Bool) (held : Held) (f g : Failures) (fetch : Fetch) → Rose (f fetch.name) (g fetch.name) → FetchFailed tells held f g (fetch ∷ [])
+failed_alone tells held f g fetch r = record { rose = inl r; first = λ _. inl r }
+
 -- what refuses the first names refuses all
 pub refused_before : (tells : Bool) (held : Held) (f g : Failures) (names more : List Fetch) (status : Status)
     → FetchRefused tells held f g names status → FetchRefused tells held f g (names ++ more) status
-refused_before tells held f g names more ReadFault r = rose_before f g names more r
+refused_before tells held f g names more ReadFault r = record {
+  rose = rose_before f g names more r.rose;
+  first = λ told. failed_before held f g names more (r.first told);
+}
 refused_before tells held f g names more (Limit fault) r = record {
   number = r.number;
   counts = counts_before names more fault.counted r.counts;
@@ -166,7 +188,10 @@ refused_before tells held f g names more _ r = absurd r
 pub refused_behind : (tells tells' : Bool) (old mid : Held) (f m g : Failures) (names more : List Fetch) (status : Status)
     → tells' ≡ tells → (IsTrue tells → AllSame old mid) → NoneFell f m → (IsTrue tells → AllWithin old names)
     → FetchRefused tells' mid m g more status → FetchRefused tells old f g (names ++ more) status
-refused_behind tells tells' old mid f m g names more ReadFault e same fell w r = rose_behind f g names more (rose_later f m g more fell r)
+refused_behind tells tells' old mid f m g names more ReadFault e same fell w r = record {
+  rose = rose_behind f g names more (rose_later f m g more fell r.rose);
+  first = λ told. failed_behind old f g names more (w told) (failed_since old mid f m g more (same told) fell (r.first (e ∙ told)));
+}
 refused_behind tells tells' old mid f m g names more (Limit fault) e same fell w r = record {
   number = r.number;
   counts = counts_behind names more fault.counted r.counts;

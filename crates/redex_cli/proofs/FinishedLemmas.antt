@@ -12,6 +12,8 @@ use Rattle.dex_read.specs.declared.fault.DexFault.{DexFault}
 use Rattle.dex_write.specs.Written.{IsWritten}
 use Rattle.hierarchy.specs.Shapes.{IsCause}
 use Rattle.hierarchy.specs.declared.fault.HierarchyFault.{HierarchyFault}
+use Rattle.if_text.specs.Readings.{IsIfReading}
+use Rattle.if_text.specs.declared.rules.IfRules.{IfRules}
 use Rattle.pipeline.specs.Inlined.{IsOptimisedInlined}
 use Rattle.pipeline.specs.Rounds.{IsOptimisedBy}
 use Rattle.program_model.specs.ProgramRules.{is_well_formed}
@@ -19,8 +21,9 @@ use Rattle.program_model.specs.declared.pass.Origin.{Origin}
 use Rattle.program_model.specs.declared.pass.Outside.{Outside}
 use Rattle.program_model.specs.declared.program.Program.{Program}
 use Rattle.redex_outside.specs.Voices.{Voice}
+use Rattle.rule_text.specs.declared.fault.RuleFault.{RuleFault}
 use Rattle.redex_cli.specs.Accepted.{IsAccepted, IsOfBytes}
-use Rattle.redex_cli.specs.Files.{AreRead, BytesRefused, FileRefused, HasGraphFault, IsDeclared, IsRead}
+use Rattle.redex_cli.specs.Files.{AreRead, AreRules, BytesRefused, FileRefused, HasGraphFault, IsDeclared, IsRead, ReadBefore, RefusedBehind}
 use Rattle.redex_cli.specs.Finished.{AreTold, Checks, Finished, IsWorkload, LeavesBy, Shrunk, program_text, sizes_in, summary_text}
 use Rattle.redex_cli.specs.Lists.{ListsFile, live_text}
 use Rattle.redex_cli.specs.Refusals.{IsDexFault, IsLibraryFault, IsLibraryRefusal, LibraryEnds, MadeRefused, ReadRefused, WorkRefused}
@@ -92,12 +95,24 @@ is_workload voices tells inputs output text none alone finished = record {
   finished = subst (λ (l : List Tell). Finished false voices l inputs output text) none finished;
 }
 
+-- want of memory may come anywhere
+pub no_memory : (inputs : Inputs) → BytesRefused inputs NoMemory
+no_memory inputs = record { bytes = inl tt; before = tt }
+
+-- nothing is read before the rules
+pub bad_rules : (inputs : Inputs) (fault : RuleFault) → BytesRefused inputs (BadRules fault)
+bad_rules inputs fault = record { bytes = inl tt; before = tt }
+
+-- a script comes behind all inputs
+pub bad_script : (inputs : Inputs) (line : ℕ) → AreRead inputs → BytesRefused inputs (BadScript line)
+bad_script inputs line read = record { bytes = inl tt; before = read }
+
 pub made : (inputs : Inputs) (status : Status) → inputs.library ≡ None → WorkRefused inputs status → BytesRefused inputs status → MadeRefused status
 made inputs status alone refused bytes = record { inputs = inputs; alone = alone; refused = refused; bytes = bytes }
 
 -- no memory for inputs
 pub none_made : MadeRefused NoMemory
-none_made = made (record { rules = []; file = []; library = None }) NoMemory refl tt (inl tt)
+none_made = made (record { rules = []; file = []; library = None }) NoMemory refl tt (no_memory (record { rules = []; file = []; library = None }))
 
 -- ---- what refuses the work
 
@@ -116,8 +131,24 @@ work_reads inputs WriteFault r = r
 work_reads inputs NoMemory r = r
 work_reads inputs (BadScript line) r = r
 
-pub bytes_read : (inputs : Inputs) (status : Status) → FileRefused inputs.file status → BytesRefused inputs status
-bytes_read inputs status r = inl r
+-- the text that was read, which is found to be the one of the inputs
+pub are_rules : (given text : List ℕ) (rules : IfRules) → given ≡ text → IsIfReading given rules → AreRules text
+are_rules given text rules same reading = subst (λ (t : List ℕ). AreRules t) same (record { items = reading.items; spells = reading.spells })
+
+-- no status of the work on inputs alone has anything read before it but the rules
+rules_before : (inputs : Inputs) (status : Status) → WorkRefused inputs status → AreRules inputs.rules → ReadBefore inputs status
+rules_before inputs (BadRules fault) r rules = tt
+rules_before inputs (BadDex fault) r rules = rules
+rules_before inputs Done r rules = tt
+rules_before inputs Usage r rules = tt
+rules_before inputs (Limit fault) r rules = rules
+rules_before inputs ReadFault r rules = tt
+rules_before inputs WriteFault r rules = tt
+rules_before inputs NoMemory r rules = tt
+rules_before inputs (BadScript line) r rules = absurd r
+
+pub bytes_read : (inputs : Inputs) (status : Status) → AreRules inputs.rules → ReadRefused status → FileRefused inputs.file status → BytesRefused inputs status
+bytes_read inputs status rules refused r = record { bytes = inl r; before = rules_before inputs status (work_reads inputs status refused) rules }
 
 some_library : (library : Option (List ℕ)) (bytes : List ℕ) (fault : DexFault) → library ≡ Some bytes → IsDexFault fault → IsLibraryFault library fault
 some_library None bytes fault e r = cc
@@ -145,14 +176,16 @@ ends_work inputs (Some bytes) status is r = library_refusal inputs bytes status 
 pub library_work : (inputs : Inputs) (status : Status) → LibraryEnds inputs.library status → WorkRefused inputs status
 library_work inputs status r = ends_work inputs inputs.library status refl r
 
-ends_bytes : (inputs : Inputs) (library : Option (List ℕ)) (status : Status) → IsRead inputs.file → inputs.library ≡ library → LibraryEnds library status → BytesRefused inputs status
+ends_bytes : (inputs : Inputs) (library : Option (List ℕ)) (status : Status) → IsRead inputs.file → inputs.library ≡ library → LibraryEnds library status → RefusedBehind inputs status
 ends_bytes inputs None status read is r = absurd r
-ends_bytes inputs (Some bytes) status read is r = inr (record { read = read; bytes = bytes; is = is; refused = r.1 })
+ends_bytes inputs (Some bytes) status read is r = record { read = read; bytes = bytes; is = is; refused = r.1 }
 
-pub library_bytes : (inputs : Inputs) (program : Program) (status : Status) → program_at inputs.file ≡ Ok program → IsAccepted program → LibraryEnds inputs.library status
+pub library_bytes : (inputs : Inputs) (program : Program) (status : Status) → AreRules inputs.rules → program_at inputs.file ≡ Ok program → IsAccepted program → LibraryEnds inputs.library status
     → BytesRefused inputs status
-library_bytes inputs program status reads accepted r =
-    ends_bytes inputs inputs.library status (record { program = program; reads = reads; accepted = accepted }) refl r
+library_bytes inputs program status rules reads accepted r = record {
+  bytes = inr (ends_bytes inputs inputs.library status (record { program = program; reads = reads; accepted = accepted }) refl r);
+  before = rules_before inputs status (library_work inputs status r) rules;
+}
 
 declared_by : (rules : List ℕ) (library : Option (List ℕ)) (program : Program) (outside : Outside) → IsTableWith rules library program outside → (bytes : List ℕ)
     → library ≡ Some bytes → IsDeclared bytes
@@ -163,9 +196,10 @@ declared_by rules (Some other) program outside table bytes e =
     same : (other bytes : List ℕ) → Some other ≡ Some bytes → other ≡ bytes
     same other bytes e = cc
 
-pub are_read : (inputs : Inputs) (program : Program) (outside : Outside) → program_at inputs.file ≡ Ok program → IsAccepted program
+pub are_read : (inputs : Inputs) (program : Program) (outside : Outside) → AreRules inputs.rules → program_at inputs.file ≡ Ok program → IsAccepted program
     → IsTableWith inputs.rules inputs.library program outside → AreRead inputs
-are_read inputs program outside reads accepted table = record {
+are_read inputs program outside rules reads accepted table = record {
+  rules = rules;
   file = record { program = program; reads = reads; accepted = accepted };
   library = declared_by inputs.rules inputs.library program outside table;
 }

@@ -1,6 +1,5 @@
 -- How a run ends, from what the words give or are refused with, and from the saying.
-use Rattle.std.proofs.Common.{◌≡◌, ◌⊎◌, ℕ, List, ◌++◌, Bool, IsTrue, refl, sym, subst, ◌∙◌, inl, inr}
-use Rattle.redex_outside.specs.Counts.{Rose}
+use Rattle.std.proofs.Common.{◌≡◌, ◌⊎◌, ℕ, List, Bool, IsTrue, sym, subst, inl, inr}
 use Rattle.redex_outside.specs.Held.{Held}
 use Rattle.redex_outside.specs.Voices.{Voice}
 use Rattle.program_model.specs.declared.limits.Counted.{Counted}
@@ -10,7 +9,7 @@ use Rattle.redex_cli.specs.Fetching.{Failures}
 use Rattle.redex_cli.specs.Finished.{Results}
 use Rattle.redex_cli.specs.Refusals.{CauseFor, EndsTooLong, EndsUnspelled, GivesFor, OutputBy, RefusesFor, TooLong}
 use Rattle.redex_cli.specs.Said.{Said, SaysResult, SaysStatus, unsaid}
-use Rattle.redex_cli.specs.Stays.{HoldsFinished, IsRefusal, Stays}
+use Rattle.redex_cli.specs.Stays.{HoldsFinished, IsRefusal}
 use Rattle.redex_cli.specs.declared.status.Status.{Status}
 use Rattle.redex_cli.specs.declared.status.Status.TheVariants.{Done, Usage, BadRules, BadDex, Limit, ReadFault, WriteFault, NoMemory, BadScript}
 use Rattle.redex_cli.proofs.FetchLemmas.{stays_same}
@@ -64,7 +63,7 @@ result_ends words voices tells old new f g p q notes_tell so sn n m text NoMemor
     no_memory_done : NoMemory ≡ Done → ⊥
     no_memory_done e = cc
 result_ends words voices tells old new f g p q notes_tell so sn n m text WriteFault r s = record {
-  cause = inr s.0;
+  cause = inr (record { command = r.answer.command; spelled = r.answer.spelled; rose = s.0; read = λ told. r.read told r.answer.command r.answer.spelled });
   unspelled = λ none. result_spelled words voices tells old new text WriteFault r none;
   too_long = λ counted told long. result_long words voices tells old new text counted WriteFault r told long;
   stays = λ told. record {

@@ -1,11 +1,11 @@
 -- What is said for a status.
-use Rattle.std.proofs.Common.{◌≡◌, ◌⊎◌, ℕ, List, [], ◌++◌, length, take, Bool, IsTrue, append-nil, refl, sym, ap, subst, ◌∙◌, inl, inr}
+use Rattle.std.proofs.Common.{◌≡◌, ℕ, List, ◌++◌, length, take, Bool, IsTrue, append-nil, refl, sym, ap, ◌∙◌, inl, inr}
 use Rattle.std.proofs.Math.Seq.{take-length}
 use Rattle.redex_outside.specs.Counts.{Rose}
 use Rattle.redex_cli.specs.FaultLines.{status_text}
 use Rattle.redex_cli.specs.Said.{Said, SaidPart, SaysStatus, unsaid}
 use Rattle.redex_cli.specs.declared.status.Status.{Status}
-use Rattle.redex_cli.specs.declared.status.Status.TheVariants.{Done, Usage, BadRules, BadDex, Limit, ReadFault, WriteFault, NoMemory, BadScript}
+use Rattle.redex_cli.specs.declared.status.Status.TheVariants.{Done, WriteFault, NoMemory}
 
 pub none_said : (text old new : List ℕ) → new ≡ old → SaidPart text old new
 none_said text old new e = record { kept = 0; said = e ∙ sym (append-nil old) }

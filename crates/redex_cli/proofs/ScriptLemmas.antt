@@ -1,7 +1,6 @@
 -- Why a script is refused.
-use Rattle.std.proofs.Common.{◌≡◌, ℕ, List, inl, inr, ⊎_elim, Err}
-use Rattle.text_defs.specs.Plays.{IsRefusal, play_of}
-use Rattle.text_defs.specs.declared.fault.ScriptFault.{ScriptFault}
+use Rattle.std.proofs.Common.{ℕ, List, inl, inr}
+use Rattle.text_defs.specs.Plays.{IsRefusal}
 use Rattle.text_defs.specs.declared.fault.ScriptFault.TheVariants as fault
 use Rattle.redex_cli.specs.Refusals.{TraceRefused}
 use Rattle.redex_cli.specs.declared.fetching.Inputs.{Inputs}

@@ -1,5 +1,5 @@
 -- What `trace` says, from what the machine says of a run.
-use Rattle.std.proofs.Common.{◌≡◌, ◌≤◌, ℕ, List, true, length, subst, Option, Result, Ok, Err, Some, sym}
+use Rattle.std.proofs.Common.{◌≡◌, ◌≤◌, ℕ, List, true, length, subst, Option, Result, Ok, Some, sym}
 use Rattle.std.specs.Prelude.{IfOk}
 use Rattle.array_law.proofs.Runs.{make_arrays}
 use Rattle.dalvik_defs.specs.Naming.{named}

@@ -1,5 +1,5 @@
 -- From what a command says to what the words say.
-use Rattle.std.proofs.Common.{◌≡◌, ◌≤◌, ℕ, List, [], ◌∷◌, Bool, true, false, IsTrue, Option, None, Some, refl, sym, ap, subst, ◌∙◌, inl, inr}
+use Rattle.std.proofs.Common.{◌≡◌, ℕ, List, Bool, Option, Some, refl, sym, subst, inl, inr}
 use Rattle.redex_outside.specs.Held.{Held}
 use Rattle.redex_outside.specs.Voices.{Voice}
 use Rattle.program_model.specs.declared.limits.Counted.{Counted}
@@ -7,13 +7,13 @@ use Rattle.command_line.specs.Spelling.{Spells, AsksFor, sorted_of}
 use Rattle.command_line.specs.Spelling as spelling
 use Rattle.command_line.specs.declared.sorted.Sorted.{Sorted}
 use Rattle.command_line.specs.declared.command.CommandWords.{CommandWords}
-use Rattle.command_line.specs.declared.command.CommandWords.TheVariants.{Nothing, Optimise, Check, Live, Trace, Workload}
+use Rattle.command_line.specs.declared.command.CommandWords.TheVariants.{Workload}
 use Rattle.redex_cli.specs.Commands.{CountsWithin, Puts, SpellsNothing, fetches, output_of}
 use Rattle.redex_cli.specs.Fetching.{Failures, FirstTooLong}
 use Rattle.redex_cli.specs.Files.{AllRead}
 use Rattle.redex_cli.specs.Finished.{IsOutputOf, IsResult}
 use Rattle.redex_cli.specs.Refusals.{Cause, CauseFor, EndsTooLong, EndsUnspelled, Gives, GivesFor, OutputBy, Refuses, RefusesFor, TooLong, WordsRefused}
-use Rattle.redex_cli.specs.Stays.{HoldsFinished, OutputHolds, Stays}
+use Rattle.redex_cli.specs.Stays.{HoldsFinished, OutputHolds}
 use Rattle.redex_cli.specs.declared.status.Status.{Status}
 use Rattle.redex_cli.specs.declared.status.Status.TheVariants.{Done, Usage, BadRules, BadDex, Limit, ReadFault, WriteFault, NoMemory, BadScript}
 use Rattle.redex_cli.proofs.FetchLemmas.{KeepsAll, stays_same, within_or_long}
@@ -45,10 +45,10 @@ words_cause words command tells old f g p q Usage spelled c = absurd c
 words_cause words command tells old f g p q (BadRules fault) spelled c = record { command = command; spelled = spelled; cause = c }
 words_cause words command tells old f g p q (BadDex fault) spelled c = record { command = command; spelled = spelled; cause = c }
 words_cause words command tells old f g p q (Limit fault) spelled c = record { command = command; spelled = spelled; cause = c }
-words_cause words command tells old f g p q ReadFault spelled c = record { command = command; spelled = spelled; rose = c }
-words_cause words command tells old f g p q WriteFault spelled c = record { command = command; spelled = spelled; rose = c }
+words_cause words command tells old f g p q ReadFault spelled c = record { command = command; spelled = spelled; cause = c }
+words_cause words command tells old f g p q WriteFault spelled c = record { command = command; spelled = spelled; cause = c }
 words_cause words command tells old f g p q NoMemory spelled c = tt
-words_cause words command tells old f g p q (BadScript line) spelled c = record { command = command; spelled = spelled; bad = c }
+words_cause words command tells old f g p q (BadScript line) spelled c = record { command = command; spelled = spelled; cause = c }
 
 long_of : (words : List (List ℕ)) (command : CommandWords) (old : Held) (counted : Counted)
     → ((c : CommandWords) → Spells words c → c ≡ command) → TooLong words old counted → FirstTooLong old (fetches command) counted

@@ -1,27 +1,28 @@
 -- How a run of words ends, why, and what it leaves.
 use Rattle.std.specs.Prelude.{◌≡◌, ◌⊎◌, ◌++◌, ℕ, List, Bool, IsTrue}
 use Rattle.program_model.specs.declared.limits.Counted.{Counted}
-use Rattle.redex_outside.specs.Counts.{Rose}
 use Rattle.redex_outside.specs.Held.{Held}
 use Rattle.redex_outside.specs.Voices.{Voice}
 use Rattle.redex_cli.specs.Commands.{Puts, SpellsNothing}
 use Rattle.redex_cli.specs.Fetching.{Failures}
 use Rattle.redex_cli.specs.Finished.{Results}
-use Rattle.redex_cli.specs.Refusals.{CouldNotFetch, CouldNotPut, EndsTooLong, EndsUnspelled, HasBadLine, HasFileFault, HasRulesFault, HoldsSummed, OutputBy, PassesLimit, ReadsAll, TooLong}
+use Rattle.redex_cli.specs.Refusals.{CouldNotFetch, CouldNotPut, CouldNotSay, EndsTooLong, EndsUnspelled, HasBadLine, HasFileFault, HasRulesFault, HoldsSummed, OutputBy, PassesLimit, ReadsAll, TooLong}
 use Rattle.redex_cli.specs.Said.{Said}
 use Rattle.redex_cli.specs.Stays.{Stays}
 use Rattle.redex_cli.specs.declared.status.Status.{Status}
 use Rattle.redex_cli.specs.declared.status.Status.TheVariants.{Done, Usage, BadRules, BadDex, Limit, ReadFault, WriteFault, NoMemory, BadScript}
 
--- Why a run of these words ends with this status: what its counts say, and the faults that are carried.
+-- Why a run of these words ends with this status: what its counts say, and the faults that are carried. Where the shelf tells what it holds,
+-- nothing that comes before in the order of refusals is refused.
 abbrev pub Caused : List (List ℕ) → Bool → Held → Failures → Failures → Failures → Failures → ℕ → ℕ → Status → Type 0
 Caused words tells held fetches_old fetches_new puts_old puts_new notes_old notes_new Done = Unit {0}
 Caused words tells held fetches_old fetches_new puts_old puts_new notes_old notes_new Usage = SpellsNothing words
 Caused words tells held fetches_old fetches_new puts_old puts_new notes_old notes_new (BadRules fault) = HasRulesFault words tells held fault
 Caused words tells held fetches_old fetches_new puts_old puts_new notes_old notes_new (BadDex fault) = HasFileFault words tells held fault
 Caused words tells held fetches_old fetches_new puts_old puts_new notes_old notes_new (Limit fault) = PassesLimit words tells held fault
-Caused words tells held fetches_old fetches_new puts_old puts_new notes_old notes_new ReadFault = CouldNotFetch words fetches_old fetches_new
-Caused words tells held fetches_old fetches_new puts_old puts_new notes_old notes_new WriteFault = CouldNotPut words puts_old puts_new ⊎ Rose notes_old notes_new
+Caused words tells held fetches_old fetches_new puts_old puts_new notes_old notes_new ReadFault = CouldNotFetch words tells held fetches_old fetches_new
+Caused words tells held fetches_old fetches_new puts_old puts_new notes_old notes_new WriteFault =
+    CouldNotPut words tells held puts_old puts_new ⊎ CouldNotSay words tells held notes_old notes_new
 Caused words tells held fetches_old fetches_new puts_old puts_new notes_old notes_new NoMemory = Unit {0}
 Caused words tells held fetches_old fetches_new puts_old puts_new notes_old notes_new (BadScript line) = HasBadLine words tells held line
 

@@ -10,7 +10,7 @@ use Rattle.text_defs.specs.declared.fault.ScriptFault.TheVariants as script
 use Rattle.redex_cli.specs.Commands.{Fetch, counted_as}
 use Rattle.redex_cli.specs.declared.fetching.Kind.TheVariants as kind
 use Rattle.redex_cli.specs.declared.status.Status.{Status}
-use Rattle.redex_cli.specs.declared.status.Status.TheVariants.{Done, Usage, BadRules, BadDex, Limit, ReadFault, WriteFault, NoMemory, BadScript}
+use Rattle.redex_cli.specs.declared.status.Status.TheVariants.{Limit, ReadFault, WriteFault, NoMemory}
 
 -- How often something of each name has failed.
 abbrev pub Failures : Type 0
@@ -44,20 +44,30 @@ abbrev pub OneRose : Failures → Failures → List Fetch → Type 0
 OneRose old new [] = ⊥
 OneRose old new (fetch ∷ later) = Rose (old fetch.name) (new fetch.name) ⊎ OneRose old new later
 
+-- The count of one of these names rose, and each name before it holds bytes that keep their limit.
+abbrev pub FirstFailed : Held → Failures → Failures → List Fetch → Type 0
+FirstFailed held old new [] = ⊥
+FirstFailed held old new (fetch ∷ later) = Rose (old fetch.name) (new fetch.name) ⊎ (HoldsWithin held fetch × FirstFailed held old new later)
+
 -- The bytes of one of these names are counted as this.
 abbrev pub OneCounts : List Fetch → Counted → Type 0
 OneCounts [] counted = ⊥
 OneCounts (fetch ∷ later) counted = (counted_as fetch.kind ≡ counted) ⊎ OneCounts later counted
 
--- A fetch took one byte more than its limit.
+-- A fetch took one byte more than its limit, behind fetches that kept theirs, where the shelf tells what it holds.
 pub record PassesByOne (tells : Bool) (held : Held) (fetches : List Fetch) (fault : LimitFault) : Type 0 where
   pub number : fault.number ≡ limit_of fault.counted + 1
   pub counts : OneCounts fetches fault.counted
   pub first : IsTrue tells → FirstTooLong held fetches fault.counted
 
+-- A fetch failed, behind fetches that kept their limits, where the shelf tells what it holds.
+pub record FetchFailed (tells : Bool) (held : Held) (old new : Failures) (fetches : List Fetch) : Type 0 where
+  pub rose : OneRose old new fetches
+  pub first : IsTrue tells → FirstFailed held old new fetches
+
 -- Why the fetching ended with this status.
 abbrev pub FetchRefused : Bool → Held → Failures → Failures → List Fetch → Status → Type 0
-FetchRefused tells held old new fetches ReadFault = OneRose old new fetches
+FetchRefused tells held old new fetches ReadFault = FetchFailed tells held old new fetches
 FetchRefused tells held old new fetches (Limit fault) = PassesByOne tells held fetches fault
 FetchRefused tells held old new fetches NoMemory = Unit {0}
 FetchRefused tells held old new fetches _ = ⊥

@@ -1,4 +1,4 @@
--- What the bytes of a file or a library are to a run.
+-- What the bytes of rules, of a file, of a library and of a script are to a run.
 use Rattle.std.specs.Prelude.{◌≡◌, ◌⊎◌, ℕ, List, [], ◌∷◌, Bool, true, IsTrue, Option, None, Some, Ok, Err}
 use Rattle.dex_read.specs.File.{program_at}
 use Rattle.dex_read.specs.declared.fault.DexFault.TheVariants as dex
@@ -8,17 +8,27 @@ use Rattle.program_model.specs.ProgramRules.{is_well_formed}
 use Rattle.program_model.specs.declared.program.Program.{Program}
 use Rattle.redex_outside.specs.Held.{Held}
 use Rattle.if_text.specs.Faults.{IsIfFault}
+use Rattle.if_text.specs.Items.{Item, SpellsItems}
 use Rattle.rule_text.specs.declared.fault.RuleFault.{RuleFault}
 use Rattle.stub_library.specs.Stubs.{library_at}
 use Rattle.stub_library.specs.declared.library.Library.{Library}
+use Rattle.text_defs.specs.Plays.{play_of}
+use Rattle.text_defs.specs.declared.play.Play.{Play}
 use Rattle.verify.specs.declared.fault.TypeFault.{TypeFault}
 use Rattle.redex_cli.specs.Accepted.{IsAccepted, IsTypeCause}
 use Rattle.redex_cli.specs.Commands.{Fetch}
+use Rattle.redex_cli.specs.Fetching.{AllWithin}
 use Rattle.redex_cli.specs.declared.fetching.Inputs.{Inputs}
+use Rattle.redex_cli.specs.declared.fetching.Kind.{Kind}
 use Rattle.redex_cli.specs.declared.fetching.Kind.TheVariants as kind
 use Rattle.redex_cli.specs.declared.status.InputFault.TheVariants as input
 use Rattle.redex_cli.specs.declared.status.Status.{Status}
-use Rattle.redex_cli.specs.declared.status.Status.TheVariants.{BadDex, Limit, NoMemory}
+use Rattle.redex_cli.specs.declared.status.Status.TheVariants.{BadDex, Limit, NoMemory, BadScript}
+
+-- The text spells rules and options, with conditions or without, and not too many.
+pub record AreRules (text : List ℕ) : Type 0 where
+  pub items : List Item
+  pub spells : SpellsItems text items
 
 -- The bytes spell a program that is accepted.
 pub record IsRead (bytes : List ℕ) : Type 0 where
@@ -61,8 +71,14 @@ pub record IsDeclared (bytes : List ℕ) : Type 0 where
   pub library : Library
   pub declares : library_at bytes ≡ Ok library
 
--- The file spells a program that is accepted, and the library, where there is one, declares one.
+-- The text spells a play.
+pub record IsPlay (text : List ℕ) : Type 0 where
+  pub play : Play
+  pub spells : play_of text ≡ Ok play
+
+-- The rules are read, the file spells a program that is accepted, and the library, where there is one, declares one.
 pub record AreRead (inputs : Inputs) : Type 0 where
+  pub rules : AreRules inputs.rules
   pub file : IsRead inputs.file
   pub library : (bytes : List ℕ) → inputs.library ≡ Some bytes → IsDeclared bytes
 
@@ -73,9 +89,18 @@ pub record RefusedBehind (inputs : Inputs) (status : Status) : Type 0 where
   pub is : inputs.library ≡ Some bytes
   pub refused : LibraryRefused bytes status
 
--- What the file of these inputs is refused with, or the library behind it.
-abbrev pub BytesRefused : Inputs → Status → Type 0
-BytesRefused inputs status = FileRefused inputs.file status ⊎ RefusedBehind inputs status
+-- What is read before inputs, and a script behind them, are refused so: the rules before the file and the library, and all of
+-- them before the script.
+abbrev pub ReadBefore : Inputs → Status → Type 0
+ReadBefore inputs (BadDex fault) = AreRules inputs.rules
+ReadBefore inputs (Limit fault) = AreRules inputs.rules
+ReadBefore inputs (BadScript line) = AreRead inputs
+ReadBefore inputs _ = Unit {0}
+
+-- What the file of these inputs is refused with, or the library behind it, and what is read before.
+pub record BytesRefused (inputs : Inputs) (status : Status) : Type 0 where
+  pub bytes : FileRefused inputs.file status ⊎ RefusedBehind inputs status
+  pub before : ReadBefore inputs status
 
 -- The name holds bytes that spell this program.
 pub record HoldsProgram (held : Held) (name : List ℕ) (program : Program) : Type 0 where
@@ -83,33 +108,35 @@ pub record HoldsProgram (held : Held) (name : List ℕ) (program : Program) : Ty
   pub there : held name ≡ Some bytes
   pub reads : program_at bytes ≡ Ok program
 
--- The name holds bytes that spell a program that is accepted.
-pub record HoldsRead (held : Held) (fetch : Fetch) : Type 0 where
-  pub program : Program
-  pub holds : HoldsProgram held fetch.name program
-  pub accepted : IsAccepted program
+-- The bytes are read as what is fetched so: they spell rules, or a program that is accepted, declare a library, or spell a play.
+abbrev pub IsReadAs : Kind → List ℕ → Type 0
+IsReadAs kind.Rules bytes = AreRules bytes
+IsReadAs kind.File bytes = IsRead bytes
+IsReadAs kind.Library bytes = IsDeclared bytes
+IsReadAs kind.Script bytes = IsPlay bytes
 
--- The name holds bytes that declare this library.
-pub record HoldsLibrary (held : Held) (fetch : Fetch) : Type 0 where
-  pub library : Library
+-- The name holds bytes that are read as what it is fetched as.
+pub record HoldsRead (held : Held) (fetch : Fetch) : Type 0 where
   pub bytes : List ℕ
   pub there : held fetch.name ≡ Some bytes
-  pub declares : library_at bytes ≡ Ok library
+  pub read : IsReadAs fetch.kind bytes
 
--- Each of these names that is fetched as a file holds such a program.
-abbrev pub AllFilesRead : Held → List Fetch → Type 0
-AllFilesRead held [] = Unit {0}
-AllFilesRead held (fetch ∷ later) = (fetch.kind ≡ kind.File → HoldsRead held fetch) × AllFilesRead held later
+-- Each of these names that is fetched as this holds such bytes.
+abbrev pub AllReadAs : Kind → Held → List Fetch → Type 0
+AllReadAs wanted held [] = Unit {0}
+AllReadAs wanted held (fetch ∷ later) = (fetch.kind ≡ wanted → HoldsRead held fetch) × AllReadAs wanted held later
 
--- Each of these names that is fetched as a library holds one.
-abbrev pub AllLibrariesRead : Held → List Fetch → Type 0
-AllLibrariesRead held [] = Unit {0}
-AllLibrariesRead held (fetch ∷ later) = (fetch.kind ≡ kind.Library → HoldsLibrary held fetch) × AllLibrariesRead held later
+-- All that is read before a script: the rules, the files and the libraries.
+pub record AllInputsRead (held : Held) (names : List Fetch) : Type 0 where
+  pub rules : AllReadAs kind.Rules held names
+  pub files : AllReadAs kind.File held names
+  pub libraries : AllReadAs kind.Library held names
 
--- Both.
+-- Each of these names holds bytes that keep their limit, and all of them are read, the scripts too.
 pub record AllRead (held : Held) (names : List Fetch) : Type 0 where
-  pub files : AllFilesRead held names
-  pub libraries : AllLibrariesRead held names
+  pub within : AllWithin held names
+  pub inputs : AllInputsRead held names
+  pub scripts : AllReadAs kind.Script held names
 
 -- The name is fetched as a file, and holds bytes that are refused so.
 pub record HoldsRefused (held : Held) (fetch : Fetch) (status : Status) : Type 0 where
@@ -137,7 +164,7 @@ OneBadLibrary held (fetch ∷ later) status = HoldsBadLibrary held fetch status 
 
 -- One of these names holds such a file, or one holds such a library, and no file is refused.
 abbrev pub FilesCause : Held → List Fetch → Status → Type 0
-FilesCause held names status = OneRefused held names status ⊎ (AllFilesRead held names × OneBadLibrary held names status)
+FilesCause held names status = OneRefused held names status ⊎ (AllReadAs kind.File held names × OneBadLibrary held names status)
 
 -- The same of a command that has names fetched. One that fetches nothing makes its file itself.
 abbrev pub FileCause : Held → List Fetch → Status → Type 0

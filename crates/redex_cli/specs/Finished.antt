@@ -1,5 +1,5 @@
 -- What a command gives: a file to be put, and a text to be said.
-use Rattle.std.specs.Prelude.{◌≡◌, ◌<◌, ◌≤◌, ℕ, Bool, true, false, IsTrue, Ok, None, Some, Option, List, [], ◌++◌, length, map, slice_index, sum_by, codes}
+use Rattle.std.specs.Prelude.{◌≡◌, ◌<◌, ◌≤◌, ℕ, Bool, true, false, IsTrue, Ok, None, List, [], ◌++◌, length, map, slice_index, sum_by, codes}
 use Rattle.std.specs.Fmt.{decimal}
 use Rattle.command_line.specs.Spelling.{Spells}
 use Rattle.command_line.specs.declared.command.CommandWords.{CommandWords}

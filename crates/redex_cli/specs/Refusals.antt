@@ -1,5 +1,5 @@
 -- Why a run is refused, and what holds where it is not.
-use Rattle.std.specs.Prelude.{◌≡◌, ◌⊎◌, ◌+◌, ◌++◌, ℕ, List, Bool, IsTrue, Option, None, Some, Err}
+use Rattle.std.specs.Prelude.{◌≡◌, ◌⊎◌, ◌+◌, ℕ, List, Bool, IsTrue, Option, None, Some, Err}
 use Rattle.if_text.specs.Faults.{IsIfFault}
 use Rattle.rule_text.specs.declared.fault.RuleFault.{RuleFault}
 use Rattle.rule_text.specs.declared.fault.RuleFault.TheVariants as rule
@@ -21,11 +21,12 @@ use Rattle.redex_outside.specs.Voices.{Voice}
 use Rattle.command_line.specs.declared.command.CommandWords.{CommandWords}
 use Rattle.command_line.specs.Spelling.{Spells}
 use Rattle.redex_cli.specs.Commands.{Fetch, Puts, SpellsNothing, fetches, output_of}
-use Rattle.redex_cli.specs.Fetching.{Failures, AllWithin, FirstTooLong, OneBadLine, OneRose, PassesByOne}
-use Rattle.redex_cli.specs.Files.{AllRead, BytesRefused, FileCause, HasLibrary, LibraryRefused, RulesCause}
+use Rattle.redex_cli.specs.Fetching.{Failures, AllWithin, FetchFailed, FirstTooLong, OneBadLine, PassesByOne}
+use Rattle.redex_cli.specs.Files.{AllInputsRead, AllRead, AllReadAs, BytesRefused, FileCause, HasLibrary, LibraryRefused, RulesCause}
 use Rattle.redex_cli.specs.Finished.{IsOutputOf, Results}
 use Rattle.redex_cli.specs.Stays.{Stays}
 use Rattle.redex_cli.specs.declared.fetching.Inputs.{Inputs}
+use Rattle.redex_cli.specs.declared.fetching.Kind.TheVariants as kind
 use Rattle.redex_cli.specs.declared.status.InputFault.{InputFault}
 use Rattle.redex_cli.specs.declared.status.InputFault.TheVariants as input
 use Rattle.redex_cli.specs.declared.status.Status.{Status}
@@ -101,13 +102,17 @@ abbrev pub TraceRefused : Inputs → List ℕ → Status → Type 0
 TraceRefused inputs text (BadScript line) = play_of text ≡ Err (script.Line line)
 TraceRefused inputs text status = WorkRefused inputs status
 
--- ---- the limits
+-- ---- the limits and the faults of what is fetched
 
--- All names keep their limits, and a quantity that is counted inside the file or the library, which is none of bytes, passes its
--- own.
+-- Refusals come in this order: the fetches, in the order of the names; the rules; the file, its class graph and its types; the library; the
+-- script; the put; the saying. Each cause says that nothing before it is refused, where the shelf tells what it holds.
+
+-- All names keep their limits, the rules are read, and a quantity that is counted inside the file or the library, which is none of bytes,
+-- passes its own.
 pub record PassesInside (tells : Bool) (held : Held) (names : List Fetch) (fault : LimitFault) : Type 0 where
   pub inside : PassesInFile fault
   pub within : IsTrue tells → AllWithin held names
+  pub rules : IsTrue tells → AllReadAs kind.Rules held names
   pub file : IsTrue tells → FileCause held names (Limit fault)
 
 -- A fault of a library comes where one is fetched.
@@ -115,15 +120,26 @@ abbrev pub IsFaultOf : List Fetch → InputFault → Type 0
 IsFaultOf names (input.Library fault) = IsDexFault fault × HasLibrary names
 IsFaultOf names fault = IsInputFault fault
 
--- A fault of the file or the library, which is one of those that the bytes have.
+-- A fault of the file, or of the library behind a file that is accepted, which is one of those that the bytes have. All names keep their
+-- limits, and the rules are read.
 pub record FileFault (tells : Bool) (held : Held) (names : List Fetch) (fault : InputFault) : Type 0 where
   pub carried : IsFaultOf names fault
+  pub within : IsTrue tells → AllWithin held names
+  pub rules : IsTrue tells → AllReadAs kind.Rules held names
   pub file : IsTrue tells → FileCause held names (BadDex fault)
 
--- A fault of the rules, which is the one that their text has.
+-- A fault of the rules, which is the one that their text has. All names keep their limits.
 pub record RulesFault (tells : Bool) (held : Held) (names : List Fetch) (fault : RuleFault) : Type 0 where
   pub carried : IsRuleFault fault
+  pub within : IsTrue tells → AllWithin held names
   pub ruling : IsTrue tells → RulesCause held names fault
+
+-- The first line of the script that is outside the grammar. All names keep their limits, the rules are read, the file is accepted, and the
+-- library declares one.
+pub record LineFault (tells : Bool) (held : Held) (names : List Fetch) (line : ℕ) : Type 0 where
+  pub within : IsTrue tells → AllWithin held names
+  pub read : IsTrue tells → AllInputsRead held names
+  pub bad : IsTrue tells → OneBadLine held names line
 
 -- A fetch passed its limit, or something inside the file or the library does. So the bytes of the rules, of a file or of a script are
 -- named exactly where their fetch took one more than its limit.
@@ -145,15 +161,20 @@ pub record OutputRose (output : Option (List ℕ)) (old new : Failures) : Type 0
   pub is_output : output ≡ Some name
   pub rose : Rose (old name) (new name)
 
+-- The same, behind all that is read.
+pub record PutFailed (tells : Bool) (held : Held) (names : List Fetch) (output : Option (List ℕ)) (old new : Failures) : Type 0 where
+  pub rose : OutputRose output old new
+  pub read : IsTrue tells → AllRead held names
+
 -- Why a command that has these names fetched and this one put is refused with this status.
 abbrev pub Cause : List Fetch → Option (List ℕ) → Bool → Held → Failures → Failures → Failures → Failures → Status → Type 0
 Cause names output tells held fetches_old fetches_new puts_old puts_new (BadRules fault) = RulesFault tells held names fault
 Cause names output tells held fetches_old fetches_new puts_old puts_new (BadDex fault) = FileFault tells held names fault
 Cause names output tells held fetches_old fetches_new puts_old puts_new (Limit fault) = LimitCause tells held names fault
-Cause names output tells held fetches_old fetches_new puts_old puts_new ReadFault = OneRose fetches_old fetches_new names
-Cause names output tells held fetches_old fetches_new puts_old puts_new WriteFault = OutputRose output puts_old puts_new
+Cause names output tells held fetches_old fetches_new puts_old puts_new ReadFault = FetchFailed tells held fetches_old fetches_new names
+Cause names output tells held fetches_old fetches_new puts_old puts_new WriteFault = PutFailed tells held names output puts_old puts_new
 Cause names output tells held fetches_old fetches_new puts_old puts_new NoMemory = Unit {0}
-Cause names output tells held fetches_old fetches_new puts_old puts_new (BadScript line) = IsTrue tells → OneBadLine held names line
+Cause names output tells held fetches_old fetches_new puts_old puts_new (BadScript line) = LineFault tells held names line
 Cause names output tells held fetches_old fetches_new puts_old puts_new _ = ⊥
 
 -- A command that has these names fetched and this one put, with a final output, is refused with this status.
@@ -180,17 +201,24 @@ pub record Gives (names : List Fetch) (output : Option (List ℕ)) (IsFinal : Li
 
 -- ---- words
 
--- The count of failed fetches rose for a name that the words have fetched.
-pub record CouldNotFetch (words : List (List ℕ)) (old new : Failures) : Type 0 where
+-- The count of failed fetches rose for a name that the words have fetched, behind names that keep their limits.
+pub record CouldNotFetch (words : List (List ℕ)) (tells : Bool) (held : Held) (old new : Failures) : Type 0 where
   pub command : CommandWords
   pub spelled : Spells words command
-  pub rose : OneRose old new (fetches command)
+  pub cause : FetchFailed tells held old new (fetches command)
 
--- The count of failed puts rose for the name that the words have put.
-pub record CouldNotPut (words : List (List ℕ)) (old new : Failures) : Type 0 where
+-- The count of failed puts rose for the name that the words have put, behind all that is read.
+pub record CouldNotPut (words : List (List ℕ)) (tells : Bool) (held : Held) (old new : Failures) : Type 0 where
   pub command : CommandWords
   pub spelled : Spells words command
-  pub rose : OutputRose (output_of command) old new
+  pub cause : PutFailed tells held (fetches command) (output_of command) old new
+
+-- The count of failed sayings rose at the result of what the words ask for, behind all that is read.
+pub record CouldNotSay (words : List (List ℕ)) (tells : Bool) (held : Held) (old new : ℕ) : Type 0 where
+  pub command : CommandWords
+  pub spelled : Spells words command
+  pub rose : Rose old new
+  pub read : IsTrue tells → AllRead held (fetches command)
 
 -- A limit is passed that the words' command counts.
 pub record PassesLimit (words : List (List ℕ)) (tells : Bool) (held : Held) (fault : LimitFault) : Type 0 where
@@ -216,15 +244,15 @@ pub record OutputBy (words : List (List ℕ)) (voices : List Voice) (tells : Boo
   pub spelled : Spells words command
   pub final : IsOutputOf voices tells held command output summary
 
--- The files that the words have fetched spell programs that are accepted, and the library declares one.
+-- What the words have fetched keeps its limits and is read: the rules, the file, the library and the script.
 abbrev pub ReadsAll : List (List ℕ) → Held → Type 0
 ReadsAll words held = (command : CommandWords) → Spells words command → AllRead held (fetches command)
 
--- The script that the words have fetched has this first line outside the grammar.
+-- The script that the words have fetched has this first line outside the grammar, behind inputs that are read.
 pub record HasBadLine (words : List (List ℕ)) (tells : Bool) (held : Held) (line : ℕ) : Type 0 where
   pub command : CommandWords
   pub spelled : Spells words command
-  pub bad : IsTrue tells → OneBadLine held (fetches command) line
+  pub cause : LineFault tells held (fetches command) line
 
 -- A name that the words have fetched holds too much, and is the first. Its bytes are counted as this.
 pub record TooLong (words : List (List ℕ)) (held : Held) (counted : Counted) : Type 0 where
@@ -251,8 +279,8 @@ CauseFor words tells held fetches_old fetches_new puts_old puts_new Usage = Spel
 CauseFor words tells held fetches_old fetches_new puts_old puts_new (BadRules fault) = HasRulesFault words tells held fault
 CauseFor words tells held fetches_old fetches_new puts_old puts_new (BadDex fault) = HasFileFault words tells held fault
 CauseFor words tells held fetches_old fetches_new puts_old puts_new (Limit fault) = PassesLimit words tells held fault
-CauseFor words tells held fetches_old fetches_new puts_old puts_new ReadFault = CouldNotFetch words fetches_old fetches_new
-CauseFor words tells held fetches_old fetches_new puts_old puts_new WriteFault = CouldNotPut words puts_old puts_new
+CauseFor words tells held fetches_old fetches_new puts_old puts_new ReadFault = CouldNotFetch words tells held fetches_old fetches_new
+CauseFor words tells held fetches_old fetches_new puts_old puts_new WriteFault = CouldNotPut words tells held puts_old puts_new
 CauseFor words tells held fetches_old fetches_new puts_old puts_new NoMemory = Unit {0}
 CauseFor words tells held fetches_old fetches_new puts_old puts_new (BadScript line) = HasBadLine words tells held line
 

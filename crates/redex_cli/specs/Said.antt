@@ -3,7 +3,7 @@ use Rattle.std.specs.Prelude.{◌≡◌, ◌⊎◌, ℕ, List, ◌++◌, Bool, I
 use Rattle.redex_outside.specs.Counts.{Rose}
 use Rattle.redex_cli.specs.FaultLines.{status_text}
 use Rattle.redex_cli.specs.declared.status.Status.{Status}
-use Rattle.redex_cli.specs.declared.status.Status.TheVariants.{Done, Usage, BadRules, BadDex, Limit, ReadFault, WriteFault, NoMemory, BadScript}
+use Rattle.redex_cli.specs.declared.status.Status.TheVariants.{Done, WriteFault, NoMemory}
 
 -- A prefix of the text was said.
 pub record SaidPart (text old new : List ℕ) : Type 0 where

@@ -4,7 +4,7 @@ use Rattle.redex_outside.specs.Counts.{Rose}
 use Rattle.redex_outside.specs.Held.{Held, AllSame, OldOrPrefix}
 use Rattle.redex_cli.specs.Fetching.{Failures}
 use Rattle.redex_cli.specs.declared.status.Status.{Status}
-use Rattle.redex_cli.specs.declared.status.Status.TheVariants.{Done, Usage, BadRules, BadDex, Limit, ReadFault, WriteFault, NoMemory, BadScript}
+use Rattle.redex_cli.specs.declared.status.Status.TheVariants.{Done, WriteFault, NoMemory}
 
 -- A refusal before the put.
 abbrev pub IsRefusal : Status → Type 0

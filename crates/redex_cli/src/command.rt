@@ -104,7 +104,7 @@ fn run_trace<H: Shelf>(
 }
 
 /// `check`: fetches the file. Its result is how much is in it.
-#[tactic(auto, using(crate::proofs::CommandLemmas::fetch_refuses, crate::proofs::CommandLemmas::check_refuses, crate::proofs::CommandLemmas::check_gives))]
+#[tactic(auto, using(crate::proofs::CommandLemmas::fetch_refuses, crate::proofs::CommandLemmas::check_gives))]
 fn run_check<H: Shelf>(alloc: Global, input: &Word, shelf: &mut H) -> Result<Vec<u8>, Status>
     ensures given { IfOk result (λ text. Gives (file_alone input.now) None (λ _ _. ⊥) (IsChecked (H.tells shelf.old) (H.held shelf.old) input.now)
         (H.tells shelf.old) (H.held shelf.old) (H.held shelf.new) text.items) }

@@ -64,6 +64,7 @@ fn too_long(kind: Kind, taken: usize) -> Status
 }
 
 /// The bytes under a name, within the limit of what they are counted as.
+#[tactic(auto, using(crate::proofs::FetchLemmas::failed_alone))]
 pub fn fetch<H: Shelf>(
     alloc: Global,
     shelf: &mut H,

@@ -130,7 +130,9 @@ pub fn run<H: Shelf, N: Notes>(
     // Each status has its cause: `Usage` in the words, `ReadFault` and `WriteFault` in a count that rose, `Limit` of
     // bytes in what the first name holds that holds too much, every other `Limit` and each `BadDex` of the reading in
     // what the bytes of the file or of the library give, `BadDex` of the classes or of the types in the program that the
-    // file spells.
+    // file spells. On a shelf that tells what it holds, what comes before it in the order above is not refused: the names
+    // that are fetched before keep their limits, the rules are read before the file, the file is accepted before the
+    // library is read, all of them are before the script, and the script is read before the put and the saying.
     ensures cause { Caused (map string_bytes words.now) (H.tells shelf.old) (H.held shelf.old) (H.fetch_faults shelf.old) (H.fetch_faults shelf.new) (H.put_faults shelf.old)
         (H.put_faults shelf.new) (N.faults notes.old) (N.faults notes.new) result }
 
@@ -138,8 +140,9 @@ pub fn run<H: Shelf, N: Notes>(
     ensures unspelled { SpellsNothing (map string_bytes words.now) → EndsUnspelled result }
     ensures too_long { (counted : Counted) → IsTrue (H.tells shelf.old) → TooLong (map string_bytes words.now) (H.held shelf.old) counted → EndsTooLong counted result }
 
-    // Where the run is done, each file that was fetched spells a program whose class graph has no fault and whose bodies
-    // are well typed, and the library declares classes.
+    // Where the run is done, all names that were fetched keep their limits, the rules are read, the file spells a program
+    // whose class graph has no fault and whose bodies are well typed, the library declares classes, and the script spells
+    // a play.
     ensures read { result ≡ Status.Done → IsTrue (H.tells shelf.old) → ReadsAll (map string_bytes words.now) (H.held shelf.old) }
 
     // What the names hold, and what was said: of `check` the counts of the program that the file spells, of `live` the list

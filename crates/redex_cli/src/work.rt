@@ -53,6 +53,7 @@ use verify::{TypeFault, verify_all};
 const WORKLOAD_RULES: &[u8] = b"-keep class ?0 { public static int run(int); }\n";
 
 /// A fault of the rules as a status.
+#[tactic(auto, using(crate::proofs::FinishedLemmas::no_memory, crate::proofs::FinishedLemmas::bad_rules))]
 fn rules_status(fault: RuleFault) -> Status
     ensures refused { (inputs : Inputs) → IsIfFault inputs.rules fault → WorkRefused inputs result }
     ensures file { (inputs : Inputs) → BytesRefused inputs result }
@@ -250,7 +251,7 @@ fn table_with(
 
 /// The rules, the file, its class graph and its types, and the library, in this order. The bytes are let go as soon as they are
 /// read.
-#[tactic(auto, using(crate::proofs::FinishedLemmas::work_reads, crate::proofs::FinishedLemmas::bytes_read, crate::proofs::FinishedLemmas::library_work, crate::proofs::FinishedLemmas::library_bytes))]
+#[tactic(auto, using(crate::proofs::FinishedLemmas::work_reads, crate::proofs::FinishedLemmas::no_memory, crate::proofs::FinishedLemmas::library_work))]
 fn read_input(alloc: Global, inputs: Inputs) -> Result<Input, Status>
     requires { length inputs.rules < 2 ^ 32 }
     ensures program { IfOk result (λ input. program_at inputs.file ≡ Ok input.program) }
@@ -402,6 +403,7 @@ fn optimise_input(
 }
 
 /// Optimises a file by its rules, and by its library where there is one.
+#[tactic(auto, using(crate::proofs::FinishedLemmas::no_memory))]
 pub fn optimise_file(
     alloc: Global,
     inputs: Inputs,
@@ -476,7 +478,7 @@ pub fn optimise_workload(
 }
 
 /// The live classes and members of an input, as they are said.
-#[tactic(auto, using(crate::proofs::FinishedLemmas::lists_file))]
+#[tactic(auto, using(crate::proofs::FinishedLemmas::lists_file, crate::proofs::FinishedLemmas::no_memory))]
 fn live_of(alloc: Global, input: &Input) -> Result<Vec<u8>, Status>
     requires formed { is_well_formed input.now.program ≡ true }
     requires resolved { IsResolved input.now.program input.now.hierarchy }
@@ -537,12 +539,12 @@ pub fn check_file(alloc: Global, file: Seq<u8>) -> Result<Vec<u8>, Status>
 }
 
 /// The play that a script spells.
-#[tactic(auto, using(crate::proofs::ScriptLemmas::line_refuses))]
+#[tactic(auto, using(crate::proofs::ScriptLemmas::line_refuses, crate::proofs::FinishedLemmas::no_memory, crate::proofs::FinishedLemmas::bad_script))]
 fn read_play(alloc: Global, script: &[u8]) -> Result<Play, Status>
     requires { length script.now < 2 ^ 32 }
     ensures plays { IfOk result (λ play. play_of script.now ≡ Ok play) }
     ensures refused { (inputs : Inputs) → IfErr result (TraceRefused inputs script.now) }
-    ensures bytes { (inputs : Inputs) → IfErr result (BytesRefused inputs) }
+    ensures bytes { (inputs : Inputs) → AreRead inputs → IfErr result (BytesRefused inputs) }
 {
     match read_script(alloc, script) {
         Ok(play) => Ok(play),
@@ -585,14 +587,14 @@ fn trace_play(alloc: Global, input: &Input, play: &Play, steps: u32) -> Result<V
 }
 
 /// The events of so many steps of an input under a script, as they are said.
-#[tactic(auto, using(crate::proofs::Traced::traces_file))]
+#[tactic(auto, using(crate::proofs::Traced::traces_file, crate::proofs::FinishedLemmas::no_memory))]
 fn trace_input(alloc: Global, input: &Input, script: &[u8], steps: u32) -> Result<Vec<u8>, Status>
     requires script { length script.now < 2 ^ 32 }
     requires accepted { IsAccepted input.now.program }
     ensures traced { (inputs : Inputs) → program_at inputs.file ≡ Ok input.now.program → IsTableWith inputs.rules inputs.library input.now.program input.now.outside
         → IfOk result (λ text. TracesFile inputs script.now steps text.items) }
     ensures refused { (inputs : Inputs) → IfErr result (TraceRefused inputs script.now) }
-    ensures bytes { (inputs : Inputs) → IfErr result (BytesRefused inputs) }
+    ensures bytes { (inputs : Inputs) → AreRead inputs → IfErr result (BytesRefused inputs) }
 {
     let play = match read_play(alloc, script) {
         Ok(play) => play,

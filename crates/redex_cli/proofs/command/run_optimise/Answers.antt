@@ -23,7 +23,8 @@ returns-in-Err-put-clause-refused g c =
     (g.H.Shelf.tells shelf) (g.H.Shelf.tells mid) (g.H.Shelf.held shelf) (g.H.Shelf.held mid) (g.H.Shelf.held new)
     (g.H.Shelf.fetch_faults shelf) (g.H.Shelf.fetch_faults new) (g.H.Shelf.put_faults shelf) (g.H.Shelf.put_faults mid) (g.H.Shelf.put_faults new)
     optimised.bytes.items c.as_slice-2.result.now (string_bytes optimised.summary) c.in-Err-put.status
-    c.as_slice-2.ensures.value c.in-Ok.ensures.are c.in-Ok.ensures.within (told_words c.args.words.now _ _ c.in-Ok.inputs _ _ c.as_slice.ensures c.in-Ok-optimise_file.ensures.finished)
+    c.as_slice-2.ensures.value c.in-Ok-optimise_file.ensures.read c.in-Ok.ensures.are c.in-Ok.ensures.within
+    (told_words c.args.words.now _ _ c.in-Ok.inputs _ _ c.as_slice.ensures c.in-Ok-optimise_file.ensures.finished)
     c.fetch_inputs.ensures.stays.tells c.fetch_inputs.ensures.stays.held c.fetch_inputs.ensures.stays.puts
     c.in-Err-put.ensures.refused c.put.ensures.others
 

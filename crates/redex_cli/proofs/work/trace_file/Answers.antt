@@ -7,4 +7,4 @@ pub returns-clause-refused : goal.returns-clause-refused
 returns-clause-refused c = c.trace_input.ensures.refused c.args.inputs
 
 pub returns-clause-bytes : goal.returns-clause-bytes
-returns-clause-bytes c = c.trace_input.ensures.bytes c.args.inputs
+returns-clause-bytes c = c.trace_input.ensures.bytes c.args.inputs c.in-Ok.ensures.read

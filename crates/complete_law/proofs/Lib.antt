@@ -1,3 +1,4 @@
 pub mod Files
 pub mod Completing
+pub mod Standing
 pub mod Least

@@ -7,6 +7,7 @@ ghost use Rattle.redex_cli.specs.Fetching.{Failures};
 ghost use Rattle.redex_cli.specs.declared.status.Status.{Status};
 ghost use Rattle.dex_defs.specs.Examples.{empty_file};
 ghost use Rattle.complete_law.specs.Complete.{AreGood, EndsGood, IsGoodFile};
+ghost use Rattle.complete_law.specs.Standing.{AreBytes, IsTold};
 
 /// Words that spell a command which has something fetched, rules without a fault, files without one whose programs are typed,
 /// a library without one, a good script, each within its limit of bytes, and no count that rose, end a run as `Done`, for want of
@@ -21,4 +22,14 @@ pub fn complete()
 /// There are good files: the 140 bytes of the program of nothing are one.
 pub fn a_good_file()
     ensures { IsGoodFile empty_file }
+{}
+
+/// What a refused run tells stands in what it fetched, where names hold bytes: a fault of the rules in their text, one of the file or of
+/// the library in its bytes, or in the class graph or the types of the program that they spell; a limit is passed by the first name that
+/// holds too much, or inside the file or the library, which has one thing more of the kind; a line of the script is outside the grammar.
+/// The premise is what `run` says of its status (`cause` of its contract), of a shelf that tells what it holds.
+pub fn told()
+    ensures { (words : List (List ℕ)) (held : Held) (fetches_old fetches_new puts_old puts_new : Failures) (notes_old notes_new : ℕ) (status : Status)
+        → AreBytes held → Caused words true held fetches_old fetches_new puts_old puts_new notes_old notes_new status
+        → IsTold words held status }
 {}

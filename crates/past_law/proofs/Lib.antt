@@ -18,5 +18,5 @@ mod CodeBodies
 mod CodeMethods
 mod CodeClasses
 mod Classes
-mod Whole
-mod Within
+pub mod Whole
+pub mod Within

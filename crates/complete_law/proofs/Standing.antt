@@ -115,12 +115,12 @@ line_says held (fetch ∷ later) line h = h
 
 pub told : (words : List (List ℕ)) (held : Held) (fetches_old fetches_new puts_old puts_new : Failures) (notes_old notes_new : ℕ) (status : Status)
     → AreBytes held → Caused words true held fetches_old fetches_new puts_old puts_new notes_old notes_new status → IsTold words held status
-told words held fo fn po pn no nn Done are h = tt
-told words held fo fn po pn no nn Usage are h = tt
-told words held fo fn po pn no nn (BadRules fault) are h = record { command = h.command; spelled = h.spelled; says = let cause = h.cause in rules_say held (fetches h.command) fault (cause.ruling refl) }
-told words held fo fn po pn no nn (BadDex fault) are h = record { command = h.command; spelled = h.spelled; says = let cause = h.cause in dex_says held are (fetches h.command) fault cause.carried (cause.file refl) }
-told words held fo fn po pn no nn (Limit fault) are h = record { command = h.command; spelled = h.spelled; says = limit_says held are (fetches h.command) fault h.cause }
-told words held fo fn po pn no nn ReadFault are h = tt
-told words held fo fn po pn no nn WriteFault are h = tt
-told words held fo fn po pn no nn NoMemory are h = tt
-told words held fo fn po pn no nn (BadScript line) are h = record { command = h.command; spelled = h.spelled; says = line_says held (fetches h.command) line h.cause }
+told words held fo fn po pn ns nn Done are h = tt
+told words held fo fn po pn ns nn Usage are h = tt
+told words held fo fn po pn ns nn (BadRules fault) are h = record { command = h.command; spelled = h.spelled; says = let cause = h.cause in rules_say held (fetches h.command) fault (cause.ruling refl) }
+told words held fo fn po pn ns nn (BadDex fault) are h = record { command = h.command; spelled = h.spelled; says = let cause = h.cause in dex_says held are (fetches h.command) fault cause.carried (cause.file refl) }
+told words held fo fn po pn ns nn (Limit fault) are h = record { command = h.command; spelled = h.spelled; says = limit_says held are (fetches h.command) fault h.cause }
+told words held fo fn po pn ns nn ReadFault are h = tt
+told words held fo fn po pn ns nn WriteFault are h = tt
+told words held fo fn po pn ns nn NoMemory are h = tt
+told words held fo fn po pn ns nn (BadScript line) are h = record { command = h.command; spelled = h.spelled; says = line_says held (fetches h.command) line h.cause }

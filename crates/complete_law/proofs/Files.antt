@@ -18,7 +18,7 @@ use Rattle.redex_cli.specs.Files.{FileRefused}
 use Rattle.redex_cli.specs.Refusals.{IsDexFault, IsHierarchyFault, IsTypeFault, IsInputFault}
 use Rattle.redex_cli.specs.declared.status.InputFault.{InputFault}
 use Rattle.redex_cli.specs.declared.status.InputFault.TheVariants as input
-use Rattle.redex_cli.specs.declared.status.Status.TheVariants.{BadDex, Limit}
+use Rattle.redex_cli.specs.declared.status.Status.TheVariants.{BadDex}
 use Rattle.refused_code.proofs.Faultless.{only_limits}
 use Rattle.refused_code.proofs.Joined.{fails_program}
 use Rattle.refused_code.specs.Faultless.{IsFaultless, IsLimit}

@@ -1,7 +1,6 @@
 -- What a run that is refused tells stands in what it fetched.
-use Rattle.std.proofs.Common.{◌≡◌, ◌⊎◌, ◌<◌, inl, inr, ℕ, true, List, [], ◌∷◌, Some, Err, Ok, refl}
+use Rattle.std.proofs.Common.{◌≡◌, ◌<◌, inl, inr, ℕ, true, List, [], ◌∷◌, Err, refl}
 use Rattle.std.specs.Prelude.{slice_index}
-use Rattle.dex_defs.specs.Parts as parts
 use Rattle.dex_defs.specs.ClassFaults.{BadGraph, DefinedTwice, OwnAncestor, Split}
 use Rattle.dex_defs.specs.Limits.{IsPast}
 use Rattle.dex_defs.specs.Spells.{Spells}
@@ -27,7 +26,7 @@ use Rattle.redex_outside.specs.Held.{Held}
 use Rattle.refused_code.proofs.Joined as faults
 use Rattle.rule_text.specs.declared.fault.RuleFault.{RuleFault}
 use Rattle.spelled_law.proofs.Whole.{read_is_spelled}
-use Rattle.complete_law.specs.Standing.{AreBytes, GraphStands, Stands, OneFaulty, OneMore, SaysOf, Says, IsTold}
+use Rattle.complete_law.specs.Standing.{AreBytes, GraphStands, Stands, OneFaulty, OneMore, SaysOf, IsTold}
 use Rattle.complete_law.proofs.Files.{of_library}
 
 -- a passed limit of bytes that are read

@@ -25,7 +25,6 @@ use Rattle.redex_cli.specs.declared.status.Status.TheVariants.{BadRules, BadDex,
 use Rattle.redex_outside.specs.Held.{Held}
 use Rattle.refused_law.specs.Just.{IsJust}
 use Rattle.verify.specs.declared.fault.TypeFault.{TypeFault}
-use Rattle.verify.specs.declared.fault.TypeFault.TheVariants as typing
 
 -- what names hold are bytes
 abbrev pub AreBytes : Held → Type 0

@@ -18,8 +18,9 @@ fn cover(places: &mut Vec<u32>, region: &Region, place: u32)
     }
 }
 
-/// The place of the first region that covers each position, the number of regions where none does.
-pub(crate) fn covers_of(alloc: Global, body: &Body) -> Result<Vec<u32>, AllocError>
+/// The place of the first region that covers each position, the number of regions where none does. The only error is want
+/// of memory.
+pub fn covers_of(alloc: Global, body: &Body) -> Result<Vec<u32>, AllocError>
     requires { length body.now.regions < 2 ^ 32 }
     ensures long { IfOk result (λ v. length v.items ≡ length body.now.insns) }
     ensures places { IfOk result (λ v. (n : ℕ) → n < length body.now.insns → slice_index v.items n ≡ covering body.now.regions n) }

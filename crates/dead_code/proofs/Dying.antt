@@ -1,5 +1,5 @@
 -- What is marked dead is dead, and the other way round.
-use Rattle.std.proofs.Common.{◌≡◌, ◌↔◌, ◌⊎◌, inl, inr, ℕ, zero, suc, ◌+◌, ◌<◌, ◌≤◌, if◌then◌else◌, Bool, true, false, not, ◌&&◌, ◌||◌, List, [], ◌∷◌, ◌++◌, length, Option, Some, None, slice_get, slice_index_or, nat_eq, nat_lt, Contains, refl, sym, ap, ◌∙◌, subst, arith, lt-ltb, ltb-true}
+use Rattle.std.proofs.Common.{◌≡◌, ◌↔◌, ◌⊎◌, inl, inr, ℕ, suc, ◌+◌, ◌<◌, if◌then◌else◌, Bool, true, false, not, ◌&&◌, ◌||◌, List, [], ◌∷◌, ◌++◌, length, map, Option, Some, None, option_to_list, slice_get, nat_eq, nat_lt, Contains, refl, sym, ap, ◌∙◌, subst, arith, lt-ltb, ltb-true}
 use Rattle.std.specs.List.{list_any}
 use Rattle.std.proofs.lemmas.Bool.{cases_lt, false≢true, and_parts, and_from, or_cases, or_left, or_right, not-true, not_from_false, false_from_ne_true, eqb-true, eq-eqb}
 use Rattle.std.proofs.lemmas.List.{length_push, get_or_push, get_or_append_left}
@@ -7,16 +7,19 @@ use Rattle.insn_set.specs.declared.form.Insn.{Insn}
 use Rattle.insn_set.specs.declared.form.Insn.TheVariants as insn
 use Rattle.insn_set.specs.Registers.{in_operand, writes_of}
 use Rattle.program_model.specs.declared.body.Body.{Body}
-use Rattle.flow_cfg.specs.Walks.{successors_of}
+use Rattle.std.proofs.lemmas.List.Folds.{list_any-append}
+use Rattle.program_model.specs.declared.body.Handler.{Handler}
+use Rattle.program_model.specs.declared.body.Region.{Region}
+use Rattle.flow_cfg.specs.Walks.{covers, handlers_in, handlers_at, successors_of}
 use Rattle.insn_set.specs.Flow.{throws}
-use Rattle.walk_marks.specs.Walks.{row_of, is_on}
-use Rattle.body_graph.specs.Walks.{insn_at, onward, caught, IsRead, IsReadAfter, IsReadAt, Here, Onward, Caught}
-use Rattle.body_graph.specs.Graph.{covering, node_row}
-use Rattle.body_graph.proofs.Links.{Edge, On, Throws, Handles, edge_of, edge_to, step_insn, step_on, step_caught, caught_of, caught_by}
-use Rattle.body_graph.proofs.Members.{none, first, there, split, get_inside}
+use Rattle.walk_marks.specs.Walks.{is_on}
+use Rattle.body_graph.specs.Walks.{insn_at, onward, caught, IsReadAfter}
+use Rattle.body_graph.specs.Graph.{covering}
+use Rattle.body_graph.proofs.Links.{step_insn, step_on, step_caught, caught_of}
+use Rattle.body_graph.proofs.Members.{none, first, there, split}
 use Rattle.live_regs.specs.Live.{is_live}
 use Rattle.live_regs.specs.declared.table.Live.{Live}
-use Rattle.dead_code.specs.Dead.{is_pure, IsDead, AreDead, written_of, any_of, is_live_in, is_live_behind, unread_by, unread_if, dead_by, dead_at, LiveAs}
+use Rattle.dead_code.specs.Dead.{is_pure, IsDead, AreDead, written_of, is_live_caught, is_live_after, unread_by, unread_if, dead_by, dead_at, LiveAs}
 
 -- ---- what a form writes
 
@@ -68,75 +71,100 @@ any_to p (n ∷ ns) m c h = elim (split n ns m c) [
   | inr d ↦ or_right (p n) (list_any p ns) (any_to p ns m d h)
 ]
 
-in_row : (p : ℕ → Bool) (rows : List (List ℕ)) (n : ℕ) → any_of p (slice_get rows n) ≡ list_any p (row_of rows n)
-in_row p [] n = refl
-in_row p (x ∷ xs) zero = refl
-in_row p (x ∷ xs) (suc n) = in_row p xs n
+-- ---- what a walk goes to
 
-at_position : (t x y : Bool) → t ≡ true → x ≡ true → (if t then x else y) ≡ true
-at_position true x y e h = h
-at_position false x y e h = absurd (false≢true e)
+or_false : (t : Bool) → (t || false) ≡ t
+or_false true = refl
+or_false false = refl
 
-at_region : (t x y : Bool) → t ≡ false → y ≡ true → (if t then x else y) ≡ true
-at_region true x y e h = absurd (false≢true (sym e))
-at_region false x y e h = h
+-- a pure form goes on to the next position
+pure_onward : (quiet : ℕ → Bool) (i : Insn) (n : ℕ) → is_pure quiet i ≡ true → onward i n ≡ (n + 1) ∷ []
+pure_onward quiet insn.Nop n h = refl
+pure_onward quiet (insn.Move slot to from) n h = refl
+pure_onward quiet (insn.MoveResult slot to) n h = refl
+pure_onward quiet (insn.MoveException to) n h = refl
+pure_onward quiet (insn.Const to value) n h = refl
+pure_onward quiet (insn.ConstWide to value) n h = refl
+pure_onward quiet (insn.ConstString to string) n h = refl
+pure_onward quiet (insn.ConstClass to kind) n h = refl
+pure_onward quiet (insn.InstanceOf to from kind) n h = refl
+pure_onward quiet (insn.Cmp op to a b) n h = refl
+pure_onward quiet (insn.StaticGet item to field) n h = refl
+pure_onward quiet (insn.Unary op to from) n h = refl
+pure_onward quiet (insn.Binary op to a b) n h = refl
+pure_onward quiet (insn.Literal op to a value) n h = refl
+pure_onward quiet i n h = absurd (false≢true h)
 
-read_inside : (b : Body) (r n k : ℕ) → IsReadAt b r n k → n < length b.insns
-read_inside b r n k (Here _ i e h) = get_inside b.insns n i e
-read_inside b r n k (Onward _ m _ i e w c h) = get_inside b.insns n i e
-read_inside b r n k (Caught _ m _ i e c h) = get_inside b.insns n i e
+any_map : (p : ℕ → Bool) (hs : List Handler) → list_any (λ h. p h.position) hs ≡ list_any p (map (λ h. h.position) hs)
+any_map p [] = refl
+any_map p (h ∷ hs) = ap (λ (t : Bool). p h.position || t) (any_map p hs)
 
-module _ (b : Body) (rows : List (List ℕ)) (same : (n : ℕ) → row_of rows n ≡ node_row b n) (live : Live) where
-  edge_in : (n m : ℕ) → Contains (row_of rows n) m → Edge b n m
-  edge_in n m c = edge_of b n m (subst (λ (l : List ℕ). Contains l m) (same n) c)
+pub handled_rest : (live : Live) (region : Region) (n r : ℕ) → region.rest ≡ Some n → (list_any (λ h. is_live live h.position r) region.handlers || is_live live n r) ≡ list_any (λ m. is_live live m r) (handlers_in region)
+handled_rest live region n r e =
+    ap (λ (t : Bool). t || is_live live n r) (any_map (λ m. is_live live m r) region.handlers)
+    ∙ ap (λ (t : Bool). list_any (λ m. is_live live m r) (map (λ h. h.position) region.handlers) || t) (sym (or_false (is_live live n r)))
+    ∙ sym (list_any-append (λ m. is_live live m r) (map (λ h. h.position) region.handlers) (n ∷ []))
+    ∙ ap (λ (o : Option ℕ). list_any (λ m. is_live live m r) (map (λ h. h.position) region.handlers ++ option_to_list o)) (sym e)
 
-  in_rows : (n m : ℕ) → Edge b n m → Contains (row_of rows n) m
-  in_rows n m e = subst (λ (l : List ℕ). Contains l m) (sym (same n)) (edge_to b n m e)
+pub handled_alone : (live : Live) (region : Region) (r : ℕ) → region.rest ≡ None → list_any (λ h. is_live live h.position r) region.handlers ≡ list_any (λ m. is_live live m r) (handlers_in region)
+handled_alone live region r e =
+    any_map (λ m. is_live live m r) region.handlers
+    ∙ sym (or_false (list_any (λ m. is_live live m r) (map (λ h. h.position) region.handlers)))
+    ∙ sym (list_any-append (λ m. is_live live m r) (map (λ h. h.position) region.handlers) [])
+    ∙ ap (λ (o : Option ℕ). list_any (λ m. is_live live m r) (map (λ h. h.position) region.handlers ++ option_to_list o)) (sym e)
 
-  handled_from : (n k m h : ℕ) (j : Insn) → insn_at b n ≡ Some j → throws j ≡ true → covering b.regions n ≡ k → m ≡ length b.insns + k → Edge b m h → Contains (successors_of b n) h
-  handled_from n k m h j f t s at (On i e c lt) = absurd (omega (arith, at, get_inside b.insns m i e))
-  handled_from n k m h j f t s at (Throws i q e u s' lt at') = absurd (omega (arith, at, get_inside b.insns m i e))
-  handled_from n k m h j f t s at (Handles q g at' e c lt) =
-      let place : covering b.regions n ≡ q = omega (arith, s, at, at') in
-      step_caught b n h j f (caught_by b n h j g t (ap (slice_get b.regions) place ∙ e) c)
+-- at the handlers of the region that covers a position
+covered : (live : Live) (r : ℕ) (rs : List Region) (n : ℕ) → is_live_caught live r (slice_get rs (covering rs n)) ≡ list_any (λ m. is_live live m r) (handlers_at rs n)
+covered live r [] n = refl
+covered live r (q ∷ rs) n = by (covers n q) (covered live r rs n)
+  where
+    by : (t : Bool) → is_live_caught live r (slice_get rs (covering rs n)) ≡ list_any (λ m. is_live live m r) (handlers_at rs n)
+        → is_live_caught live r (slice_get (q ∷ rs) (if t then 0 else suc (covering rs n))) ≡ list_any (λ m. is_live live m r) (if t then handlers_in q else handlers_at rs n)
+    by true again = refl
+    by false again = again
 
-  live_from : (n r m : ℕ) (i : Insn) → insn_at b n ≡ Some i → Edge b n m → (t : Bool) → nat_lt m (length b.insns) ≡ t → (if t then is_live live m r else any_of (λ (h : ℕ). is_live live h r) (slice_get rows m)) ≡ true → (k : ℕ) × Contains (successors_of b n) k × (is_live live k r ≡ true)
-  live_from n r m i e (On j f c lt) true g l = (m, step_on b n m j f c, l)
-  live_from n r m i e (On j f c lt) false g l = absurd (false≢true (sym g ∙ lt-ltb m (length b.insns) lt))
-  live_from n r m i e (Throws j k f t s lt at) true g l = absurd (omega (arith, at, ltb-true m (length b.insns) g))
-  live_from n r m i e (Throws j k f t s lt at) false g l =
-      let w = any_from (λ (h : ℕ). is_live live h r) (row_of rows m) (sym (in_row (λ (h : ℕ). is_live live h r) rows m) ∙ l) in
-      (w.0, handled_from n k m w.0 j f t s at (edge_in m w.0 w.1), w.2)
-  live_from n r m i e (Handles k g at f c lt) t u l = absurd (omega (arith, at, get_inside b.insns n i e))
+-- ---- where a register is live behind a position
 
-  -- what is live behind a position is live at one to which a walk goes from there
-  behind_from : (n r : ℕ) (i : Insn) → insn_at b n ≡ Some i → is_live_behind live rows (length b.insns) n r ≡ true → (m : ℕ) × Contains (successors_of b n) m × (is_live live m r ≡ true)
-  behind_from n r i e h =
-      let w = any_from (λ (m : ℕ). is_live_in live rows (length b.insns) r m) (row_of rows n) (sym (in_row (λ (m : ℕ). is_live_in live rows (length b.insns) r m) rows n) ∙ h) in
-      live_from n r w.0 i e (edge_in n w.0 w.1) (nat_lt w.0 (length b.insns)) refl w.2
+module _ (b : Body) (live : Live) (n r : ℕ) (i : Insn) (e : insn_at b n ≡ Some i) (goes : onward i n ≡ (n + 1) ∷ []) where
+  after_is : is_live_after live b (covering b.regions n) n i r ≡ (is_live live (n + 1) r || (throws i && list_any (λ m. is_live live m r) (handlers_at b.regions n)))
+  after_is = ap (λ (t : Bool). is_live live (n + 1) r || (throws i && t)) (covered live r b.regions n)
 
-  behind_by : (n r m : ℕ) → Contains (row_of rows n) m → is_live_in live rows (length b.insns) r m ≡ true → is_live_behind live rows (length b.insns) n r ≡ true
-  behind_by n r m c l = in_row (λ (k : ℕ). is_live_in live rows (length b.insns) r k) rows n ∙ any_to (λ (k : ℕ). is_live_in live rows (length b.insns) r k) (row_of rows n) m c l
-
-  region_live : (r m h : ℕ) → length b.insns ≤ m → Contains (row_of rows m) h → is_live live h r ≡ true → is_live_in live rows (length b.insns) r m ≡ true
-  region_live r m h le c l = at_region (nat_lt m (length b.insns)) (is_live live m r) (any_of (λ (k : ℕ). is_live live k r) (slice_get rows m))
-      (false_from_ne_true (nat_lt m (length b.insns)) (λ on. omega (arith, le, ltb-true m (length b.insns) on)))
-      (in_row (λ (k : ℕ). is_live live k r) rows m ∙ any_to (λ (k : ℕ). is_live live k r) (row_of rows m) h c l)
-
-  behind_to : (n r m : ℕ) → Contains (successors_of b n) m → m < length b.insns → is_live live m r ≡ true → is_live_behind live rows (length b.insns) n r ≡ true
-  behind_to n r m c lt l = by step.2
+  after_from : is_live_after live b (covering b.regions n) n i r ≡ true → (m : ℕ) × Contains (successors_of b n) m × (is_live live m r ≡ true)
+  after_from h = elim (or_cases (is_live live (n + 1) r) (throws i && list_any (λ m. is_live live m r) (handlers_at b.regions n)) (sym after_is ∙ h)) [
+    | inl on ↦ (n + 1, step_on b n (n + 1) i e (subst (λ (l : List ℕ). Contains l (n + 1)) (sym goes) (first (n + 1) [])), on)
+    | inr t ↦ (let both = and_parts (throws i) (list_any (λ m. is_live live m r) (handlers_at b.regions n)) t in
+        let w = any_from (λ m. is_live live m r) (handlers_at b.regions n) both.1 in
+        (w.0, step_caught b n w.0 i e (subst (λ (l : List ℕ). Contains l w.0) (sym (thrown both.0)) w.1), w.2))
+  ]
     where
-      step : (i : Insn) × (insn_at b n ≡ Some i) × (Contains (onward i n) m ⊎ Contains (caught b i n) m)
+      thrown : throws i ≡ true → caught b i n ≡ handlers_at b.regions n
+      thrown f = rw f refl
+
+  same_form : (j : Insn) → insn_at b n ≡ Some j → j ≡ i
+  same_form j f = (let s : ◌≡◌ {A = Option Insn} (Some j) (Some i) = sym f ∙ e in cc)
+
+  after_to : (m : ℕ) → Contains (successors_of b n) m → is_live live m r ≡ true → is_live_after live b (covering b.regions n) n i r ≡ true
+  after_to m c l = after_is ∙ by step.2
+    where
+      step : (j : Insn) × (insn_at b n ≡ Some j) × (Contains (onward j n) m ⊎ Contains (caught b j n) m)
       step = step_insn b n m c
 
-      by : Contains (onward step.0 n) m ⊎ Contains (caught b step.0 n) m → is_live_behind live rows (length b.insns) n r ≡ true
-      by (inl o) = behind_by n r m (in_rows n m (On step.0 step.1 o lt)) (at_position (nat_lt m (length b.insns)) (is_live live m r) (any_of (λ (k : ℕ). is_live live k r) (slice_get rows m)) (lt-ltb m (length b.insns) lt) l)
+      by : Contains (onward step.0 n) m ⊎ Contains (caught b step.0 n) m → (is_live live (n + 1) r || (throws i && list_any (λ k. is_live live k r) (handlers_at b.regions n))) ≡ true
+      by (inl o) =
+          let next : Contains ((n + 1) ∷ []) m = subst (λ (x : List ℕ). Contains x m) goes (subst (λ (j : Insn). Contains (onward j n) m) (same_form step.0 step.1) o) in
+          or_left (is_live live (n + 1) r) (throws i && list_any (λ k. is_live live k r) (handlers_at b.regions n)) (elim (split (n + 1) [] m next) [
+            | inl s ↦ subst (λ (k : ℕ). is_live live k r ≡ true) (sym s) l
+            | inr d ↦ absurd (none m d)
+          ])
       by (inr d) =
-          let w = caught_of b n m step.0 d in
-          let place = covering b.regions n in
-          let node = length b.insns + place in
-          behind_by n r node (in_rows n node (Throws step.0 place step.1 w.0 refl (get_inside b.regions place w.1.0 w.1.1) refl))
-          (region_live r node m (omega arith) (in_rows node m (Handles place w.1.0 refl w.1.1 w.1.2 lt)) l)
+          let d' : Contains (caught b i n) m = subst (λ (j : Insn). Contains (caught b j n) m) (same_form step.0 step.1) d in
+          let w = caught_of b n m i d' in
+          or_right (is_live live (n + 1) r) (throws i && list_any (λ k. is_live live k r) (handlers_at b.regions n))
+          (and_from (throws i) (list_any (λ k. is_live live k r) (handlers_at b.regions n)) w.0
+          (any_to (λ k. is_live live k r) (handlers_at b.regions n) m (subst (λ (x : List ℕ). Contains x m) (thrown w.0) d') l))
+        where
+          thrown : throws i ≡ true → caught b i n ≡ handlers_at b.regions n
+          thrown f = rw f refl
 
 -- ---- what is unread
 
@@ -173,22 +201,22 @@ unread_to behind registers to true h =
 
 -- ---- dead positions
 
-module _ (quiet : ℕ → Bool) (b : Body) (live : Live) (as' : LiveAs b live) (rows : List (List ℕ)) (same : (n : ℕ) → row_of rows n ≡ node_row b n) (n : ℕ) where
+module _ (quiet : ℕ → Bool) (b : Body) (live : Live) (as' : LiveAs b live) (n : ℕ) (i : Insn) (e : insn_at b n ≡ Some i) (p : is_pure quiet i ≡ true) where
   abbrev behind : ℕ → Bool
-  behind = is_live_behind live rows (length b.insns) n
+  behind = is_live_after live b (covering b.regions n) n i
 
   -- what is live behind is read behind
   not_read : (r : ℕ) → Unread behind b.registers r → IsReadAfter b r n → ⊥
-  not_read r u w = false≢true (sym u.dead ∙ behind_to b rows same live n r w.0 w.1 (read_inside b r w.0 w.2.0 w.2.1) ((as' w.0 r u.inside).1 w.2))
+  not_read r u w = false≢true (sym u.dead ∙ after_to b live n r i e (pure_onward quiet i n p) w.0 w.1 ((as' w.0 r u.inside).1 w.2))
 
-  is_unread : (r : ℕ) (i : Insn) → insn_at b n ≡ Some i → r < b.registers → (IsReadAfter b r n → ⊥) → Unread behind b.registers r
-  is_unread r i e lt h = record {
+  is_unread : (r : ℕ) → r < b.registers → (IsReadAfter b r n → ⊥) → Unread behind b.registers r
+  is_unread r lt h = record {
     inside = lt;
-    dead = false_from_ne_true (behind r) (λ on. let w = behind_from b rows same live n r i e on in h (w.0, w.1, (as' w.0 r lt).0 w.2));
+    dead = false_from_ne_true (behind r) (λ on. let w = after_from b live n r i e (pure_onward quiet i n p) on in h (w.0, w.1, (as' w.0 r lt).0 w.2));
   }
 
-  dead_from : (i : Insn) → insn_at b n ≡ Some i → is_pure quiet i ≡ true → dead_by behind b.registers i ≡ true → IsDead quiet b n
-  dead_from i e p h = by_write (written_of i) refl h
+  dead_from : dead_by behind b.registers i ≡ true → IsDead quiet b n
+  dead_from h = by_write (written_of i) refl h
     where
       by_write : (o : Option (ℕ × Bool)) → written_of i ≡ o → unread_if behind b.registers o ≡ true → IsDead quiet b n
       by_write None f g = absurd (false≢true g)
@@ -205,54 +233,55 @@ module _ (quiet : ℕ → Bool) (b : Body) (live : Live) (as' : LiveAs b live) (
           written : (r : ℕ) → writes_of i r ≡ true → in_operand w.1 w.0 r ≡ true
           written r x = sym (writes_is i r ∙ ap (λ (o : Option (ℕ × Bool)). writes_by o r) f) ∙ x
 
-  dead_to : (i : Insn) → insn_at b n ≡ Some i → (d : IsDead quiet b n) → (is_pure quiet i && dead_by behind b.registers i) ≡ true
-  dead_to i e d = and_from (is_pure quiet i) (dead_by behind b.registers i) (ap (is_pure quiet) form_is ∙ d.pure) (by_write (written_of i) refl)
+  dead_to : (d : IsDead quiet b n) → i ≡ d.form → dead_by behind b.registers i ≡ true
+  dead_to d form_is = by_write (written_of i) refl
     where
-      form_is : i ≡ d.form
-      form_is = let s : ◌≡◌ {A = Option Insn} (Some i) (Some d.form) = sym e ∙ d.has_form in cc
-
       by_write : (o : Option (ℕ × Bool)) → written_of i ≡ o → unread_if behind b.registers o ≡ true
       by_write None f = absurd (false≢true (sym (writes_is i d.register ∙ ap (λ (o : Option (ℕ × Bool)). writes_by o d.register) f) ∙ (ap (λ (j : Insn). writes_of j d.register) form_is ∙ d.writes_it)))
       by_write (Some w) f = unread_to behind b.registers w.0 w.1 (λ r at.
           let x : writes_of d.form r ≡ true = ap (λ (j : Insn). writes_of j r) (sym form_is) ∙ (writes_is i r ∙ ap (λ (o : Option (ℕ × Bool)). writes_by o r) f ∙ at) in
-          is_unread r i e (d.inside r x) (d.unread r x))
+          is_unread r (d.inside r x) (d.unread r x))
 
-  pub dead_is : (dead_at quiet live rows b n (insn_at b n) ≡ true) ↔ IsDead quiet b n
-  dead_is = by_form (insn_at b n) refl
-    where
-      by_form : (o : Option Insn) → insn_at b n ≡ o → (dead_at quiet live rows b n o ≡ true) ↔ IsDead quiet b n
-      by_form None e = ((λ h. absurd (false≢true h)), (λ d. let s : ◌≡◌ {A = Option Insn} None (Some d.form) = sym e ∙ d.has_form in absurd (cc)))
-      by_form (Some i) e = (
-        (λ h. let both = and_parts (is_pure quiet i) (dead_by behind b.registers i) h in dead_from i e both.0 both.1),
-        (λ d. dead_to i e d),
-      )
+pub dead_is : (quiet : ℕ → Bool) (b : Body) (live : Live) → LiveAs b live → (n : ℕ) → (dead_at quiet live b (covering b.regions n) n (insn_at b n) ≡ true) ↔ IsDead quiet b n
+dead_is quiet b live as' n = by_form (insn_at b n) refl
+  where
+    by_form : (o : Option Insn) → insn_at b n ≡ o → (dead_at quiet live b (covering b.regions n) n o ≡ true) ↔ IsDead quiet b n
+    by_form None e = ((λ h. absurd (false≢true h)), (λ d. let s : ◌≡◌ {A = Option Insn} None (Some d.form) = sym e ∙ d.has_form in absurd (cc)))
+    by_form (Some i) e = (
+      (λ h. let both = and_parts (is_pure quiet i) (dead_by (is_live_after live b (covering b.regions n) n i) b.registers i) h in dead_from quiet b live as' n i e both.0 both.1),
+      (λ d.
+          let same : i ≡ d.form = (let s : ◌≡◌ {A = Option Insn} (Some i) (Some d.form) = sym e ∙ d.has_form in cc) in
+          let p : is_pure quiet i ≡ true = ap (is_pure quiet) same ∙ d.pure in
+          and_from (is_pure quiet i) (dead_by (is_live_after live b (covering b.regions n) n i) b.registers i) p (dead_to quiet b live as' n i e p d same)),
+    )
 
 -- ---- all positions
 
-pub record DeadUpto (quiet : ℕ → Bool) (b : Body) (live : Live) (rows : List (List ℕ)) (upto : ℕ) (marks : List Bool) : Type 0 where
+pub record DeadUpto (quiet : ℕ → Bool) (b : Body) (live : Live) (upto : ℕ) (marks : List Bool) : Type 0 where
   pub long : length marks ≡ upto
-  pub each : (n : ℕ) → n < upto → is_on marks n ≡ dead_at quiet live rows b n (slice_get b.insns n)
+  pub each : (n : ℕ) → n < upto → is_on marks n ≡ dead_at quiet live b (covering b.regions n) n (slice_get b.insns n)
 
-pub upto_none : (quiet : ℕ → Bool) (b : Body) (live : Live) (rows : List (List ℕ)) (marks : List Bool) → marks ≡ [] → DeadUpto quiet b live rows 0 marks
-upto_none quiet b live rows marks e = record { long = ap length e; each = λ n lt. absurd (omega (arith, lt)) }
+pub upto_none : (quiet : ℕ → Bool) (b : Body) (live : Live) (marks : List Bool) → marks ≡ [] → DeadUpto quiet b live 0 marks
+upto_none quiet b live marks e = record { long = ap length e; each = λ n lt. absurd (omega (arith, lt)) }
 
-pub upto_more : (quiet : ℕ → Bool) (b : Body) (live : Live) (rows : List (List ℕ)) (upto : ℕ) (marks marks' : List Bool) (m : Bool) → DeadUpto quiet b live rows upto marks → m ≡ dead_at quiet live rows b upto (slice_get b.insns upto) → marks' ≡ marks ++ m ∷ [] → DeadUpto quiet b live rows (upto + 1) marks'
-upto_more quiet b live rows upto marks marks' m s e f = record {
+pub upto_more : (quiet : ℕ → Bool) (b : Body) (live : Live) (upto k : ℕ) (marks marks' : List Bool) (m : Bool) → DeadUpto quiet b live upto marks → k ≡ covering b.regions upto → m ≡ dead_at quiet live b k upto (slice_get b.insns upto) → marks' ≡ marks ++ m ∷ [] → DeadUpto quiet b live (upto + 1) marks'
+upto_more quiet b live upto k marks marks' m s place e f = record {
   long = ap length f ∙ length_push marks m ∙ ap (λ (n : ℕ). n + 1) s.long;
   each = λ n lt. ap (λ (l : List Bool). is_on l n) f ∙ elim (cases_lt n upto) [
     | inl less ↦ get_or_append_left marks (m ∷ []) false n (omega (arith, less, s.long)) ∙ s.each n less
     | inr past ↦ (let here : upto ≡ n = omega (arith, past, lt) in
-        subst (λ (k : ℕ). is_on (marks ++ m ∷ []) k ≡ dead_at quiet live rows b k (slice_get b.insns k)) here (get_or_push marks m false upto s.long ∙ e))
+        subst (λ (j : ℕ). is_on (marks ++ m ∷ []) j ≡ dead_at quiet live b (covering b.regions j) j (slice_get b.insns j)) here
+        (get_or_push marks m false upto s.long ∙ e ∙ ap (λ (j : ℕ). dead_at quiet live b j upto (slice_get b.insns upto)) place))
   ];
 }
 
-pub upto_all : (quiet : ℕ → Bool) (b : Body) (live : Live) (rows : List (List ℕ)) (upto : ℕ) (marks : List Bool) → LiveAs b live → ((n : ℕ) → row_of rows n ≡ node_row b n) → upto ≡ length b.insns → DeadUpto quiet b live rows upto marks → AreDead quiet b marks
-upto_all quiet b live rows upto marks as' graph all s = record {
+pub upto_all : (quiet : ℕ → Bool) (b : Body) (live : Live) (upto : ℕ) (marks : List Bool) → LiveAs b live → upto ≡ length b.insns → DeadUpto quiet b live upto marks → AreDead quiet b marks
+upto_all quiet b live upto marks as' all s = record {
   live = live;
   live_is = as';
   long = s.long ∙ all;
   each = λ n lt.
       (let same = s.each n (omega (arith, lt, all)) in
-      let d = dead_is quiet b live as' rows graph n in
+      let d = dead_is quiet b live as' n in
       ((λ on. d.0 (sym same ∙ on)), (λ x. same ∙ d.1 x)));
 }

@@ -1,20 +1,22 @@
 -- Which positions of a body compute what nobody reads, by number (Dalvik bytecode, "Summary of bytecode set"; this
 -- project's profile).
-use Rattle.std.specs.Prelude.{◌≡◌, ◌↔◌, ℕ, suc, ◌+◌, ◌<◌, Bool, true, false, ◌&&◌, ◌||◌, not, nat_eq, nat_lt, List, length, Option, Some, None, slice_get, slice_index_or, if◌then◌else◌}
+use Rattle.std.specs.Prelude.{◌≡◌, ◌↔◌, ℕ, ◌+◌, ◌<◌, Bool, true, false, ◌&&◌, ◌||◌, not, nat_eq, nat_lt, List, length, Option, Some, None, slice_get, slice_index_or}
 use Rattle.std.specs.List.{list_any}
 use Rattle.std.specs.Int.{w32, cast_unsigned}
-use Rattle.insn_set.specs.Flow.{divides, divides_by_literal}
+use Rattle.insn_set.specs.Flow.{throws, divides, divides_by_literal}
 use Rattle.insn_set.specs.Widths.{is_wide_slot, is_wide_item, unary_writes_wide, binary_is_wide}
 use Rattle.insn_set.specs.Registers.{writes_of}
 use Rattle.insn_set.specs.declared.form.Insn.{Insn}
 use Rattle.insn_set.specs.declared.form.Insn.TheVariants as insn
 use Rattle.program_model.specs.declared.body.Body.{Body}
+use Rattle.program_model.specs.declared.body.Region.{Region}
 use Rattle.program_model.specs.declared.program.Program.{Program}
 use Rattle.class_defs.specs.Finding.{resolves_field}
 use Rattle.class_defs.specs.Starts.{is_trivial}
 use Rattle.hierarchy.specs.Tables.{answer}
 use Rattle.hierarchy.specs.declared.build.Hierarchy.{Hierarchy}
 use Rattle.walk_marks.specs.Walks.{is_on}
+use Rattle.flow_cfg.specs.Walks.{handlers_in}
 use Rattle.body_graph.specs.Walks.{insn_at, IsRead, IsReadAfter}
 use Rattle.live_regs.specs.Live.{is_live}
 use Rattle.live_regs.specs.declared.table.Live.{Live}
@@ -104,18 +106,15 @@ written_of (insn.Binary op to a b) = Some (to, binary_is_wide op)
 written_of (insn.Literal op to a value) = Some (to, false)
 written_of i = None
 
--- the register is live at one of the positions where there are some
-abbrev pub any_of : (ℕ → Bool) → Option (List ℕ) → Bool
-any_of p None = false
-any_of p (Some ns) = list_any p ns
+-- the register is live at a handler of a region, where there is one
+abbrev pub is_live_caught : Live → ℕ → Option Region → Bool
+is_live_caught live r None = false
+is_live_caught live r (Some s) = list_any (λ n. is_live live n r) (handlers_in s)
 
--- the register is live at a position, or at a handler of a region
-abbrev pub is_live_in : Live → List (List ℕ) → ℕ → ℕ → ℕ → Bool
-is_live_in live rows count r n = if nat_lt n count then is_live live n r else any_of (λ h. is_live live h r) (slice_get rows n)
-
--- the register is live at a position to which a walk goes from the position, by the graph of the body
-abbrev pub is_live_behind : Live → List (List ℕ) → ℕ → ℕ → ℕ → Bool
-is_live_behind live rows count n r = any_of (λ m. is_live_in live rows count r m) (slice_get rows n)
+-- The register is live where a pure form goes: at the next position, or at a handler of the region at a place where the form
+-- may throw.
+abbrev pub is_live_after : Live → Body → ℕ → ℕ → Insn → ℕ → Bool
+is_live_after live b k n i r = is_live live (n + 1) r || (throws i && is_live_caught live r (slice_get b.regions k))
 
 abbrev pub unread_by : (ℕ → Bool) → ℕ → ℕ → Bool → Bool
 unread_by behind registers to false = nat_lt to registers && not (behind to)
@@ -128,6 +127,6 @@ unread_if behind registers (Some w) = unread_by behind registers w.0 w.1
 abbrev pub dead_by : (ℕ → Bool) → ℕ → Insn → Bool
 dead_by behind registers i = unread_if behind registers (written_of i)
 
-abbrev pub dead_at : (ℕ → Bool) → Live → List (List ℕ) → Body → ℕ → Option Insn → Bool
-dead_at quiet live rows b n None = false
-dead_at quiet live rows b n (Some i) = is_pure quiet i && dead_by (is_live_behind live rows (length b.insns) n) b.registers i
+abbrev pub dead_at : (ℕ → Bool) → Live → Body → ℕ → ℕ → Option Insn → Bool
+dead_at quiet live b k n None = false
+dead_at quiet live b k n (Some i) = is_pure quiet i && dead_by (is_live_after live b k n i) b.registers i

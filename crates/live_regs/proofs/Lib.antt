@@ -1,2 +1,4 @@
+pub mod Masks
 mod Operands
 mod Seen
+mod Sweeping

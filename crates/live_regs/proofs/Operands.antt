@@ -1,5 +1,5 @@
 -- The registers that forms read, and the positions that read them.
-use Rattle.std.proofs.Common.{◌≡◌, ◌↔◌, ◌⊎◌, inl, inr, ℕ, zero, suc, ◌+◌, ◌<◌, Bool, true, false, ◌||◌, List, [], ◌∷◌, ◌++◌, length, Option, Some, None, slice_get, nat_eq, Contains, refl, sym, ap, ◌∙◌, subst, arith}
+use Rattle.std.proofs.Common.{◌≡◌, ◌↔◌, inl, inr, ℕ, ◌+◌, ◌<◌, Bool, true, false, ◌||◌, List, [], ◌∷◌, ◌++◌, length, Option, Some, None, slice_get, nat_eq, Contains, sym, ap, ◌∙◌, subst, arith}
 use Rattle.std.specs.List.{list_any}
 use Rattle.std.proofs.lemmas.Bool.{false≢true, or_cases, or_left, or_right, cases_lt, eqb-true, eq-eqb}
 use Rattle.std.proofs.lemmas.List.{append-nil, get_or_past}
@@ -12,7 +12,7 @@ use Rattle.program_model.specs.declared.body.Body.{Body}
 use Rattle.walk_marks.specs.Walks.{AreTurned, row_of}
 use Rattle.body_graph.specs.Walks.{insn_at}
 use Rattle.body_graph.proofs.Members.{none, first, there, split, get_past}
-use Rattle.live_regs.specs.Liveness.{operand, single_list, several_list, read_list, read_list_at, reads_at, ReadIt, AreReaders}
+use Rattle.live_regs.specs.Liveness.{operand, read_list, read_list_at, reads_at, AreReaders}
 
 -- a test tells which lists have the register
 abbrev Tells : ℕ → List ℕ → Bool → Type 0

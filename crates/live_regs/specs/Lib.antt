@@ -1,2 +1,4 @@
 pub mod Live
 pub mod Liveness
+pub mod Sweeps
+pub mod Words

@@ -1,11 +1,11 @@
 -- Which registers are live, and what is looked at to know it.
-use Rattle.std.specs.Prelude.{◌≡◌, ◌↔◌, ℕ, ◌+◌, ◌<◌, Bool, true, false, not, ◌&&◌, nat_lt, List, [], ◌∷◌, ◌++◌, length, Option, Some, None, slice_get, slice_index_or, Contains}
+use Rattle.std.specs.Prelude.{◌≡◌, ◌↔◌, ℕ, ◌+◌, ◌<◌, Bool, true, false, not, ◌&&◌, nat_lt, List, [], ◌∷◌, ◌++◌, length, Option, Some, None, Contains}
 use Rattle.insn_set.specs.Widths.{is_wide_slot, is_wide_item, compares_wide, unary_reads_wide, binary_is_wide, second_is_wide}
 use Rattle.insn_set.specs.declared.form.Insn.{Insn}
 use Rattle.insn_set.specs.declared.form.Insn.TheVariants as insn
 use Rattle.insn_set.specs.Registers.{reads_of, writes_of}
 use Rattle.program_model.specs.declared.body.Body.{Body}
-use Rattle.walk_marks.specs.Walks.{AreTurned, row_of, is_on}
+use Rattle.walk_marks.specs.Walks.{row_of, is_on}
 use Rattle.body_graph.specs.Walks.{insn_at, IsRead}
 use Rattle.body_graph.specs.Graph.{node_row}
 

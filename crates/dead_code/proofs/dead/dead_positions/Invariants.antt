@@ -3,4 +3,4 @@ use Rattle.dead_code.proofs.Dying.{DeadUpto}
 use Rattle.dead_code.proofs.dead.dead_positions.Given as goal
 
 abbrev pub invariant-loop-position : goal.invariant-loop-position
-invariant-loop-position l = DeadUpto (is_on l.quiet) l.body l.live l.rows.items l.position l.dead.items
+invariant-loop-position l = DeadUpto (is_on l.quiet) l.body l.live l.position l.dead.items

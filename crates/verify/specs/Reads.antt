@@ -152,3 +152,26 @@ refused s n a (insn.Unary op to from) = unless (is_number_or_pair (unary_reads_w
 refused s n a (insn.InstanceGet i to on field) = unless (fits_holder s.tables.now (kind_at a.registers on) (field_class s.program.now field)) on
 refused s n a (insn.StaticPut i from field) = unless (is_of_type s a.registers from (field_kind s.program.now field)) from
 refused s n a i = refused_several s n a.registers i
+
+-- ---- the same by groups of forms, each of which hands all other forms on
+
+-- forms that name a member or a type beside several registers
+abbrev pub refused_named : Setting → ℕ → List Kind → Insn → Option ℕ
+refused_named s n ks (insn.InstancePut i from on field) = lower (unless (is_of_type s ks from (field_kind s.program.now field)) from) (unless (is_holder s (kind_at ks on) field) on)
+refused_named s n ks (insn.FilledNewArray type args) = refused_items s ks type args
+refused_named s n ks (insn.Invoke k method args) = refused_call s n ks k method args
+refused_named s n ks i = None
+
+-- forms with one operand, but for those on objects
+abbrev pub refused_single : Setting → ℕ → List Kind → Insn → Option ℕ
+refused_single s n ks (insn.ArrayLength to from) = unless (is_any_array (kind_at ks from)) from
+refused_single s n ks (insn.NewArray to size type) = unless (is_number (kind_at ks size)) size
+refused_single s n ks (insn.FillArray on width items) = unless (is_array_filled s (kind_at ks on) width) on
+refused_single s n ks (insn.PackedSwitch on first targets) = unless (is_number (kind_at ks on)) on
+refused_single s n ks (insn.SparseSwitch on keys targets) = unless (is_number (kind_at ks on)) on
+refused_single s n ks (insn.IfZero t x target) = unless (is_tested t (kind_at ks x)) x
+refused_single s n ks (insn.Literal op to x value) = unless (is_number (kind_at ks x)) x
+refused_single s n ks (insn.Unary op to from) = unless (is_number_or_pair (unary_reads_wide op) ks from) from
+refused_single s n ks (insn.InstanceGet i to on field) = unless (fits_holder s.tables.now (kind_at ks on) (field_class s.program.now field)) on
+refused_single s n ks (insn.StaticPut i from field) = unless (is_of_type s ks from (field_kind s.program.now field)) from
+refused_single s n ks i = refused_several s n ks i

@@ -48,7 +48,8 @@ fn classes_above(
 /// Chains of which only the classes above are known.
 fn bare(alloc: Global, supers: Vec<Option<u32>>) -> Result<Chains, AllocError>
     ensures supers { IfOk result (λ c. c.supers.items ≡ supers.items) }
-    ensures settled { (n : ℕ) (r : ℕ → ℕ) → length supers.items ≡ n → ((k p : ℕ) → slice_index_or supers.items k None ≡ Some p → r p < r k) → ((k : ℕ) → k < n → r k < n) → IfOk result (IsSettled n r) }
+    ensures settled { (n : ℕ) (r : ℕ → ℕ) → length supers.items ≡ n → ((k p : ℕ) → slice_index_or supers.items k None ≡ Some p → r p < r k) → ((k : ℕ) → k < n → r k < n)
+        → IfOk result (IsSettled n r) }
 {
     let count = supers.len();
     let depths = vec![in alloc; 0u32; count]?;

@@ -106,7 +106,8 @@ fn placed(given: Given) -> Option<MethodAt>
 impl Calls<'_> {
     /// The first method of the name and proto along the superclasses of the calling class.
     fn find_above(&self, class: u32, method: u32) -> Option<MethodAt>
-        ensures { (q : MethodName) → IsOf self.now.program.now self.now.hierarchy.now → slice_get self.now.program.now.methods method ≡ Some q → result ≡ finds_from self.now.program.now q.name q.proto (super_place self.now.program.now class) }
+        ensures { (q : MethodName) → IsOf self.now.program.now self.now.hierarchy.now → slice_get self.now.program.now.methods method ≡ Some q
+            → result ≡ finds_from self.now.program.now q.name q.proto (super_place self.now.program.now class) }
     {
         match self.hierarchy.super_of(class) {
             Some(above) => self
@@ -126,7 +127,8 @@ impl Calls<'_> {
     ) -> Result<Option<MethodAt>, AllocError>
         ensures fair { OnOk result (IsFair walk.old → IsFair walk.new) }
         ensures size { OnOk result (length walk.new.seen.items ≡ length walk.old.seen.items) }
-        ensures is { (q : MethodName) → IsOf self.now.program.now self.now.hierarchy.now → slice_get self.now.program.now.methods method ≡ Some q → IsFair walk.old → length walk.old.seen.items ≡ length self.now.program.now.classes → IfOk result (λ found. found ≡ place_found (finds_among self.now.program.now (interface ∷ []) q.name q.proto)) }
+        ensures is { (q : MethodName) → IsOf self.now.program.now self.now.hierarchy.now → slice_get self.now.program.now.methods method ≡ Some q → IsFair walk.old
+            → length walk.old.seen.items ≡ length self.now.program.now.classes → IfOk result (λ found. found ≡ place_found (finds_among self.now.program.now (interface ∷ []) q.name q.proto)) }
     {
         let key = self.hierarchy.key_of_method(method);
         found.clear();
@@ -157,7 +159,8 @@ impl Calls<'_> {
     ) -> Result<Option<MethodAt>, AllocError>
         ensures fair { OnOk result (IsFair walk.old → IsFair walk.new) }
         ensures size { OnOk result (length walk.new.seen.items ≡ length walk.old.seen.items) }
-        ensures is { (q : MethodName) → IsOf self.now.program.now self.now.hierarchy.now → slice_get self.now.program.now.methods method ≡ Some q → IsFair walk.old → length walk.old.seen.items ≡ length self.now.program.now.classes → IfOk result (λ found. found ≡ place_found (finds_super_037 self.now.program.now class q (Some named))) }
+        ensures is { (q : MethodName) → IsOf self.now.program.now self.now.hierarchy.now → slice_get self.now.program.now.methods method ≡ Some q → IsFair walk.old
+            → length walk.old.seen.items ≡ length self.now.program.now.classes → IfOk result (λ found. found ≡ place_found (finds_super_037 self.now.program.now class q (Some named))) }
     {
         if is_interface(self.program, named) {
             let found = self.find_among(found, walk, named, method)?;
@@ -177,7 +180,8 @@ impl Calls<'_> {
     ) -> Result<Option<MethodAt>, AllocError>
         ensures fair { OnOk result (IsFair walk.old → IsFair walk.new) }
         ensures size { OnOk result (length walk.new.seen.items ≡ length walk.old.seen.items) }
-        ensures is { (q : MethodName) → IsOf self.now.program.now self.now.hierarchy.now → slice_get self.now.program.now.methods method ≡ Some q → q.class ≡ kind → IsFair walk.old → length walk.old.seen.items ≡ length self.now.program.now.classes → IfOk result (λ found. found ≡ place_found (finds_super_037 self.now.program.now class q None)) }
+        ensures is { (q : MethodName) → IsOf self.now.program.now self.now.hierarchy.now → slice_get self.now.program.now.methods method ≡ Some q → q.class ≡ kind → IsFair walk.old
+            → length walk.old.seen.items ≡ length self.now.program.now.classes → IfOk result (λ found. found ≡ place_found (finds_super_037 self.now.program.now class q None)) }
     {
         if lists_above(self.program, self.hierarchy, class, kind, walk)? {
             Ok(None)
@@ -197,7 +201,9 @@ impl Calls<'_> {
     ) -> Result<Option<MethodAt>, AllocError>
         ensures fair { OnOk result (IsFair walk.old → IsFair walk.new) }
         ensures size { OnOk result (length walk.new.seen.items ≡ length walk.old.seen.items) }
-        ensures is { (q : MethodName) → IsOf self.now.program.now self.now.hierarchy.now → slice_get self.now.program.now.methods method ≡ Some q → q.class ≡ kind → IsFair walk.old → length walk.old.seen.items ≡ length self.now.program.now.classes → IfOk result (λ found. found ≡ place_found (finds_super_037 self.now.program.now class q (class_place self.now.program.now q.class))) }
+        ensures is { (q : MethodName) → IsOf self.now.program.now self.now.hierarchy.now → slice_get self.now.program.now.methods method ≡ Some q → q.class ≡ kind → IsFair walk.old
+            → length walk.old.seen.items ≡ length self.now.program.now.classes
+            → IfOk result (λ found. found ≡ place_found (finds_super_037 self.now.program.now class q (class_place self.now.program.now q.class))) }
     {
         match self.hierarchy.place_of(kind) {
             Some(named) => {
@@ -218,7 +224,8 @@ impl Calls<'_> {
         kind: u32,
     ) -> Result<Option<MethodAt>, AllocError>
         ensures serves { Serves self.now.hierarchy.now scratch.old.walk → OnOk result (Serves self.now.hierarchy.now scratch.new.walk) }
-        ensures is { (q : MethodName) → IsOf self.now.program.now self.now.hierarchy.now → slice_get self.now.program.now.methods method ≡ Some q → q.class ≡ kind → Serves self.now.hierarchy.now scratch.old.walk → IfOk result (λ found. found ≡ place_found (finds_super_037 self.now.program.now class q (class_place self.now.program.now q.class))) }
+        ensures is { (q : MethodName) → IsOf self.now.program.now self.now.hierarchy.now → slice_get self.now.program.now.methods method ≡ Some q → q.class ≡ kind
+            → Serves self.now.hierarchy.now scratch.old.walk → IfOk result (λ found. found ≡ place_found (finds_super_037 self.now.program.now class q (class_place self.now.program.now q.class))) }
     {
         let mut walk = self.walk_of(alloc, scratch.walk.take())?;
         let found = self.find_in_037(&mut scratch.found, &mut walk, class, method, kind)?;
@@ -235,7 +242,8 @@ impl Calls<'_> {
         method: u32,
     ) -> Result<Option<MethodAt>, AllocError>
         ensures serves { Serves self.now.hierarchy.now scratch.old.walk → OnOk result (Serves self.now.hierarchy.now scratch.new.walk) }
-        ensures is { IsOf self.now.program.now self.now.hierarchy.now → Serves self.now.hierarchy.now scratch.old.walk → IfOk result (λ found. found ≡ place_found (finds_super self.now.program.now class method)) }
+        ensures is { IsOf self.now.program.now self.now.hierarchy.now → Serves self.now.hierarchy.now scratch.old.walk
+            → IfOk result (λ found. found ≡ place_found (finds_super self.now.program.now class method)) }
     {
         let kind = match self.program.methods.as_slice().get(method as usize) {
             Some(name) => name.class,
@@ -261,7 +269,8 @@ impl Calls<'_> {
         method: u32,
     ) -> Result<Search, AllocError>
         ensures serves { Serves self.now.hierarchy.now scratch.old.walk → OnOk result (Serves self.now.hierarchy.now scratch.new.walk) }
-        ensures is { IsOf self.now.program.now self.now.hierarchy.now → Serves self.now.hierarchy.now scratch.old.walk → IfOk result (λ found. found ≡ called_by_kind self.now.program.now class kind method) }
+        ensures is { IsOf self.now.program.now self.now.hierarchy.now → Serves self.now.hierarchy.now scratch.old.walk
+            → IfOk result (λ found. found ≡ called_by_kind self.now.program.now class kind method) }
     {
         match kind {
             InvokeKind::Super => {
@@ -281,7 +290,8 @@ impl Calls<'_> {
         insn: &Insn,
     ) -> Result<Search, AllocError>
         ensures serves { Serves self.now.hierarchy.now scratch.old.walk → OnOk result (Serves self.now.hierarchy.now scratch.new.walk) }
-        ensures is { IsOf self.now.program.now self.now.hierarchy.now → Serves self.now.hierarchy.now scratch.old.walk → IfOk result (λ found. found ≡ super_search self.now.program.now class insn.now) }
+        ensures is { IsOf self.now.program.now self.now.hierarchy.now → Serves self.now.hierarchy.now scratch.old.walk
+            → IfOk result (λ found. found ≡ super_search self.now.program.now class insn.now) }
     {
         match insn {
             Insn::Invoke { kind, method, .. } => {

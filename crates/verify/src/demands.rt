@@ -2,7 +2,7 @@
 
 ghost use Rattle.std.specs.Prelude.{◌≡◌, drop};
 ghost use Rattle.verify.specs.Frames.{kinds_of};
-ghost use Rattle.verify.specs.Reads.{refused_word, refused_wide, refused_argument, behind, refused_arguments, fits_search, is_receiver, refused_received, refused_call, refused_items, refused_array, refused_several, refused};
+ghost use Rattle.verify.specs.Reads.{refused_word, refused_wide, refused_argument, behind, refused_arguments, fits_search, is_receiver, refused_received, refused_call, refused_items, refused_array, refused_named, refused_several, refused_single, refused};
 
 use crate::calls::Search;
 use crate::frames::Frame;
@@ -184,7 +184,34 @@ impl Setting<'_> {
         )
     }
 
-    /// The lowest register whose read isn't allowed, of the forms with several operands or a member.
+    /// The lowest register whose read isn't allowed, of a put of a field, a filled array and a call.
+    fn refused_named(&self, position: u32, frame: &Frame, insn: &Insn) -> Option<u32>
+        ensures { result ≡ refused_named self.now position (kinds_of frame.now).registers insn.now }
+    {
+        match insn {
+            Insn::InstancePut {
+                from,
+                on,
+                field,
+                ..
+            } => lower(
+                unless(
+                    self.is_of_type(frame, *from, self.field_kind(*field)),
+                    *from,
+                ),
+                unless(self.is_holder(frame.of(*on), *field), *on),
+            ),
+            Insn::FilledNewArray { kind, args } => {
+                self.refused_items(frame, *kind, args.as_slice())
+            }
+            Insn::Invoke { kind, method, args } => {
+                self.refused_call(position, frame, *kind, *method, args.as_slice())
+            }
+            _ => None,
+        }
+    }
+
+    /// The lowest register whose read isn't allowed, of the forms with several operands, or that name a member or a type.
     fn refused_several(&self, position: u32, frame: &Frame, insn: &Insn) -> Option<u32>
         ensures { result ≡ refused_several self.now position (kinds_of frame.now).registers insn.now }
     {
@@ -216,43 +243,15 @@ impl Setting<'_> {
                 unless(is_item(*item, frame, *from), *from),
                 self.refused_array(frame, *item, *array, *index),
             ),
-            Insn::InstancePut {
-                from,
-                on,
-                field,
-                ..
-            } => lower(
-                unless(
-                    self.is_of_type(frame, *from, self.field_kind(*field)),
-                    *from,
-                ),
-                unless(self.is_holder(frame.of(*on), *field), *on),
-            ),
-            Insn::FilledNewArray { kind, args } => {
-                self.refused_items(frame, *kind, args.as_slice())
-            }
-            Insn::Invoke { kind, method, args } => {
-                self.refused_call(position, frame, *kind, *method, args.as_slice())
-            }
-            _ => None,
+            _ => self.refused_named(position, frame, insn),
         }
     }
 
-    /// The lowest register whose read isn't allowed; for the place of the last result, or that of the caught object, it
-    /// is the register that the form writes.
-    pub fn refused(&self, position: u32, frame: &Frame, insn: &Insn) -> Option<u32>
-        ensures { result ≡ refused self.now position (kinds_of frame.now) insn.now }
+    /// The lowest register whose read isn't allowed, of the forms with one operand that isn't to be any object.
+    fn refused_single(&self, position: u32, frame: &Frame, insn: &Insn) -> Option<u32>
+        ensures { result ≡ refused_single self.now position (kinds_of frame.now).registers insn.now }
     {
         match insn {
-            Insn::Move { slot, from, .. } => unless(is_movable(*slot, frame, *from), *from),
-            Insn::MoveResult { slot, to } => unless(is_result(*slot, frame.result), *to),
-            Insn::MoveException { to } => unless(frame.caught.is_initialised(), *to),
-            Insn::Return { from, .. } => unless(self.is_of_type(frame, *from, self.result), *from),
-            Insn::MonitorEnter { on }
-            | Insn::MonitorExit { on }
-            | Insn::CheckCast { on, .. }
-            | Insn::Throw { on } => unless(frame.of(*on).is_initialised(), *on),
-            Insn::InstanceOf { from, .. } => unless(frame.of(*from).is_initialised(), *from),
             Insn::ArrayLength { from, .. } => unless(is_any_array(frame.of(*from)), *from),
             Insn::NewArray { size, .. } => unless(frame.of(*size).is_number(), *size),
             Insn::FillArray { on, width, .. } => unless(
@@ -278,15 +277,26 @@ impl Setting<'_> {
                 self.is_of_type(frame, *from, self.field_kind(*field)),
                 *from,
             ),
-            Insn::Cmp { .. }
-            | Insn::If { .. }
-            | Insn::Binary { .. }
-            | Insn::ArrayGet { .. }
-            | Insn::ArrayPut { .. }
-            | Insn::InstancePut { .. }
-            | Insn::FilledNewArray { .. }
-            | Insn::Invoke { .. } => self.refused_several(position, frame, insn),
-            _ => None,
+            _ => self.refused_several(position, frame, insn),
+        }
+    }
+
+    /// The lowest register whose read isn't allowed; for the place of the last result, or that of the caught object, it
+    /// is the register that the form writes.
+    pub fn refused(&self, position: u32, frame: &Frame, insn: &Insn) -> Option<u32>
+        ensures { result ≡ refused self.now position (kinds_of frame.now) insn.now }
+    {
+        match insn {
+            Insn::Move { slot, from, .. } => unless(is_movable(*slot, frame, *from), *from),
+            Insn::MoveResult { slot, to } => unless(is_result(*slot, frame.result), *to),
+            Insn::MoveException { to } => unless(frame.caught.is_initialised(), *to),
+            Insn::Return { from, .. } => unless(self.is_of_type(frame, *from, self.result), *from),
+            Insn::MonitorEnter { on }
+            | Insn::MonitorExit { on }
+            | Insn::CheckCast { on, .. }
+            | Insn::Throw { on } => unless(frame.of(*on).is_initialised(), *on),
+            Insn::InstanceOf { from, .. } => unless(frame.of(*from).is_initialised(), *from),
+            _ => self.refused_single(position, frame, insn),
         }
     }
 }

@@ -382,8 +382,10 @@ impl Code<'_, '_, '_, '_> {
     /// The frames of the least flow that begins with a frame. The only error is want of memory.
     pub fn solve(&self, alloc: Global, entry: Frame) -> Result<Vec<Option<Frame>>, AllocError>
         requires wide { length (kinds_of entry).registers ≡ self.now.body.now.registers }
-        ensures flow { IfOk result (λ fs. IsLattice self.now.setting.now.tables.now → length self.now.body.now.insns ≤ greatest → IsCovering self.now.body.now self.now.covering.now → IsFlow self.now.setting.now self.now.body.now (kinds_of entry) (places_of fs.items)) }
-        ensures least { IfOk result (λ fs. IsLattice self.now.setting.now.tables.now → IsMonotone self.now.setting.now → length self.now.body.now.insns ≤ greatest → IsCovering self.now.body.now self.now.covering.now → IsLeastFlow self.now.setting.now self.now.body.now (kinds_of entry) (places_of fs.items)) }
+        ensures flow { IfOk result (λ fs. IsLattice self.now.setting.now.tables.now → length self.now.body.now.insns ≤ greatest → IsCovering self.now.body.now self.now.covering.now
+            → IsFlow self.now.setting.now self.now.body.now (kinds_of entry) (places_of fs.items)) }
+        ensures least { IfOk result (λ fs. IsLattice self.now.setting.now.tables.now → IsMonotone self.now.setting.now → length self.now.body.now.insns ≤ greatest
+            → IsCovering self.now.body.now self.now.covering.now → IsLeastFlow self.now.setting.now self.now.body.now (kinds_of entry) (places_of fs.items)) }
     {
         let mut states = self.start(alloc, entry)?;
         while let Some(position) = states.arrivals.next() {

@@ -39,7 +39,8 @@ pub fn monotone_law()
 
 /// A law, with nothing to run: the code of a well-formed program has positions and regions whose numbers have 32 bits.
 pub fn short_law()
-    ensures { (p : Program) → is_well_formed p ≡ true → (at : ℕ) (c : Class) (k : ℕ) (m : Method) (b : Body) → slice_get p.classes at ≡ Some c → slice_get c.methods k ≡ Some m → m.body ≡ Some b → IsShort b }
+    ensures { (p : Program) → is_well_formed p ≡ true → (at : ℕ) (c : Class) (k : ℕ) (m : Method) (b : Body) → slice_get p.classes at ≡ Some c → slice_get c.methods k ≡ Some m
+        → m.body ≡ Some b → IsShort b }
 {}
 
 /// A law, with nothing to run: the chains of a program's classes have above each class what its links lead to, and two

@@ -562,54 +562,33 @@ fn joined(front: Front, back: Back) -> Whole
     ensures parts { result.parts ≡ parts_in front back }
     ensures runs { result.runs ≡ runs_in front back }
 {
-    let Front {
-        lists,
+    let (directories, directory_offsets) = apart(front.directories);
+    let (data, data_offsets) = apart(front.data);
+    let (strings, string_offsets) = apart(front.strings);
+    let (firsts, first_offsets) = apart(back.firsts);
+    let parts = Parts {
+        strings: string_offsets,
+        parameters: front.lists.parameters,
+        offsets: ClassOffsets {
+            interfaces: front.lists.interfaces,
+            directories: directory_offsets,
+            data: data_offsets,
+            firsts: first_offsets,
+        },
+    };
+    let runs = [
+        front.lists.run,
+        back.refs,
+        back.sets,
+        back.codes,
         directories,
         data,
         strings,
-        ..
-    } = front;
-    let Back {
-        lines,
-        codes,
-        refs,
-        sets,
-        marks,
+        back.lines,
+        back.marks,
         firsts,
-    } = back;
-    let Lists {
-        run: lists,
-        parameters,
-        interfaces,
-    } = lists;
-    let (directories, directory_offsets) = apart(directories);
-    let (data, data_offsets) = apart(data);
-    let (strings, string_offsets) = apart(strings);
-    let (firsts, first_offsets) = apart(firsts);
-    Whole {
-        parts: Parts {
-            strings: string_offsets,
-            parameters,
-            offsets: ClassOffsets {
-                interfaces,
-                directories: directory_offsets,
-                data: data_offsets,
-                firsts: first_offsets,
-            },
-        },
-        runs: [
-            lists,
-            refs,
-            sets,
-            codes,
-            directories,
-            data,
-            strings,
-            lines,
-            marks,
-            firsts,
-        ],
-    }
+    ];
+    Whole { parts, runs }
 }
 
 /// The file of a program whose classes are these.

@@ -1,11 +1,23 @@
 -- Code of several methods, one behind another.
 use Rattle.std.proofs.Common.{◌<◌, map, drop, get_or, ◌≡◌, ℕ, ◌+◌, List, [], ◌∷◌, ◌++◌, length, refl, sym, ap, ◌∙◌, append_assoc}
 use Rattle.std.specs.List.{AllByRecursion}
+use Rattle.std.specs.Prelude.{Option, Some, Result, Ok, Err, IfOk}
+use Rattle.std.specs.declared.alloc.AllocError.{AllocError}
+use Rattle.program_model.specs.declared.pass.Renumber.{Renumber}
+use Rattle.program_model.specs.declared.body.Body.{Body}
+use Rattle.program_model.specs.declared.program.Method.{Method}
+use Rattle.program_model.specs.declared.program.Program.{Program}
+use Rattle.program_model.specs.MemberRules.{proto_of}
+use Rattle.relax.specs.declared.layout.Layout.{Layout}
+use Rattle.relax.specs.Layouts.{IsLaidOut}
+use Rattle.code_write.specs.Code.{spots_of}
+use Rattle.code_write.specs.Items.{code_item}
+use Rattle.dex_write.specs.declared.codes.Code.{Code}
 use Rattle.dex_write.specs.declared.ordered.MethodPart.{MethodPart}
 use Rattle.dex_write.specs.declared.ordered.Ordered.{Ordered}
 use Rattle.dex_write.specs.Plans.{plan_in}
 use Rattle.dex_write.proofs.TakeLemmas.{drop_one}
-use Rattle.dex_write.specs.Codes.{parts_of, code_behind, codes_behind, lines_behind, codes_text, code_text, debug_offset}
+use Rattle.dex_write.specs.Codes.{IsCoded, Laid, parameters_in, lines_text, parts_of, code_behind, codes_behind, lines_behind, codes_text, code_text, debug_offset}
 
 pub codes_behind_append : (at : ℕ) (ms ns : List MethodPart) → codes_behind at (ms ++ ns) ≡ codes_behind (codes_behind at ms) ns
 codes_behind_append at [] ns = refl
@@ -41,3 +53,10 @@ text_step at lines next more whole ms rest old new total w e f g h =
     ∙ append_assoc old (codes_text at lines ms) (codes_text (codes_behind at ms) (lines_behind lines ms) rest)
     ∙ ap (λ l. old ++ l) (sym (ap (codes_text at lines) w ∙ codes_text_append at lines ms rest))
     ∙ h
+
+-- what has a layout is coded
+pub laid_is_coded : (p : Program) (r : Renumber) (m : Method) (body : Body) (layout : Layout) (made : Result Code AllocError) → m.body ≡ Some body → IsLaidOut r body layout
+    → IfOk made (λ c. c.code.items ≡ code_item r body (spots_of layout) 0) → IfOk made (λ c. c.lines.items ≡ lines_text (parameters_in (proto_of p m.name)) m.lines layout.starts.items)
+    → IfOk made (λ c. IsCoded p r m c.code.items c.lines.items)
+laid_is_coded p r m body layout (Ok c) is laid code lines = Laid body layout is laid code lines
+laid_is_coded p r m body layout (Err e) is laid code lines = tt

@@ -17,13 +17,21 @@ use Rattle.dex_write.specs.Plans.{Plan}
 use Rattle.dex_write.specs.Codes.{IsPlan}
 use Rattle.dex_write.specs.Order.{IsOrder, classes_at}
 use Rattle.dex_write.specs.Places.{file_for}
-use Rattle.dex_write.specs.Written.{ArePlans, MorePlans, IsWritten}
+use Rattle.dex_write.specs.Written.{ArePlans, MorePlans, IsWritten, IsWrittenBy}
 
-pub ok_is_written : (p : Program) (i : Interner) (places : List ℕ) (plans : List Plan) (r : Result (Vec ℕ Global) AllocError) → IsInterned p i → IsOrder p places → ArePlans p i.numbers (flat_map (classes_at p) places) plans
-    → IfOk r (λ v. v.items ≡ file_for p i plans) → IfOk r (λ v. IsSealed p.version v.items) → IfOk r (λ v. length v.items < 2 ^ 32) → IsInWidth p → IfOk r (λ v. IsWritten p v.items)
-ok_is_written p i places plans (Ok v) n o a f s few wide =
-    record { interner = i; interned = n; places = places; ordered = o; plans = plans; planned = a; file = f; sealed = s; few = few; wide = wide }
-ok_is_written p i places plans (Err x) n o a f s few wide = tt
+pub ok_is_written_by : (p : Program) (i : Interner) (places : List ℕ) (plans : List Plan) (r : Result (Vec ℕ Global) AllocError) → IsOrder p places → ArePlans p i.numbers (flat_map (classes_at p) places) plans
+    → IfOk r (λ v. v.items ≡ file_for p i plans) → IfOk r (λ v. IsSealed p.version v.items) → IfOk r (λ v. length v.items < 2 ^ 32) → IfOk r (λ v. IsWrittenBy p i v.items)
+ok_is_written_by p i places plans (Ok v) o a f s few = record { places = places; ordered = o; plans = plans; planned = a; file = f; sealed = s; few = few }
+ok_is_written_by p i places plans (Err x) o a f s few = tt
+
+pub ok_is_written : (p : Program) (i : Interner) (r : Result (Vec ℕ Global) AllocError) → IsInterned p i → IsInWidth p → IfOk r (λ v. IsWrittenBy p i v.items) → IfOk r (λ v. IsWritten p v.items)
+ok_is_written p i (Ok v) n wide w =
+    record { interner = i; interned = n; places = w.places; ordered = w.ordered; plans = w.plans; planned = w.planned; file = w.file; sealed = w.sealed; few = w.few; wide = wide }
+ok_is_written p i (Err x) n wide w = tt
+
+pub ok_is_sealed : (p : Program) (i : Interner) (r : Result (Vec ℕ Global) AllocError) → IfOk r (λ v. IsWrittenBy p i v.items) → IfOk r (λ v. IsSealed p.version v.items)
+ok_is_sealed p i (Ok v) w = w.sealed
+ok_is_sealed p i (Err x) w = tt
 
 both_planned : (p : Program) (r : Renumber) (cs ds : List Class) (xs ys : List Plan) → ArePlans p r cs xs → ArePlans p r ds ys → ArePlans p r (cs ++ ds) (xs ++ ys)
 both_planned p r [] ds [] ys h k = k

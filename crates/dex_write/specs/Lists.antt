@@ -85,6 +85,10 @@ interface_offsets p i plans at = map (used_offset (list_starts at (type_lists p 
 abbrev pub list_run : ℕ → List (List ℕ) → Run
 list_run at lists = record { kind = TypeList; count = length (list_starts at lists); at = at; bytes = lists_text at lists }
 
--- the run of the lists from a place on, and those offsets
+-- the run of lists from a place on, and the offsets of those that are used
+abbrev pub lists_used : List (List ℕ) → List (Option ℕ) → List (Option ℕ) → ℕ → Lists
+lists_used lists parameters interfaces at = record { run = list_run at lists; parameters = map (used_offset (list_starts at lists)) parameters; interfaces = map (used_offset (list_starts at lists)) interfaces }
+
+-- the run of the lists of a program from a place on, and those offsets
 unfoldable pub lists_at : Program → Interner → List Plan → ℕ → Lists
 lists_at p i plans at = record { run = list_run at (type_lists p i plans); parameters = proto_offsets p i plans at; interfaces = interface_offsets p i plans at }

@@ -140,6 +140,13 @@ parts_in front back = record {
 abbrev pub runs_in : Front → Back → List Run
 runs_in front back = front.lists.run ∷ back.refs ∷ back.sets ∷ back.codes ∷ front.directories.run ∷ front.data.run ∷ front.strings.run ∷ back.lines ∷ back.marks ∷ back.firsts.run ∷ []
 
+-- the offsets and the runs of a program that uses these entries and whose classes are these, the first run standing at a place
+abbrev pub parts_at : Program → Interner → List Plan → ℕ → Parts
+parts_at p i plans at = parts_in (front_of p i plans at) (back_of p i.numbers plans (front_of p i plans at))
+
+abbrev pub runs_at : Program → Interner → List Plan → ℕ → List Run
+runs_at p i plans at = runs_in (front_of p i plans at) (back_of p i.numbers plans (front_of p i plans at))
+
 -- the file of a program that uses these entries and whose classes are these
 unfoldable pub file_for : Program → Interner → List Plan → List ℕ
 file_for p i plans =

@@ -30,6 +30,16 @@ pub record MorePlans (p : Program) (r : Renumber) (classes : List Class) (old ne
   pub is : new ≡ old ++ plans
   pub planned : ArePlans p r classes plans
 
+-- the file, sealed and of fewer than 2^32 bytes, of a program that uses these entries
+pub record IsWrittenBy (p : Program) (interner : Interner) (bytes : List ℕ) : Type 0 where
+  pub places : List ℕ
+  pub ordered : IsOrder p places
+  pub plans : List Plan
+  pub planned : ArePlans p interner.numbers (flat_map (classes_at p) places) plans
+  pub file : bytes ≡ file_for p interner plans
+  pub sealed : IsSealed p.version bytes
+  pub few : length bytes < 2 ^ 32
+
 -- The file of the entries that the program uses, in order, and of its classes in the order in which each comes directly
 -- behind those above it that were not written yet. It is sealed, and 32 bits count its bytes; and the numbers of the program, which is
 -- one in memory, are values of their types.

@@ -4,6 +4,8 @@ ghost use Rattle.std.specs.Prelude.{◌≡◌, ◌+◌, ◌<◌, ◌^◌, ◌++�
 ghost use Rattle.std.specs.List.{AllByRecursion, flat_map};
 ghost use Rattle.line_tables.specs.Text.{AscendsFrom};
 ghost use Rattle.program_model.specs.MemberRules.{proto_of};
+ghost use Rattle.code_write.specs.Code.{spots_of};
+ghost use Rattle.code_write.specs.Items.{code_item};
 ghost use Rattle.dex_write.specs.Plans.{plan_in, spot_of};
 ghost use Rattle.dex_write.specs.Codes.{ascend, are_low, parameters_in, lines_text, IsCoded, IsCodedIn, IsPart, code_offset, code_behind, codes_behind, debug_offset, with_debug, code_text, codes_text, lines_behind, count_codes, count_lines, parts_of};
 
@@ -11,8 +13,8 @@ use crate::numbers::{behind, gap, push_words, push_zeros, split, up, word_of};
 use crate::ordered::{MethodPart, Numbered, Ordered};
 use code_write::write_body;
 use line_tables::write_lines;
-use program_model::{Class, Method, Program, Renumber};
-use relax::{LayFault, lay_out};
+use program_model::{Body, Class, Method, Program, Renumber};
+use relax::{LayFault, Layout, lay_out};
 use seq::Seq;
 use std::alloc::{AllocError, Global};
 
@@ -81,6 +83,35 @@ struct Code {
     lines: Vec<u8>,
 }
 
+/// No code and no lines.
+fn no_code(alloc: Global) -> Code
+    ensures code { result.code.items ≡ [] }
+    ensures lines { result.lines.items ≡ [] }
+{
+    Code {
+        code: Vec::new(alloc),
+        lines: Vec::new(alloc),
+    }
+}
+
+/// The code of a method whose body has this layout.
+fn laid_code(
+    alloc: Global,
+    program: &Program,
+    method: &Method,
+    body: &Body,
+    layout: &Layout,
+    numbers: &Renumber,
+) -> Result<Code, AllocError>
+    ensures code { IfOk result (λ c. c.code.items ≡ code_item numbers.now body.now (spots_of layout.now) 0) }
+    ensures lines { IfOk result (λ c. c.lines.items ≡ lines_text (parameters_in (proto_of program.now method.now.name)) method.now.lines layout.now.starts.items) }
+{
+    let parameters = parameters_of(program, method.name)?;
+    let lines = lines_of(alloc, method.lines.as_slice(), &layout.starts, parameters)?;
+    let code = write_body(alloc, body, layout, numbers)?.bytes;
+    Ok(Code { code, lines })
+}
+
 /// The code of a method. A body that has no layout is left out; a well-formed program that lays out has none.
 fn code_of(
     alloc: Global,
@@ -91,28 +122,13 @@ fn code_of(
     ensures { IfOk result (λ c. IsCoded program.now numbers.now method.now c.code.items c.lines.items) }
 {
     let Some(body) = &method.body else {
-        return Ok(Code {
-            code: Vec::new(alloc),
-            lines: Vec::new(alloc),
-        });
+        return Ok(no_code(alloc));
     };
-    let layout = match lay_out(alloc, body, numbers) {
-        Ok(layout) => layout,
-        Err(LayFault::NoMemory) => return Err(AllocError),
-        Err(LayFault::FarBranch { .. }) => {
-            return Ok(Code {
-                code: Vec::new(alloc),
-                lines: Vec::new(alloc),
-            });
-        }
-    };
-    let item = write_body(alloc, body, &layout, numbers)?;
-    let parameters = parameters_of(program, method.name)?;
-    let lines = lines_of(alloc, method.lines.as_slice(), &layout.starts, parameters)?;
-    Ok(Code {
-        code: item.bytes,
-        lines,
-    })
+    match lay_out(alloc, body, numbers) {
+        Ok(layout) => laid_code(alloc, program, method, body, &layout, numbers),
+        Err(LayFault::NoMemory) => Err(AllocError),
+        Err(LayFault::FarBranch { .. }) => Ok(no_code(alloc)),
+    }
 }
 
 /// The code of the method at a place of a class.
@@ -127,10 +143,7 @@ fn code_at(
 {
     match class.methods.items.get(place as usize) {
         Some(method) => code_of(alloc, program, method, numbers),
-        None => Ok(Code {
-            code: Vec::new(alloc),
-            lines: Vec::new(alloc),
-        }),
+        None => Ok(no_code(alloc)),
     }
 }
 

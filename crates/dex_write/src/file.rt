@@ -4,6 +4,7 @@
 ghost use Rattle.std.specs.Prelude.{◌≡◌, ◌≤◌, ◌<◌, ◌^◌, ◌+◌, ◌-◌, ◌*◌, ◌/◌, ◌++◌, ◌∷◌, [], length, replicate, IfOk, OnOk};
 ghost use Rattle.sha1.specs.Sha1.{sha1};
 ghost use Rattle.dex_write.specs.Numbers.{words};
+ghost use Rattle.dex_write.specs.Runs.{runs_text};
 ghost use Rattle.dex_write.specs.File.{types_at, protos_at, fields_at, methods_at, classes_at, data_at, table_offset, front_pairs, back_pairs, table_rows, map_rows, map_words, magic_of, header_words, ends_behind, body_text, file_text, IsSealed};
 
 use crate::numbers::{behind, push_words, push_zeros, up, word_of};
@@ -166,6 +167,25 @@ fn ends_behind(at: u32, runs: &[Run]) -> Result<u32, AllocError>
     Ok(end)
 }
 
+/// Adds the rest of the header, the tables, the runs behind a place, so many zeros, and the map.
+fn push_body(
+    out: &mut Vec<u8>,
+    header: &[u32],
+    tables: &[u32],
+    from: u32,
+    runs: &[Run],
+    zeros: usize,
+    map: &[u8],
+) -> Result<(), AllocError>
+    ensures { OnOk result (out.new.items ≡ out.old.items ++ (words header.now ++ (words tables.now ++ (runs_text from runs.now ++ (replicate zeros 0 ++ map.now))))) }
+{
+    push_words(out, header)?;
+    push_words(out, tables)?;
+    push_runs(out, from, runs)?;
+    push_zeros(out, zeros)?;
+    out.extend_from_slice(map)
+}
+
 /// All from 32 on: the rest of the header, the tables, the runs, and the map at the next multiple of four.
 #[tactic(auto, unfolding(crate::specs::File::body_text))]
 fn body_of(
@@ -179,16 +199,12 @@ fn body_of(
     let data = starts_of(counts)?.data;
     let end = ends_behind(data, runs)?;
     let at = up(end)?;
+    let zeros = at.saturating_sub(end) as usize;
     let map = map_bytes(alloc, counts, runs, at)?;
-    let map = map.as_slice();
     let size = behind(at, map.len())?;
     let header = header_words(alloc, counts, size, at)?;
     let mut out = Vec::with_capacity(alloc, size as usize)?;
-    push_words(&mut out, &header)?;
-    push_words(&mut out, tables)?;
-    push_runs(&mut out, data, runs)?;
-    push_zeros(&mut out, at.saturating_sub(end) as usize)?;
-    out.extend_from_slice(map)?;
+    push_body(&mut out, &header, tables, data, runs, zeros, &map)?;
     Ok(out)
 }
 

@@ -6,7 +6,7 @@ ghost use Rattle.dex_pools.specs.Written.{renumbered};
 ghost use Rattle.dex_write.specs.Numbers.{words, gap};
 ghost use Rattle.dex_write.specs.Plans.{plan_in};
 ghost use Rattle.dex_write.specs.declared.run.Kind.TheVariants.{TypeList};
-ghost use Rattle.dex_write.specs.Lists.{lists_in, with_list, index_of, all_lists, indexes_of, proto_use, class_use, list_text, padded_text, lists_text, list_starts, list_at, used_offset, protos_use, classes_use, type_lists, lists_at};
+ghost use Rattle.dex_write.specs.Lists.{lists_in, with_list, index_of, all_lists, indexes_of, proto_use, class_use, list_text, padded_text, lists_text, list_starts, list_at, used_offset, protos_use, classes_use, type_lists, lists_used, lists_at};
 
 use crate::numbers::{at_place, behind, gap, push_words, push_zeros, up, word_of};
 use crate::ordered::{Ordered, renumbered};
@@ -241,6 +241,20 @@ fn list_run(at: u32, lists: ListBytes) -> Result<Run, AllocError>
     })
 }
 
+/// The run of the known lists, the first from `at` on, and the offsets of those that are used.
+fn lists_used(alloc: Global, uses: &Uses, at: u32) -> Result<Lists, AllocError>
+    ensures { IfOk result (λ lists. lists ≡ lists_used (lists_in uses.now.known.keys) uses.now.parameters.items uses.now.interfaces.items at) }
+{
+    let lists = list_bytes(alloc, &uses.known, at)?;
+    let parameters = used_offsets(alloc, lists.starts.as_slice(), uses.parameters.as_slice())?;
+    let interfaces = used_offsets(alloc, lists.starts.as_slice(), uses.interfaces.as_slice())?;
+    Ok(Lists {
+        run: list_run(at, lists)?,
+        parameters: Seq::of_vec(parameters),
+        interfaces: Seq::of_vec(interfaces),
+    })
+}
+
 /// The type lists of the protos that are used and of the classes, the first from `at` on.
 #[tactic(auto, unfolding(crate::specs::Lists::lists_at))]
 pub fn lists_at(
@@ -253,12 +267,5 @@ pub fn lists_at(
     ensures { IfOk result (λ lists. lists ≡ lists_at program.now interner.now (map plan_in order.now) at) }
 {
     let uses = uses_of(alloc, program, interner, order)?;
-    let lists = list_bytes(alloc, &uses.known, at)?;
-    let parameters = used_offsets(alloc, lists.starts.as_slice(), uses.parameters.as_slice())?;
-    let interfaces = used_offsets(alloc, lists.starts.as_slice(), uses.interfaces.as_slice())?;
-    Ok(Lists {
-        run: list_run(at, lists)?,
-        parameters: Seq::of_vec(parameters),
-        interfaces: Seq::of_vec(interfaces),
-    })
+    lists_used(alloc, &uses, at)
 }

@@ -1,15 +1,15 @@
 //! The whole writer: which items stand where.
 
-ghost use Rattle.std.specs.Prelude.{◌≡◌, ◌<◌, ◌^◌, length, map, slice_get, option_copied, IfOk, OnOk};
-ghost use Rattle.std.specs.List.{flat_map};
-ghost use Rattle.dex_write.specs.Plans.{plan_in};
-ghost use Rattle.dex_write.specs.Codes.{IsPlan};
+ghost use Rattle.std.specs.Prelude.{◌≡◌, ◌<◌, ◌^◌, ◌++◌, length, map, true, false, slice_get, option_copied, IfOk, OnOk};
+ghost use Rattle.std.specs.List.{AllByRecursion, flat_map};
+ghost use Rattle.dex_write.specs.Plans.{plan_in, ordered_fields, ordered_methods, spot_of};
+ghost use Rattle.dex_write.specs.Codes.{IsPart, IsPlan};
 ghost use Rattle.dex_write.specs.File.{IsSealed};
 ghost use Rattle.dex_write.specs.Lists.{lists_at};
 ghost use Rattle.dex_write.specs.Runs.{end_behind};
-ghost use Rattle.dex_write.specs.Places.{placed_items, words_end, words_behind, words_run, codes_end, places_behind, refs_behind, sets_behind, directories_behind, data_behind, strings_behind, front_of, codes_run, lines_run, refs_run, marks_behind, firsts_behind, back_of, counts_of, file_with, parts_in, runs_in, file_for};
+ghost use Rattle.dex_write.specs.Places.{placed_items, words_end, words_behind, words_run, codes_end, places_behind, refs_behind, sets_behind, directories_behind, data_behind, strings_behind, front_of, codes_run, lines_run, refs_run, marks_behind, firsts_behind, back_of, counts_of, file_with, parts_in, runs_in, parts_at, runs_at, file_for};
 ghost use Rattle.dex_write.specs.Order.{classes_at};
-ghost use Rattle.dex_write.specs.Written.{ArePlans, AreOnlyPlans, MorePlans, IsWritten};
+ghost use Rattle.dex_write.specs.Written.{ArePlans, AreOnlyPlans, MorePlans, IsWrittenBy, IsWritten};
 
 use crate::class_order::written_order;
 use crate::classes::{all_data, all_firsts};
@@ -18,7 +18,7 @@ use crate::file::{Counts, file_of, starts_of};
 use crate::lists::{Lists, lists_at};
 use crate::marks::{MarkBytes, mark_bytes};
 use crate::numbers::{Items, bytes_of, count_some, up, word_of};
-use crate::ordered::{Ordered, fields_of, methods_of};
+use crate::ordered::{MethodPart, Numbered, Ordered, fields_of, methods_of};
 use crate::run::{Kind, Run, end_behind};
 use crate::sets::{
     directories, ends_at, lists_of, offsets_at, parameter_offsets, ref_counts, set_counts,
@@ -31,6 +31,57 @@ use seq::Seq;
 use std::alloc::{AllocError, Global};
 use widths::read_numbers;
 
+/// The fields of a class in order, and how many of them are static.
+fn fields_in_order(
+    alloc: Global,
+    numbers: &Renumber,
+    class: &Class,
+) -> Result<(Vec<Numbered>, usize), AllocError>
+    ensures fields { IfOk result (λ f. f.0.items ≡ ordered_fields numbers.now class.now true ++ ordered_fields numbers.now class.now false) }
+    ensures statics { IfOk result (λ f. f.1 ≡ length (ordered_fields numbers.now class.now true)) }
+{
+    let mut fields = fields_of(alloc, class, numbers, true)?;
+    let statics = fields.len();
+    fields.extend_from_slice(&fields_of(alloc, class, numbers, false)?)?;
+    Ok((fields, statics))
+}
+
+/// Adds the methods of a class that are direct, or those that are not, by new number and with their code. The result is how many
+/// these are.
+fn push_methods(
+    alloc: Global,
+    methods: &mut Vec<MethodPart>,
+    program: &Program,
+    numbers: &Renumber,
+    class: &Class,
+    are_direct: bool,
+) -> Result<usize, AllocError>
+    ensures count { IfOk result (λ count. count ≡ length (ordered_methods numbers.now program.now class.now are_direct)) }
+    ensures spots { OnOk result (map spot_of methods.new.items ≡ map spot_of methods.old.items ++ ordered_methods numbers.now program.now class.now are_direct) }
+    ensures coded { OnOk result (AllByRecursion (IsPart program.now numbers.now class.now) methods.old.items → AllByRecursion (IsPart program.now numbers.now class.now) methods.new.items) }
+{
+    let places = methods_of(alloc, program, class, numbers, are_direct)?;
+    push_parts(alloc, methods, program, class, &places, numbers)?;
+    Ok(places.len())
+}
+
+/// The methods of a class in order with their code, and how many of them are direct.
+fn methods_in_order(
+    alloc: Global,
+    program: &Program,
+    numbers: &Renumber,
+    class: &Class,
+) -> Result<(Vec<MethodPart>, usize), AllocError>
+    ensures spots { IfOk result (λ m. map spot_of m.0.items ≡ ordered_methods numbers.now program.now class.now true ++ ordered_methods numbers.now program.now class.now false) }
+    ensures coded { IfOk result (λ m. AllByRecursion (IsPart program.now numbers.now class.now) m.0.items) }
+    ensures directs { IfOk result (λ m. m.1 ≡ length (ordered_methods numbers.now program.now class.now true)) }
+{
+    let mut methods = Vec::with_capacity(alloc, class.methods.len())?;
+    let directs = push_methods(alloc, &mut methods, program, numbers, class, true)?;
+    push_methods(alloc, &mut methods, program, numbers, class, false)?;
+    Ok((methods, directs))
+}
+
 /// A class with its members in order and the code of its methods.
 fn order_class<'a>(
     alloc: Global,
@@ -40,19 +91,13 @@ fn order_class<'a>(
 ) -> Result<Ordered<'a>, AllocError>
     ensures { IfOk result (λ o. IsPlan program.now numbers.now class.now (plan_in o)) }
 {
-    let mut fields = fields_of(alloc, class, numbers, true)?;
-    let statics = fields.len();
-    fields.extend_from_slice(&fields_of(alloc, class, numbers, false)?)?;
-    let directs = methods_of(alloc, program, class, numbers, true)?;
-    let virtuals = methods_of(alloc, program, class, numbers, false)?;
-    let mut methods = Vec::with_capacity(alloc, class.methods.len())?;
-    push_parts(alloc, &mut methods, program, class, &directs, numbers)?;
-    push_parts(alloc, &mut methods, program, class, &virtuals, numbers)?;
+    let (fields, statics) = fields_in_order(alloc, numbers, class)?;
+    let (methods, directs) = methods_in_order(alloc, program, numbers, class)?;
     Ok(Ordered {
         class,
         statics,
         fields: Seq::of_vec(fields),
-        directs: directs.len(),
+        directs,
         methods: Seq::of_vec(methods),
     })
 }
@@ -292,6 +337,26 @@ fn strings_at(
     place_items(Kind::StringData, at, at, items)
 }
 
+/// Where lists of words stand, and where code stands.
+#[derive(Drop)]
+struct Middle {
+    refs: Words,
+    sets: Words,
+    code: CodePlaces,
+}
+
+/// Where lists of words and code stand behind runs that end at `before`.
+fn middle_of(alloc: Global, order: &[Ordered], before: u32) -> Result<Middle, AllocError>
+    ensures refs { IfOk result (λ middle. middle.refs ≡ refs_behind before (map plan_in order.now)) }
+    ensures sets { IfOk result (λ middle. middle.sets ≡ sets_behind middle.refs.end (map plan_in order.now)) }
+    ensures code { IfOk result (λ middle. middle.code ≡ places_behind middle.sets.end (map plan_in order.now)) }
+{
+    let refs = refs_behind(alloc, order, before)?;
+    let sets = sets_behind(alloc, order, refs.end)?;
+    let code = codes_behind(sets.end, order)?;
+    Ok(Middle { refs, sets, code })
+}
+
 /// The type lists, where lists of words stand, and where code stands.
 #[derive(Drop)]
 struct Early {
@@ -315,14 +380,12 @@ fn early_of(
     ensures code { IfOk result (λ early. early.code ≡ places_behind early.sets.end (map plan_in order.now)) }
 {
     let lists = lists_at(alloc, program, interner, order, at)?;
-    let refs = refs_behind(alloc, order, end_behind(at, &lists.run)?)?;
-    let sets = sets_behind(alloc, order, refs.end)?;
-    let code = codes_behind(sets.end, order)?;
+    let middle = middle_of(alloc, order, end_behind(at, &lists.run)?)?;
     Ok(Early {
         lists,
-        refs,
-        sets,
-        code,
+        refs: middle.refs,
+        sets: middle.sets,
+        code: middle.code,
     })
 }
 
@@ -479,6 +542,39 @@ fn firsts_at(
     place_items(Kind::EncodedArray, at, at, items)
 }
 
+/// The run of debug items, and those behind it.
+#[derive(Drop)]
+struct Rear {
+    lines: Run,
+    marks: Marks,
+    firsts: Placed,
+}
+
+/// The run of debug items, which stands behind the strings, and those behind it.
+fn rear_of(
+    alloc: Global,
+    program: &Program,
+    numbers: &Renumber,
+    order: &[Ordered],
+    front: &Front,
+) -> Result<Rear, AllocError>
+    ensures lines { IfOk result (λ rear. rear.lines ≡ lines_run (map plan_in order.now) front.now.code.counts.lines front.now.strings.end) }
+    ensures marks { IfOk result (λ rear. rear.marks ≡ marks_behind numbers.now (map plan_in order.now) front.now.sets (end_behind front.now.strings.end rear.lines)) }
+    ensures firsts { IfOk result (λ rear. rear.firsts ≡ firsts_behind (end_behind (end_behind front.now.strings.end rear.lines) rear.marks.marks) program.now numbers.now (map plan_in order.now)) }
+{
+    let lines_at = front.strings.end;
+    let lines = lines_run(alloc, order, front.code.counts.lines, lines_at)?;
+    let at = end_behind(lines_at, &lines)?;
+    let marks = marks_at(alloc, order, numbers, &front.sets, at)?;
+    let end = end_behind(at, &marks.marks)?;
+    let firsts = firsts_at(alloc, program, order, numbers, end)?;
+    Ok(Rear {
+        lines,
+        marks,
+        firsts,
+    })
+}
+
 /// The runs behind the strings.
 #[tactic(auto, unfolding(crate::specs::Places::back_of))]
 fn back_of(
@@ -490,20 +586,16 @@ fn back_of(
 ) -> Result<Back, AllocError>
     ensures { IfOk result (λ back. back ≡ back_of program.now numbers.now (map plan_in order.now) front.now) }
 {
-    let lines_at = front.strings.end;
-    let codes = codes_run(alloc, order, &front.code, lines_at)?;
-    let lines = lines_run(alloc, order, front.code.counts.lines, lines_at)?;
+    let codes = codes_run(alloc, order, &front.code, front.strings.end)?;
     let refs = refs_run(alloc, order, &front.refs, &front.sets)?;
-    let at = end_behind(lines_at, &lines)?;
-    let Marks { sets, marks } = marks_at(alloc, order, numbers, &front.sets, at)?;
-    let firsts = firsts_at(alloc, program, order, numbers, end_behind(at, &marks)?)?;
+    let rear = rear_of(alloc, program, numbers, order, front)?;
     Ok(Back {
-        lines,
+        lines: rear.lines,
         codes,
         refs,
-        sets,
-        marks,
-        firsts,
+        sets: rear.marks.sets,
+        marks: rear.marks.marks,
+        firsts: rear.firsts,
     })
 }
 
@@ -562,54 +654,49 @@ fn joined(front: Front, back: Back) -> Whole
     ensures parts { result.parts ≡ parts_in front back }
     ensures runs { result.runs ≡ runs_in front back }
 {
-    let Front {
-        lists,
+    let (directories, directory_offsets) = apart(front.directories);
+    let (data, data_offsets) = apart(front.data);
+    let (strings, string_offsets) = apart(front.strings);
+    let (firsts, first_offsets) = apart(back.firsts);
+    let parts = Parts {
+        strings: string_offsets,
+        parameters: front.lists.parameters,
+        offsets: ClassOffsets {
+            interfaces: front.lists.interfaces,
+            directories: directory_offsets,
+            data: data_offsets,
+            firsts: first_offsets,
+        },
+    };
+    let runs = [
+        front.lists.run,
+        back.refs,
+        back.sets,
+        back.codes,
         directories,
         data,
         strings,
-        ..
-    } = front;
-    let Back {
-        lines,
-        codes,
-        refs,
-        sets,
-        marks,
+        back.lines,
+        back.marks,
         firsts,
-    } = back;
-    let Lists {
-        run: lists,
-        parameters,
-        interfaces,
-    } = lists;
-    let (directories, directory_offsets) = apart(directories);
-    let (data, data_offsets) = apart(data);
-    let (strings, string_offsets) = apart(strings);
-    let (firsts, first_offsets) = apart(firsts);
-    Whole {
-        parts: Parts {
-            strings: string_offsets,
-            parameters,
-            offsets: ClassOffsets {
-                interfaces,
-                directories: directory_offsets,
-                data: data_offsets,
-                firsts: first_offsets,
-            },
-        },
-        runs: [
-            lists,
-            refs,
-            sets,
-            codes,
-            directories,
-            data,
-            strings,
-            lines,
-            marks,
-            firsts,
-        ],
-    }
+    ];
+    Whole { parts, runs }
+}
+
+/// The runs in order, the first of which stands at `at`, and the offsets of what they hold.
+fn whole_at(
+    alloc: Global,
+    program: &Program,
+    interner: &Interner,
+    order: &[Ordered],
+    at: u32,
+) -> Result<Whole, AllocError>
+    ensures parts { IfOk result (λ whole. whole.parts ≡ parts_at program.now interner.now (map plan_in order.now) at) }
+    ensures runs { IfOk result (λ whole. whole.runs ≡ runs_at program.now interner.now (map plan_in order.now) at) }
+{
+    let front = front_of(alloc, program, interner, order, at)?;
+    let back = back_of(alloc, program, interner.numbers(), order, &front)?;
+    Ok(joined(front, back))
 }
 
 /// The file of a program whose classes are these.
@@ -625,10 +712,17 @@ fn file_for(
     ensures few { IfOk result (λ v. length v.items < 2 ^ 32) }
 {
     let counts = counts_of(interner, order)?;
-    let front = front_of(alloc, program, interner, order, starts_of(counts)?.data)?;
-    let back = back_of(alloc, program, interner.numbers(), order, &front)?;
-    let Whole { parts, runs } = joined(front, back);
-    file_with(alloc, program, interner, order, &parts, &runs)
+    let whole = whole_at(alloc, program, interner, order, starts_of(counts)?.data)?;
+    file_with(alloc, program, interner, order, &whole.parts, &whole.runs)
+}
+
+/// The file of a program that uses these entries.
+fn file_in(alloc: Global, program: &Program, interner: &Interner) -> Result<Vec<u8>, AllocError>
+    ensures { IfOk result (λ v. IsWrittenBy program.now interner.now v.items) }
+{
+    let places = written_order(alloc, program)?;
+    let order = order_classes(alloc, program, interner.numbers(), &places)?;
+    file_for(alloc, program, interner, order.as_slice())
 }
 
 /// A valid file that spells the program, with the entries that it uses in order and the classes behind those above
@@ -643,7 +737,5 @@ pub fn write_dex(alloc: Global, program: &Program) -> Result<Vec<u8>, AllocError
 {
     read_numbers(program);
     let interner = Interner::collect(alloc, program)?;
-    let places = written_order(alloc, program)?;
-    let order = order_classes(alloc, program, interner.numbers(), &places)?;
-    file_for(alloc, program, &interner, order.as_slice())
+    file_in(alloc, program, &interner)
 }

@@ -1,6 +1,6 @@
 //! The asks about methods.
 
-ghost use Rattle.std.specs.Prelude.{◌≡◌, ◌∷◌, [], false, slice_index_or, length, map, IfOk, OnOk, OnErr};
+ghost use Rattle.std.specs.Prelude.{◌≡◌, ◌∷◌, [], length, map, IfOk, OnOk, OnErr};
 ghost use Rattle.redex_outside.specs.Turns.{Weighed};
 ghost use Rattle.redex_outside.specs.Panels.{HasRun};
 ghost use Rattle.pipeline.specs.Asks.{ask_of, is_asked, asked_one, asked_in, asked, judged, no_verdict, AreAnswered};
@@ -8,6 +8,7 @@ ghost use Rattle.pipeline.specs.Advised.{verdict};
 ghost use Rattle.pipeline.specs.Counts.{counted, method_insns};
 ghost use Rattle.pipeline.specs.Replies.{ask_about, turns_one, turns_in, turns_about, HaveTaken, AreFirstOf};
 
+use crate::marks::is_on;
 use crate::texts::{name_text, signature_text, type_text};
 use call_graph::LiveSet;
 use program_model::{Admitted, Class, Method, Program};
@@ -40,21 +41,11 @@ fn ask_of(
     })
 }
 
-/// Whether a method, by its number, is live.
-fn is_live(live: &LiveSet, method: u32) -> bool
-    ensures { result ≡ slice_index_or live.now.methods.items method false }
-{
-    match live.methods.get(method as usize) {
-        Some(live) => *live,
-        None => false,
-    }
-}
-
 /// Whether a method is asked about: it is live and has code.
 fn is_asked(live: &LiveSet, method: &Method) -> bool
     ensures { result ≡ is_asked live.now method.now }
 {
-    method.body.is_some() && is_live(live, method.name)
+    method.body.is_some() && is_on(live.methods.as_slice(), method.name)
 }
 
 /// How many instructions a method has, none where it has no code. The greatest number of 32 bits stands for all above it.

@@ -7,6 +7,7 @@ mod asks;
 mod counts;
 mod graph;
 mod inlined;
+mod marks;
 mod passes;
 mod prints;
 mod rounds;

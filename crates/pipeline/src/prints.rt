@@ -5,9 +5,10 @@
 //! before. That is told by a print of each body, a sum of 64 bits, in which a get of a static field also tells whether it initialises the
 //! field's class. Two bodies may have the same print: then the second one is looked at in the last round, which looks at all.
 
-ghost use Rattle.std.specs.Prelude.{◌≡◌, true, false, IfOk, slice_index_or, slice_set};
+ghost use Rattle.std.specs.Prelude.{◌≡◌, true, false, IfOk, slice_index_or};
 ghost use Rattle.pipeline.specs.Passes.{AreWithin};
 
+use crate::marks::{is_on, mark};
 use hierarchy::Hierarchy;
 use insn_set::Insn;
 use program_model::{Admitted, Body, Class, Method, Program, Region};
@@ -83,12 +84,10 @@ fn short_print(insn: &Insn) -> u64 {
     }
 }
 
-/// The print of an instruction.
-fn insn_print(insn: &Insn) -> u64 {
+/// The print of an instruction that names something by its number beside two registers or a list of them, or of one that
+/// names no more than one register.
+fn named_print(insn: &Insn) -> u64 {
     match insn {
-        Insn::Move { to, from, .. }
-        | Insn::ArrayLength { to, from }
-        | Insn::Unary { to, from, .. } => with_two(11, *to, *from, 0),
         Insn::InstanceOf {
             to,
             from,
@@ -111,6 +110,22 @@ fn insn_print(insn: &Insn) -> u64 {
             field: number,
             ..
         } => { with_two(12, *to, *from, *number) }
+        Insn::FilledNewArray { kind: number, args }
+        | Insn::Invoke {
+            method: number,
+            args,
+            ..
+        } => { with_words(with_one(16, 0, *number), args.as_slice()) }
+        _ => short_print(insn),
+    }
+}
+
+/// The print of an instruction.
+fn insn_print(insn: &Insn) -> u64 {
+    match insn {
+        Insn::Move { to, from, .. }
+        | Insn::ArrayLength { to, from }
+        | Insn::Unary { to, from, .. } => with_two(11, *to, *from, 0),
         Insn::Cmp { to, a, b, .. }
         | Insn::Binary { to, a, b, .. }
         | Insn::ArrayGet {
@@ -129,13 +144,7 @@ fn insn_print(insn: &Insn) -> u64 {
             with_two(14, *to, *a, i32::from(*value).cast_unsigned())
         }
         Insn::If { a, b, target, .. } => with_two(15, *a, *b, *target),
-        Insn::FilledNewArray { kind: number, args }
-        | Insn::Invoke {
-            method: number,
-            args,
-            ..
-        } => { with_words(with_one(16, 0, *number), args.as_slice()) }
-        _ => short_print(insn),
+        _ => named_print(insn),
     }
 }
 
@@ -186,26 +195,6 @@ fn is_new(prints: &mut [u64], method: u32, print: u64) -> bool {
     }
 }
 
-/// Whether a method may be rewritten.
-fn is_admitted(admitted: &[bool], method: u32) -> bool
-    ensures { result ≡ slice_index_or admitted.now method false }
-{
-    match admitted.get(method as usize) {
-        Some(yes) => *yes,
-        None => false,
-    }
-}
-
-/// Marks a method.
-fn mark(marks: &mut [bool], method: u32)
-    ensures { marks.new ≡ slice_set marks.old method true }
-{
-    let at = method as usize;
-    if at < marks.len() {
-        marks[at] = true;
-    }
-}
-
 /// Marks a method that may be rewritten where its body isn't what it was.
 #[tactic(auto, using(crate::proofs::Looking::marked_within))]
 fn look_at_body(marks: &mut [bool], prints: &mut [u64], admitted: &[bool], method: u32, print: u64)
@@ -230,7 +219,7 @@ fn look_at_method(
     requires { AreWithin marks.old admitted.now }
     ensures { AreWithin marks.new admitted.now }
 {
-    if !is_admitted(admitted, method.name) {
+    if !is_on(admitted, method.name) {
         return;
     }
     if let Some(body) = &method.body {

@@ -8,20 +8,11 @@ ghost use Rattle.program_model.specs.ProgramRules.{is_well_formed};
 ghost use Rattle.pipeline.specs.Graph.{HasGraphFault, IsGraph};
 
 use crate::graph::hierarchy_of;
+use crate::marks::{is_on, mark};
 use hierarchy::Hierarchy;
 use insn_set::{Insn, InvokeKind};
 use program_model::{Admitted, Body, Class, Method, Outside, Program};
 use std::alloc::{AllocError, Global};
-
-/// Whether a number is marked.
-fn is_on(marks: &[bool], number: u32) -> bool
-    ensures { result ≡ marked marks.now number }
-{
-    match marks.get(number as usize) {
-        Some(mark) => *mark,
-        None => false,
-    }
-}
 
 /// Whether an instruction is a static call of a marked method.
 fn calls_marked(insn: &Insn, marks: &[bool]) -> bool
@@ -142,16 +133,6 @@ fn silence_marked(program: Program, marks: &[bool], admitted: &[bool]) -> Progra
     let mut program = program;
     silence_classes(program.classes.items.as_mut_slice(), marks, admitted);
     program
-}
-
-/// Marks a number.
-fn mark(marks: &mut [bool], number: u32)
-    ensures { marks.new ≡ slice_set marks.old number true }
-{
-    let at = number as usize;
-    if at < marks.len() {
-        marks[at] = true;
-    }
 }
 
 /// Marks a method where a static call of it finds no method of the program.

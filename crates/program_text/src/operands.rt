@@ -122,6 +122,11 @@ impl Operands {
         self.registers.get(place).copied().unwrap_or(0)
     }
 
+    /// The first three registers.
+    fn three(&self) -> (u16, u16, u16) {
+        (self.register(0), self.register(1), self.register(2))
+    }
+
     /// The first number, 0 where there is none.
     fn number(&self) -> i128 {
         self.numbers.first().copied().unwrap_or(0)
@@ -196,30 +201,27 @@ fn naming(form: usize, operands: &Operands) -> Option<Insn> {
     })
 }
 
-/// The forms on numbers, by their lines in the table from 23 on.
+/// The tests of numbers, by their lines in the table, 24 and 25.
+fn testing(form: usize, operation: usize, operands: &Operands) -> Option<Insn> {
+    let test = TESTS.get(operation).copied()?;
+    let (a, b) = (operands.register(0), operands.register(1));
+    let target = operands.label();
+    Some(match form {
+        24 => Insn::If { test, a, b, target },
+        25 => Insn::IfZero { test, a, target },
+        _ => return None,
+    })
+}
+
+/// The operations on numbers, by their lines in the table, 23 and from 33 on.
 fn counting(form: usize, operation: usize, operands: &Operands) -> Option<Insn> {
-    let (a, b, c) = (
-        operands.register(0),
-        operands.register(1),
-        operands.register(2),
-    );
+    let (a, b, c) = operands.three();
     Some(match form {
         23 => Insn::Cmp {
             op: COMPARISONS.get(operation).copied()?,
             to: a,
             a: b,
             b: c,
-        },
-        24 => Insn::If {
-            test: TESTS.get(operation).copied()?,
-            a,
-            b,
-            target: operands.label(),
-        },
-        25 => Insn::IfZero {
-            test: TESTS.get(operation).copied()?,
-            a,
-            target: operands.label(),
         },
         33 => Insn::Unary {
             op: UNARIES.get(operation).copied()?,
@@ -244,11 +246,7 @@ fn counting(form: usize, operation: usize, operands: &Operands) -> Option<Insn> 
 
 /// The forms on items of arrays and fields, by their lines in the table from 26 on.
 fn holding(form: usize, operation: usize, operands: &Operands) -> Option<Insn> {
-    let (a, b, c) = (
-        operands.register(0),
-        operands.register(1),
-        operands.register(2),
-    );
+    let (a, b, c) = operands.three();
     let item = ITEMS.get(operation).copied()?;
     let field = operands.name;
     Some(match form {
@@ -362,6 +360,7 @@ pub fn insn_of(
         21 => switch(alloc, true, operands)?,
         22 => switch(alloc, false, operands)?,
         8..=20 => naming(form, operands),
+        24..=25 => testing(form, operation, operands),
         26..=31 => holding(form, operation, operands),
         32 => match INVOKES.get(operation) {
             Some(kind) => Some(Insn::Invoke {

@@ -117,8 +117,8 @@ fn naming_parts(insn: &Insn) -> Option<Parts> {
     })
 }
 
-/// The parts of forms on items, of calls and of what has a list.
-fn holding_parts(insn: &Insn) -> Parts {
+/// The parts of calls and of what has a list.
+fn listing_parts(insn: &Insn) -> Parts {
     match insn {
         Insn::FilledNewArray { kind, .. } => Parts::new(17, [0, 0, 0], 0).name(*kind),
         Insn::FillArray { on, width, .. } => {
@@ -128,6 +128,16 @@ fn holding_parts(insn: &Insn) -> Parts {
             Parts::new(21, [*on, 0, 0], 1).number(i64::from(*first))
         }
         Insn::SparseSwitch { on, .. } => Parts::new(22, [*on, 0, 0], 1),
+        Insn::Invoke { kind, method, .. } => Parts::new(32, [0, 0, 0], 0)
+            .operation(place(&INVOKES, kind))
+            .name(*method),
+        _ => Parts::new(0, [0, 0, 0], 0),
+    }
+}
+
+/// The parts of forms on items, of calls and of what has a list.
+fn holding_parts(insn: &Insn) -> Parts {
+    match insn {
         Insn::ArrayGet {
             item,
             to,
@@ -162,10 +172,7 @@ fn holding_parts(insn: &Insn) -> Parts {
         Insn::StaticPut { item, from, field } => Parts::new(31, [*from, 0, 0], 1)
             .operation(place(&ITEMS, item))
             .name(*field),
-        Insn::Invoke { kind, method, .. } => Parts::new(32, [0, 0, 0], 0)
-            .operation(place(&INVOKES, kind))
-            .name(*method),
-        _ => Parts::new(0, [0, 0, 0], 0),
+        _ => listing_parts(insn),
     }
 }
 

@@ -1,7 +1,8 @@
-use Rattle.std.specs.Prelude.{map}
-use Rattle.dex_write.specs.Plans.{plan_in}
-use Rattle.dex_write.proofs.Files.{ok_is_written}
+use Rattle.dex_write.proofs.Files.{ok_is_sealed, ok_is_written}
 use Rattle.dex_write.proofs.writer.write_dex.Goals as goal
 
 pub returns-clause-is : goal.returns-clause-is
-returns-clause-is c = ok_is_written c.args.program.now c.in_ok-interner.interner c.in_ok-places.places.items (map plan_in c.in_ok-order.order.items) c.file_for.result c.in_ok-interner.ensures c.in_ok-places.ensures.is (rw (c.numbers.ensures, c.deref.ensures.value) at c.in_ok-order.ensures.are) (rw c.as_slice.ensures.value at c.file_for.ensures.is) c.file_for.ensures.sealed c.file_for.ensures.few c.read_numbers.ensures
+returns-clause-is c = ok_is_written c.args.program.now c.in_ok-interner.interner c.file_in.result c.in_ok-interner.ensures c.read_numbers.ensures c.file_in.ensures
+
+pub returns-clause-sealed : goal.returns-clause-sealed
+returns-clause-sealed c = ok_is_sealed c.args.program.now c.in_ok-interner.interner c.file_in.result c.file_in.ensures

@@ -86,7 +86,7 @@ list_in m (suc (suc zero)) = m.directs
 list_in m (suc (suc (suc zero))) = m.virtuals
 list_in m (suc (suc (suc (suc k)))) = []
 
-same_list : (m : Members) (which : ℕ) → list_of (lists_of m) which ≡ map entry_of (list_in m which)
+pub same_list : (m : Members) (which : ℕ) → list_of (lists_of m) which ≡ map entry_of (list_in m which)
 same_list m zero = refl
 same_list m (suc zero) = refl
 same_list m (suc (suc zero)) = refl

@@ -6,3 +6,4 @@ mod Members
 mod TableParts
 mod ClassParts
 mod Roots
+mod Directories

@@ -138,6 +138,12 @@ module _ (bytes : List ℕ) (q : Program) (left : Budget) (cs : List Class) (fil
   below_table owner m (suc (suc (suc zero))) header size x h e is = let same = once_32 bytes 88 (sizes_in q).methods size sizes.methods (subst (λ n. Is32 bytes n size) e is) in omega (arith, same, h.0)
   below_table owner m (suc (suc (suc (suc k)))) header size x h e is = absurd h
 
+  pub entry_below : (class which place header size : ℕ) (e : Entry) → HasEntry bytes class which place e → IsTableOf which header → HasSize bytes header size → e.number < size
+  entry_below class which place header size e h of_table is_size =
+      let r = entry_read bytes q left cs filled s class which place e h in
+      let less = below_table (record { place = class; kind = r.def.name }) r.read.m which header size r.member.x r.member.suits of_table is_size in
+      subst (λ (y : Entry). y.number < size) r.member.is less
+
   pub has_number : (class data_at which place before at step mid header size : ℕ) (def : Def) → HasDef bytes class def → Leads def.data_at data_at → EntryStands bytes data_at which place before at → IsUlebAt bytes at (step, mid)
       → IsTableOf which header → HasSize bytes header size → size ≤ before + step → ⊥
   has_number class data_at which place before at step mid header size def has leads stands is_step of_table is_size high =

@@ -34,7 +34,10 @@ use Rattle.clean_files.proofs.Classes.{ClassRead, class_of}
 
 -- ---- what was tested
 
-tested : (b : Bool) (e : DexFault) → cond b (Ok tt) (Err e) ≡ Ok tt → b ≡ true
+abbrev passed : Result (Unit {0}) DexFault
+passed = Ok tt
+
+tested : (b : Bool) (e : DexFault) → cond b passed (Err e) ≡ passed → b ≡ true
 tested true e h = refl
 tested false e h = absurd cc
 

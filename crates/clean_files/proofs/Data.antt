@@ -24,16 +24,11 @@ use Rattle.file_laws.specs.Class.{def_of}
 use Rattle.file_laws.specs.ClassData.{entry_of, lists_of, FieldSuits, MethodSuits, AreMembers}
 use Rattle.file_laws.proofs.ClassData.{founds_members}
 use Rattle.spelled_law.proofs.Once.{once_uleb, chain_once}
-use Rattle.spelled_law.proofs.OnceFile.{Once, field_once, method_once, entries_once}
-use Rattle.refused_law.proofs.OnceEntries.{same_def, listed_once, list_of}
+use Rattle.spelled_law.proofs.OnceFile.{Once}
+use Rattle.refused_law.proofs.OnceEntries.{entry_once, same_lists, list_at, counts_of, listed_once, list_of}
 use Rattle.clean_files.proofs.Classes.{ClassRead, class_of, list_in, same_list}
 
 -- ---- entries one behind another
-
-entry_once : (bytes : List ℕ) (which : ℕ) → Once (IsEntryOf bytes which)
-entry_once bytes zero before at at' e f m n same a b = field_once bytes before at at' e f m n same a b
-entry_once bytes (suc zero) before at at' e f m n same a b = field_once bytes before at at' e f m n same a b
-entry_once bytes (suc (suc which)) before at at' e f m n same a b = method_once bytes before at at' e f m n same a b
 
 -- an entry behind these of its list
 record Behind (Is : ℕ → ℕ → Entry → ℕ → Type 0) (before at : ℕ) : Type 0 where
@@ -70,28 +65,6 @@ front_last Is once before before' at at' behind same (x ∷ xs) (f ∷ g ∷ gs)
     let r = front_last Is once x.number f.number a.0 b.0 (ap (λ (y : Entry). y.number) s.entry) s.place xs (g ∷ gs) stop mid place a.2 b.2 (omega (arith, long)) (omega (arith, less)) in
     record { e = r.e; there = r.there; is = r.is }
 
--- lists of the same counts
-same_lists : (bytes counts : List ℕ) (which at at' : ℕ) → at ≡ at' → (xs ys : List (List Entry)) (stop end : ℕ) → length xs ≡ length ys → ListsTo bytes counts which at xs stop → ListsTo bytes counts which at' ys end → stop ≡ end
-same_lists bytes counts which at at' same [] [] stop end l a b = a ∙ same ∙ sym b
-same_lists bytes counts which at at' same [] (y ∷ ys) stop end l a b = absurd cc
-same_lists bytes counts which at at' same (x ∷ xs) [] stop end l a b = absurd cc
-same_lists bytes counts which at at' same (x ∷ xs) (y ∷ ys) stop end l a b =
-    let e = entries_once (IsEntryOf bytes which) (entry_once bytes which) 0 0 at at' refl same x y a.1.0 b.1.0 (a.0 ∙ sym b.0) a.1.1 b.1.1 in
-    same_lists bytes counts (suc which) a.1.0 b.1.0 e.1 xs ys stop end (omega (arith, l)) a.1.2 b.1.2
-
--- a list of class data, behind those before it
-record ListAt (bytes counts : List ℕ) (begin which : ℕ) (es : List Entry) : Type 0 where
-  lists : List (List Entry)
-  many : length lists ≡ which
-  mid : ℕ
-  full : ListsTo bytes counts 0 begin lists mid
-  stop : ℕ
-  entries : EntriesTo (IsEntryOf bytes which) 0 mid es stop
-  long : length es ≡ slice_index counts which
-
-abbrev counts_of : Lists → List ℕ
-counts_of l = length l.statics ∷ length l.instances ∷ length l.directs ∷ length l.virtuals ∷ []
-
 -- the front of entries before one of them
 record Split (Is : ℕ → ℕ → Entry → ℕ → Type 0) (before at k : ℕ) (e : Entry) : Type 0 where
   front : List Entry
@@ -109,29 +82,6 @@ split_at Is before at (x ∷ xs) stop (suc k) e h g =
     record { front = x ∷ r.front; long = ap suc r.long; mid = r.mid; entries = (h.0, h.1, r.entries); stop = r.stop; is = r.is }
 
 module _ (bytes : List ℕ) (at : ℕ) (l : Lists) (stop : ℕ) (h : IsClassData bytes at l stop) where
-  list_at : (which place : ℕ) → place < slice_index (counts_of l) which → ListAt bytes (counts_of l) h.begin which (list_of l which)
-  list_at zero place less = record { lists = []; many = refl; mid = h.begin; full = refl; stop = h.instances_at; entries = h.statics; long = refl }
-  list_at (suc zero) place less = record { lists = l.statics ∷ []; many = refl; mid = h.instances_at; full = (refl, (h.instances_at, h.statics, refl)); stop = h.directs_at; entries = h.instances; long = refl }
-  list_at (suc (suc zero)) place less = record {
-    lists = l.statics ∷ l.instances ∷ [];
-    many = refl;
-    mid = h.directs_at;
-    full = (refl, (h.instances_at, h.statics, (refl, (h.directs_at, h.instances, refl))));
-    stop = h.virtuals_at;
-    entries = h.directs;
-    long = refl;
-  }
-  list_at (suc (suc (suc zero))) place less = record {
-    lists = l.statics ∷ l.instances ∷ l.directs ∷ [];
-    many = refl;
-    mid = h.virtuals_at;
-    full = (refl, (h.instances_at, h.statics, (refl, (h.directs_at, h.instances, (refl, (h.virtuals_at, h.directs, refl))))));
-    stop = stop;
-    entries = h.virtuals;
-    long = refl;
-  }
-  list_at (suc (suc (suc (suc k)))) place less = absurd (omega (arith, less))
-
   has_counts : HasCounts bytes at (counts_of l) h.begin
   has_counts = record { four = refl; are = (h.counts.second, h.counts.statics, (h.counts.third, h.counts.instances, (h.counts.fourth, h.counts.directs, (h.begin, h.counts.virtuals, refl)))) }
 
@@ -146,7 +96,7 @@ module _ (bytes : List ℕ) (at : ℕ) (l : Lists) (stop : ℕ) (h : IsClassData
   pub has_listed : (class which k : ℕ) (def : Def) (e : Entry) → HasDef bytes class def → Leads def.data_at at → slice_get (list_of l which) k ≡ Some e → HasEntry bytes class which k e
   has_listed class which k def e has leads g =
       let inside = list_short which k e g in
-      let mine = list_at which k inside in
+      let mine = list_at bytes at l stop h which k inside in
       let s = split_at (IsEntryOf bytes which) 0 mine.mid (list_of l which) mine.stop k e mine.entries g in
       record {
         def = def;
@@ -184,7 +134,7 @@ module _ (bytes : List ℕ) (at : ℕ) (l : Lists) (stop : ℕ) (h : IsClassData
   found which place before here s =
       let c = chain_once (IsUlebAt bytes) (once_uleb bytes) at at refl s.counts (counts_of l) s.begin h.begin s.has.four s.has.are has_counts.are in
       let inside : place < slice_index (counts_of l) which = subst (λ (ns : List ℕ). place < slice_index ns which) c.0 s.inside in
-      let mine = list_at which place inside in
+      let mine = list_at bytes at l stop h which place inside in
       let mid : s.mid ≡ mine.mid = same_lists bytes (counts_of l) 0 s.begin h.begin c.1 s.lists mine.lists s.mid mine.mid (s.many ∙ sym mine.many)
           (subst (λ (ns : List ℕ). ListsTo bytes ns 0 s.begin s.lists s.mid) c.0 s.full) mine.full in
       let less : length s.front < length (list_of l which) = omega (arith, s.place_is, inside, mine.long) in

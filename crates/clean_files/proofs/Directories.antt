@@ -164,7 +164,7 @@ pair_read : (bytes : List ℕ) (at : ℕ) (d : Directory) → IsDirectory bytes 
     → InList fields methods parameters which i → pair ≡ at + 16 + 8 * i → PairRead bytes at d which pair
 pair_read bytes at d h zero i pair fields methods parameters ef em ep inside e =
     let r = one_pair bytes (at + 16) at 0 d.fields i pair h.fields (omega (arith, ef, inside)) e in
-    record { k = i; on = e; x = r.0; there = r.1; number = r.2; offset = r.3 }
+    record { k = i; on = omega (arith, e); x = r.0; there = r.1; number = r.2; offset = r.3 }
 pair_read bytes at d h (suc zero) i pair fields methods parameters ef em ep inside e =
     let k = i - length d.fields in
     let on : pair ≡ at + 16 + 8 * (length d.fields + k) = omega (arith, e, ef, inside.0) in

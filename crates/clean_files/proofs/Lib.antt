@@ -7,3 +7,4 @@ mod TableParts
 mod ClassParts
 mod Roots
 mod Directories
+mod Values

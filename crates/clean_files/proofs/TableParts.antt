@@ -25,10 +25,11 @@ use Rattle.dex_defs.specs.Spells.{Spells}
 use Rattle.dex_read.specs.File.{classes_at}
 use Rattle.dex_read.specs.declared.members.Budget.{Budget}
 use Rattle.refused_law.proofs.Defs.{half_there}
+use Rattle.refused_law.proofs.Ids.{first_less}
 use Rattle.spelled_law.proofs.Once.{once_16, once_32, uleb_parts, once_uleb}
 use Rattle.clean_files.proofs.Parts.{Good}
 use Rattle.clean_files.proofs.Tables as tables
-use Rattle.clean_files.proofs.Tables.{entry_is, led, ascends_pair, first_less}
+use Rattle.clean_files.proofs.Tables.{entry_is, led, ascends_pair}
 use Rattle.clean_files.proofs.Classes.{class_of}
 
 three_same : (a b c a2 b2 c2 x y z x2 y2 z2 : ℕ) → a ≡ a2 → b ≡ b2 → c ≡ c2 → x ≡ x2 → y ≡ y2 → z ≡ z2 → three_below a b c x y z ≡ true → three_below a2 b2 c2 x2 y2 z2 ≡ true

@@ -38,6 +38,7 @@ use Rattle.dex_defs.specs.Placed.{HasSize}
 use Rattle.dex_defs.specs.Faults.{IsFixed, FileSize, HeaderSize, EndianTag, LinkSize, InHeader, BadMagic, BadField, BadSum, HasText, HasTypeText, shorty_letter, HasLetter, HaveTexts, HasProto, InPools, Descriptor, VoidField, OtherShorty, VoidParameter, HasThree, HasKinds}
 use Rattle.dex_defs.specs.Spells.{Spells, pools_of}
 use Rattle.refused_law.proofs.Failing.{each_at}
+use Rattle.refused_law.proofs.Ids.{same_letter}
 use Rattle.spelled_law.proofs.Once.{two, once_16, once_32, each_once, uleb_parts}
 use Rattle.clean_files.proofs.Parts.{once_text}
 
@@ -94,21 +95,9 @@ types_once bytes m n (suc k) (suc j) xs ys e g a b =
 
 -- ---- letters
 
-same_letter : (text : List ℕ) → letter_of text ≡ shorty_letter text
-same_letter [] = refl
-same_letter (u ∷ us) = refl
-
 void_letter : (text : List ℕ) → first_unit text ≡ 86 → letter_of text ≡ 86
 void_letter [] h = absurd cc
 void_letter (u ∷ us) h = subst (λ n. letter_of (n ∷ us) ≡ 86) (sym h) refl
-
-pub first_less : (a b : ℕ) (rest : Ordering) → is_less (ordering_then (nat_cmp a b) rest) ≡ (ltb a b || ((a == b) && is_less rest))
-first_less a b rest = by_tests (ltb a b) (a == b)
-  where
-    by_tests : (x y : Bool) → is_less (ordering_then (cond x Less (cond y Equal Greater)) rest) ≡ (x || (y && is_less rest))
-    by_tests true y = refl
-    by_tests false true = refl
-    by_tests false false = refl
 
 -- ---- the tables of the program that is read
 

@@ -105,6 +105,13 @@ pub record ClassRead (bytes : List ℕ) (q : Program) (cs : List Class) (class :
   pub is : IsClass bytes (record q { classes = cs }) (sizes_in q) at c
   pub same : is.def ≡ def
 
+-- a class has one class_def
+pub one_def : (bytes : List ℕ) (class : ℕ) (d e : Def) → HasDef bytes class d → HasDef bytes class e → d ≡ e
+one_def bytes class d e h g =
+    let offset = once_32 bytes 100 h.stands.table.offset g.stands.table.offset h.stands.is.offset g.stands.is.offset in
+    let here : h.at ≡ g.at = h.stands.place ∙ ap (λ n. n + 32 * class) offset ∙ sym g.stands.place in
+    def_once bytes g.at d e (subst (λ n. IsDef bytes n d) here h.is) g.is
+
 module _ (bytes : List ℕ) (q : Program) (left : Budget) (cs : List Class) (filled : classes_at bytes q left ≡ Ok cs) (s : Spells bytes (record q { classes = cs })) where
   pub class_of : (class : ℕ) (def : Def) → HasDef bytes class def → ClassRead bytes q cs class def
   class_of class def has =

@@ -18,7 +18,7 @@ use Rattle.dex_pools.specs.declared.scalar.TableSizes.{TableSizes}
 use Rattle.dex_pools.specs.Finds.{Ascends}
 use Rattle.dex_defs.specs.Annotations.{IsMark, IsOffset, IsMarkOf, AreMarks, AreMarksOf, IsSetOf, AreParameterMarks, AreParameterMarksOf, Directory, ArePairs, pair_below, IsDirectory, IsDirectoryOf, offset_for}
 use Rattle.dex_defs.specs.ClassData.{Entry, Lists, IsClassData, IsClassDataOf, no_lists}
-use Rattle.dex_defs.specs.ClassDefs.{Def, IsDef, IsDefined, IsField, AreFields, IsMethod, AreMethods}
+use Rattle.dex_defs.specs.ClassDefs.{Def, IsDefined, IsField, AreFields, IsMethod, AreMethods}
 use Rattle.dex_defs.specs.Parts.{Bytes, IndexOf}
 use Rattle.dex_defs.specs.Places.{HasDef, Leads, HasEntry, HasDirectory, DirectoryCounts, InList, PairStands, PairLeads, ListedAt, HasRefs, HasSet, OfClass, OfField, OfMethod, OfParameter, HasMark}
 use Rattle.dex_defs.specs.Placed.{HasSize}
@@ -31,10 +31,9 @@ use Rattle.refused_law.proofs.Failing.{each_at}
 use Rattle.refused_law.proofs.OnceEntries.{list_of}
 use Rattle.refused_law.proofs.ValueFaults.{AreSizes}
 use Rattle.spelled_law.proofs.Once.{once_32}
-use Rattle.spelled_law.proofs.OnceFile.{def_once}
 use Rattle.clean_files.proofs.Parts.{Good}
-use Rattle.clean_files.proofs.Tables.{entry_is, ascends_pair}
-use Rattle.clean_files.proofs.Classes.{ClassRead, class_of}
+use Rattle.clean_files.proofs.Tables.{ascends_pair}
+use Rattle.clean_files.proofs.Classes.{ClassRead, one_def, class_of}
 use Rattle.clean_files.proofs.Data.{has_listed}
 use Rattle.clean_files.proofs.Members.{entry_below}
 
@@ -212,11 +211,7 @@ module _ (bytes : List ℕ) (q : Program) (left : Budget) (cs : List Class) (fil
       pairs_room base pairs low h = room (λ i (y : ℕ × ℕ). Is32 bytes (base + 8 * i) y.0 × Is32 bytes (base + 8 * i + 4) y.1) (length bytes) base 8 (λ i y g. let inside = g.1.inside in omega (arith, inside)) 0 pairs low h
 
   same_directory : (class at other : ℕ) → HasDirectory bytes class at → HasDirectory bytes class other → at ≡ other
-  same_directory class at other h g =
-      let a = entry_is bytes 96 32 class h.has.at s.table s.stands h.has.stands in
-      let b = entry_is bytes 96 32 class g.has.at s.table s.stands g.has.stands in
-      let same = def_once bytes g.has.at h.def g.def (subst (λ n. IsDef bytes n h.def) (a.1 ∙ sym b.1) h.has.is) g.has.is in
-      h.leads.1 ∙ ap (λ (x : Def). x.annotations) same ∙ sym g.leads.1
+  same_directory class at other h g = h.leads.1 ∙ ap (λ (x : Def). x.annotations) (one_def bytes class h.def g.def h.has g.has) ∙ sym g.leads.1
 
   -- a pair of the directory that is read
   its_pair : (class at : ℕ) (r : DirectoryRead class at) → HasDirectory bytes class at → (which pair : ℕ) → PairStands bytes class which pair → PairRead bytes at r.c.is.directory which pair

@@ -8,3 +8,5 @@ mod ClassParts
 mod Roots
 mod Directories
 mod Values
+mod Firsts
+mod Whole

@@ -16,7 +16,7 @@ use Rattle.program_model.specs.declared.pools.MethodName.{MethodName}
 use Rattle.program_model.specs.declared.program.Class.{Class}
 use Rattle.program_model.specs.declared.program.Program.{Program}
 use Rattle.dex_defs.specs.ClassData.{Entry}
-use Rattle.dex_defs.specs.ClassDefs.{Def, IsDef}
+use Rattle.dex_defs.specs.ClassDefs.{Def}
 use Rattle.dex_defs.specs.Places.{IsEntryAt, HasDef, Leads, IsEntryOf, EntryStands, HasEntry}
 use Rattle.dex_defs.specs.Placed.{HasSize}
 use Rattle.dex_defs.specs.Faults.{HasText}
@@ -31,11 +31,10 @@ use Rattle.dex_read.specs.declared.members.Owner.{Owner}
 use Rattle.dex_read.specs.File.{classes_at}
 use Rattle.file_laws.specs.ClassData.{entry_of, FieldSuits, MethodSuits}
 use Rattle.spelled_law.proofs.Once.{once_16, once_32, once_uleb}
-use Rattle.spelled_law.proofs.OnceFile.{def_once}
 use Rattle.refused_law.proofs.ValueFaults.{AreSizes}
 use Rattle.clean_files.proofs.Tables as tables
 use Rattle.clean_files.proofs.Tables.{entry_is}
-use Rattle.clean_files.proofs.Classes.{list_in}
+use Rattle.clean_files.proofs.Classes.{list_in, one_def}
 use Rattle.clean_files.proofs.Data.{Suits, DataRead, MemberRead, EntryRead, data_of, entry_read, also_read, Standing, standing}
 
 -- ---- a step to a number
@@ -181,18 +180,6 @@ module _ (bytes : List ℕ) (q : Program) (left : Budget) (cs : List Class) (fil
       let same : l.x.class ≡ owner = once_16 bytes (s.pools.tables.methods.offset + 8 * number) l.x.class owner l.is.class.is (subst (λ n. Is16 bytes n owner) here is) in
       sym same ∙ class_number (class_of_method (slice_get q.methods number)) class l.x.class h (ap class_of_method l.there)
 
-  -- one class_def of a class
-  same_name : (class : ℕ) (d e : Def) → HasDef bytes class d → HasDef bytes class e → d.name ≡ e.name
-  same_name class d e h g =
-      let a = entry_is bytes 96 32 class h.at s.table s.stands h.stands in
-      let b = entry_is bytes 96 32 class g.at s.table s.stands g.stands in
-      ap (λ (x : Def). x.name) (def_once bytes g.at d e (subst (λ n. IsDef bytes n d) (a.1 ∙ sym b.1) h.is) g.is)
-
-  by_which : (which : ℕ) → (which < 2) ⊎ (2 ≤ which)
-  by_which zero = inl (omega arith)
-  by_which (suc zero) = inl (omega arith)
-  by_which (suc (suc k)) = inr (omega arith)
-
   its_class : (which number at owner class : ℕ) (m : Members) (place : ℕ) (x : Listed) → IsIdAt bytes which number at → Is16 bytes at owner → x.number ≡ number → Suits q (record { place = place; kind = class }) m which x → owner ≡ class
   its_class zero number at owner class m place x id is e h = field_class number at owner class id is (subst (λ n. is_class_number (class_of_field (slice_get q.fields n)) class ≡ true) e (and_parts _ _ h.1).0)
   its_class (suc zero) number at owner class m place x id is e h = field_class number at owner class id is (subst (λ n. is_class_number (class_of_field (slice_get q.fields n)) class ≡ true) e (and_parts _ _ h.1).0)
@@ -203,7 +190,7 @@ module _ (bytes : List ℕ) (q : Program) (left : Budget) (cs : List Class) (fil
   pub own_class : (class which place at owner : ℕ) (def : Def) (e : Entry) → HasDef bytes class def → HasEntry bytes class which place e → IsIdAt bytes which e.number at → Is16 bytes at owner → owner ≡ def.name
   own_class class which place at owner def e has h id is =
       let r = entry_read bytes q left cs filled s class which place e h in
-      its_class which e.number at owner r.def.name r.read.m class r.member.x id is (ap (λ (y : Entry). y.number) r.member.is) r.member.suits ∙ same_name class r.def def r.has has
+      its_class which e.number at owner r.def.name r.read.m class r.member.x id is (ap (λ (y : Entry). y.number) r.member.is) r.member.suits ∙ ap (λ (d : Def). d.name) (one_def bytes class r.def def r.has has)
 
   pub code_fits : (class which place : ℕ) (e : Entry) → HasEntry bytes class which place e → 2 ≤ which → agree (e.code == 0) (lacks_code e.flags) ≡ true
   code_fits class which place e h method =

@@ -9,4 +9,15 @@ mod Roots
 mod Directories
 mod Values
 mod Firsts
+mod CodeSweep
+mod CodeForms
+mod CodeInsns
+mod CodeChecked
+mod CodeTries
+mod CodeFlows
+mod CodeItems
+mod CodeFrames
+mod CodeMethods
+mod CodeReached
+mod CodeClean
 mod Whole

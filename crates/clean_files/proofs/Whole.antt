@@ -1,5 +1,5 @@
 -- No fault stands in a file that is read.
-use Rattle.std.proofs.Common.{◌≡◌, ◌<◌, ◌≤◌, ℕ, zero, suc, ◌+◌, ◌*◌, Bool, true, false, List, [], length, Ok, refl, sym, ap, subst, ◌∙◌, arith, true≢false}
+use Rattle.std.proofs.Common.{◌≡◌, ◌<◌, ◌≤◌, ◌↔◌, ℕ, zero, suc, ◌+◌, ◌*◌, Bool, true, false, List, [], length, Result, Ok, Err, refl, sym, ap, subst, ◌∙◌, arith, true≢false}
 use Rattle.lemmas.proofs.Bools.{clash}
 use Rattle.program_model.specs.InterfaceRules.{interfaces_stand_free}
 use Rattle.program_model.specs.declared.program.Class.{Class}
@@ -13,7 +13,10 @@ use Rattle.dex_defs.specs.Faults as faults
 use Rattle.dex_defs.specs.ClassFaults as members
 use Rattle.dex_defs.specs.ClassFaults.{HasFault, InMembers, InRoots, InCode, InGraph, DefinedTwice, OwnAncestor, Split}
 use Rattle.dex_defs.specs.Spells.{Spells}
+use Rattle.dex_base.specs.Reading.{Gives}
+use Rattle.dex_read.specs.Faults.{is_free}
 use Rattle.dex_read.specs.Tables.{sizes_in}
+use Rattle.dex_read.specs.declared.fault.DexFault.{DexFault}
 use Rattle.dex_read.specs.declared.members.Budget.{Budget}
 use Rattle.dex_read.specs.File.{head_at, classes_at, program_at}
 use Rattle.read_laws.proofs.Bounds.{AreBytes}
@@ -23,6 +26,8 @@ use Rattle.spelled_law.proofs.Whole.{read_is_spelled}
 use Rattle.refused_code.specs.Faultless.{IsFaultless, is_beyond}
 use Rattle.refused_law.proofs.Read.{sizes_are}
 use Rattle.refused_law.proofs.ValueFaults.{AreSizes}
+use Rattle.past_law.specs.Within.{IsWithin, IsRead}
+use Rattle.past_law.proofs.Within.{reads}
 use Rattle.clean_files.proofs.Parts.{Good, not_bad}
 use Rattle.clean_files.proofs.Tables.{no_header, no_pools}
 use Rattle.clean_files.proofs.TableParts as parts
@@ -32,13 +37,14 @@ use Rattle.clean_files.proofs.Roots as roots
 use Rattle.clean_files.proofs.Directories as directories
 use Rattle.clean_files.proofs.Values as values
 use Rattle.clean_files.proofs.Firsts as firsts
+use Rattle.clean_files.proofs.CodeClean.{frame_inside, units_inside, tries_inside, none_in_code}
 
 -- what is known of the code of a file that is read
-pub record IsCodeGood (bytes : List ℕ) : Type 0 where
-  pub frames : (class which place at : ℕ) (e : Entry) → 2 ≤ which → HasEntry bytes class which place e → Leads e.code at → at + 16 ≤ length bytes
-  pub units : (class at : ℕ) (e : Entry) (f : Frame) → HasFrame bytes class e at f → at + 16 + 2 * f.size ≤ length bytes
-  pub tries : (class at : ℕ) (e : Entry) (f : Frame) → HasFrame bytes class e at f → 0 < f.tries → tries_at at f + 8 * f.tries ≤ length bytes
-  pub none : (fault : Fault) → InCode bytes fault → ⊥
+record IsCodeGood (bytes : List ℕ) : Type 0 where
+  frames : (class which place at : ℕ) (e : Entry) → 2 ≤ which → HasEntry bytes class which place e → Leads e.code at → at + 16 ≤ length bytes
+  units : (class at : ℕ) (e : Entry) (f : Frame) → HasFrame bytes class e at f → at + (16 + 2 * f.size) ≤ length bytes
+  tries : (class at size : ℕ) (e : Entry) (f : Frame) → HasFrame bytes class e at f → at + size ≡ tries_at at f + 8 * f.tries → at + size ≤ length bytes
+  none : (fault : Fault) → InCode bytes fault → ⊥
 
 module _ (bytes : List ℕ) (q : Program) (left : Budget) (cs : List Class) (filled : classes_at bytes q left ≡ Ok cs) (s : Spells bytes (record q { classes = cs })) (sizes : AreSizes bytes (sizes_in q))
     (free : interfaces_stand_free (record q { classes = cs }) ≡ true) (code : IsCodeGood bytes) where
@@ -58,8 +64,8 @@ module _ (bytes : List ℕ) (q : Program) (left : Budget) (cs : List Class) (fil
   classes_good part (placed.EntryCode class data_at which place before at step flags mid next def has leads stands method is also) =
       classes.entry_code bytes q left cs filled s class data_at which place before at step flags mid next def has leads stands method is also
   classes_good part (placed.CodeFrame class which place at e method has leads) = code.frames class which place at e method has leads
-  classes_good part (placed.CodeUnits class at e f has) = let all = code.units class at e f has in omega (arith, all)
-  classes_good part (placed.CodeTries class at size e f has some is) = let all = code.tries class at e f has some in omega (arith, all, is)
+  classes_good part (placed.CodeUnits class at e f has) = code.units class at e f has
+  classes_good part (placed.CodeTries class at size e f has some is) = code.tries class at size e f has is
   classes_good part (placed.ArrayCount class at has) = classes.array_count bytes q left cs filled s class at has
 
   annotations_good : (part : Part) → placed.InAnnotations bytes part → Good bytes part
@@ -135,8 +141,26 @@ module _ (bytes : List ℕ) (q : Program) (left : Budget) (cs : List Class) (fil
   all_beyond f (members.BadCode h) = absurd (code.none f h)
   all_beyond f (members.BadGraph r spells h) = in_graph r f h
 
-pub none_beside : (bytes : List ℕ) → AreBytes bytes → (p : Program) → program_at bytes ≡ Ok p → IsCodeGood bytes → IsFaultless bytes
-none_beside bytes are p read code =
+code_good : (bytes : List ℕ) (are : AreBytes bytes) (p : Program) → program_at bytes ≡ Ok p → IsCodeGood bytes
+code_good bytes are p read = record { frames = frame_inside bytes are p read; units = units_inside bytes are p read; tries = tries_inside bytes are p read; none = none_in_code bytes are p read }
+
+pub no_fault : (bytes : List ℕ) → AreBytes bytes → (p : Program) → program_at bytes ≡ Ok p → IsFaultless bytes
+no_fault bytes are p read =
     let r = is_read bytes p read in
     all_beyond bytes r.tables (record { items = r.left; cells = 0 }) r.classes r.filled (subst (Spells bytes) r.is (read_is_spelled bytes p are read)) (sizes_are bytes are r.tables r.left r.head)
-    (subst (λ x. interfaces_stand_free x ≡ true) r.is (all_stand_free bytes p read)) code
+    (subst (λ x. interfaces_stand_free x ≡ true) r.is (all_stand_free bytes p read)) (code_good bytes are p read)
+
+-- which files are read
+read_faultless : (bytes : List ℕ) → AreBytes bytes → (answer : Result Program DexFault) → program_at bytes ≡ answer → IsRead answer → IsFaultless bytes
+read_faultless bytes are (Ok p) h read = no_fault bytes are p h
+read_faultless bytes are (Err e) h read = absurd read
+
+pub exactly : (bytes : List ℕ) → AreBytes bytes → IsWithin bytes → IsRead (program_at bytes) ↔ IsFaultless bytes
+exactly bytes are within = (λ read. read_faultless bytes are (program_at bytes) refl read, λ none. reads bytes are none within)
+
+pub answered : (bytes : List ℕ) → AreBytes bytes → (p : Program) (result : Result Program DexFault) → Gives is_free (λ program. program) result (program_at bytes) → result ≡ Ok p → IsFaultless bytes
+answered bytes are p result gives is = no_fault bytes are p (given result gives is)
+  where
+    given : (result : Result Program DexFault) → Gives is_free (λ program. program) result (program_at bytes) → result ≡ Ok p → program_at bytes ≡ Ok p
+    given (Ok x) g e = g ∙ e
+    given (Err x) g e = absurd cc

@@ -19,4 +19,4 @@ mod CodeMethods
 mod CodeClasses
 mod Classes
 mod Whole
-mod Within
+pub mod Within

@@ -1,14 +1,13 @@
 -- The parts of classes that are read, and of their members, are good; code is another module's.
 use Rattle.std.proofs.Common.{◌≡◌, ◌<◌, ◌≤◌, ◌⊎◌, inl, inr, ℕ, zero, suc, ◌+◌, ◌*◌, List, length, Option, Some, None, Ok, refl, sym, ap, subst, ◌∙◌, arith}
 use Rattle.dex_base.specs.Leb.{IsUlebAt}
-use Rattle.dex_base.specs.Word.{Is32}
 use Rattle.program_model.specs.declared.program.Class.{Class}
 use Rattle.program_model.specs.declared.program.Program.{Program}
 use Rattle.program_model.specs.declared.value.EncValue.{EncValue}
 use Rattle.dex_pools.specs.declared.scalar.TableSizes.{TableSizes}
 use Rattle.dex_defs.specs.ClassData.{Entry}
-use Rattle.dex_defs.specs.ClassDefs.{Def, none, IsDef, IsSource, IsClass}
-use Rattle.dex_defs.specs.Parts.{Part, Number, IndexOf, IndexOrNone}
+use Rattle.dex_defs.specs.ClassDefs.{Def, IsDef, IsSource, IsClass}
+use Rattle.dex_defs.specs.Parts.{Number, IndexOf, IndexOrNone}
 use Rattle.dex_defs.specs.Places.{IsEntryAt, HasDef, Leads, IsEntryOf, EntryStands, HasArray}
 use Rattle.dex_defs.specs.Placed.{HasSize}
 use Rattle.dex_defs.specs.Spells.{Spells, sizes_in}
@@ -16,14 +15,13 @@ use Rattle.dex_defs.specs.Values.{AreValues, AreValuesOf}
 use Rattle.dex_read.specs.declared.members.Budget.{Budget}
 use Rattle.dex_read.specs.File.{classes_at}
 use Rattle.file_laws.specs.ClassData.{lists_of}
-use Rattle.dex_defs.specs.ClassData.{AreCounts}
-use Rattle.spelled_law.proofs.Once.{once_32, once_uleb, uleb_parts}
+use Rattle.spelled_law.proofs.Once.{once_32, uleb_parts}
 use Rattle.clean_files.proofs.Parts.{Good}
 use Rattle.clean_files.proofs.Tables.{entry_is, listed}
 use Rattle.clean_files.proofs.TableParts as parts
-use Rattle.clean_files.proofs.Classes.{ClassRead, class_of}
-use Rattle.clean_files.proofs.Data.{DataRead, data_of, Standing, standing}
-use Rattle.clean_files.proofs.Members.{StepRead, step_read}
+use Rattle.clean_files.proofs.Classes.{class_of}
+use Rattle.clean_files.proofs.Data.{data_of, standing}
+use Rattle.clean_files.proofs.Members.{step_read}
 
 module _ (bytes : List ℕ) (q : Program) (left : Budget) (cs : List Class) (filled : classes_at bytes q left ≡ Ok cs) (s : Spells bytes (record q { classes = cs })) where
   abbrev p : Program
@@ -91,8 +89,20 @@ module _ (bytes : List ℕ) (q : Program) (left : Budget) (cs : List Class) (fil
   counts_of class def at has leads =
       let d = data_of bytes q left cs filled s class def at has leads in
       let c = d.are.data_is.counts in
-      record { one = length (lists_of d.m).statics; two = length (lists_of d.m).instances; three = length (lists_of d.m).directs; four = length (lists_of d.m).virtuals;
-        second = c.second; third = c.third; fourth = c.fourth; behind = d.are.data_is.begin; is_one = c.statics; is_two = c.instances; is_three = c.directs; is_four = c.virtuals }
+      record {
+        one = length (lists_of d.m).statics;
+        two = length (lists_of d.m).instances;
+        three = length (lists_of d.m).directs;
+        four = length (lists_of d.m).virtuals;
+        second = c.second;
+        third = c.third;
+        fourth = c.fourth;
+        behind = d.are.data_is.begin;
+        is_one = c.statics;
+        is_two = c.instances;
+        is_three = c.directs;
+        is_four = c.virtuals;
+      }
 
   behind_one : (at n mid m i : ℕ) → IsUlebAt bytes at (n, mid) → IsUlebAt bytes at (m, i) → mid ≡ i
   behind_one at n mid m i a b = (uleb_parts bytes at at n m mid i refl a b).1

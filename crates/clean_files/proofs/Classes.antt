@@ -1,35 +1,30 @@
 -- The class that is read where a class_def stands.
-use Rattle.std.proofs.Common.{◌≡◌, ◌<◌, ◌≤◌, ℕ, zero, suc, ◌+◌, ◌*◌, true, false, eqb, List, [], ◌∷◌, map, length, Some, Ok, refl, sym, ap, subst, ◌∙◌, arith}
-use Rattle.std.specs.Prelude.{slice_get, slice_index}
+use Rattle.std.proofs.Common.{◌≡◌, ℕ, zero, suc, ◌+◌, ◌*◌, List, [], ◌∷◌, map, length, Some, Ok, refl, sym, ap, subst, ◌∙◌, arith}
+use Rattle.std.specs.Prelude.{slice_get}
 use Rattle.std.proofs.lemmas.Bool.{eqb-true}
-use Rattle.lemmas.proofs.Options.{some_same, before_map}
-use Rattle.dex_base.specs.Leb.{IsUlebAt}
+use Rattle.lemmas.proofs.Options.{some_same}
 use Rattle.dex_base.specs.Word.{Is32}
 use Rattle.program_model.specs.declared.program.Class.{Class}
 use Rattle.program_model.specs.declared.program.Program.{Program}
 use Rattle.dex_pools.specs.Finds.{RunOf}
-use Rattle.dex_defs.specs.ClassData.{Entry, Lists, EntriesTo, IsClassData}
 use Rattle.dex_defs.specs.ClassDefs.{Def, IsDef, IsClass}
-use Rattle.dex_defs.specs.Places.{HasDef, Leads, IsEntryOf, ListsTo, last_number, EntryStands, HasEntry}
+use Rattle.dex_defs.specs.Places.{HasDef}
 use Rattle.dex_defs.specs.Spells.{Spells, sizes_in}
 use Rattle.dex_read.specs.declared.class_data.Listed.{Listed}
 use Rattle.dex_read.specs.declared.class_data.Members.{Members}
-use Rattle.dex_read.specs.declared.class_defs.ClassDef.{ClassDef}
 use Rattle.dex_read.specs.declared.members.Budget.{Budget}
-use Rattle.dex_read.specs.declared.members.Owner.{Owner}
 use Rattle.dex_read.specs.Classes as classes
 use Rattle.dex_read.specs.File.{class_in, table_at, classes_at}
 use Rattle.code_laws.specs.Founds.{Founds}
 use Rattle.code_laws.proofs.Founding.{known, weaker, done, either, next, founds_run}
-use Rattle.file_laws.specs.Class.{def_of, IsReadDef}
-use Rattle.file_laws.specs.ClassData.{entry_of, lists_of, FieldSuits, MethodSuits, AreMembers}
-use Rattle.file_laws.proofs.ClassData.{founds_members}
+use Rattle.file_laws.specs.Class.{def_of}
+use Rattle.file_laws.specs.ClassData.{entry_of, lists_of}
 use Rattle.file_laws.proofs.Classes.{founds_def}
 use Rattle.file_laws.proofs.Words.{finds_word, finds_need}
 use Rattle.read_laws.proofs.ClassReading.{IsRead, class_read}
-use Rattle.spelled_law.proofs.Once.{once_32, once_uleb, chain_once}
-use Rattle.spelled_law.proofs.OnceFile.{Once, field_once, method_once, entries_once, def_once}
-use Rattle.refused_law.proofs.OnceEntries.{listed_once, list_of}
+use Rattle.spelled_law.proofs.Once.{once_32}
+use Rattle.spelled_law.proofs.OnceFile.{def_once}
+use Rattle.refused_law.proofs.OnceEntries.{list_of}
 use Rattle.clean_files.proofs.Tables.{entry_is, listed}
 
 -- ---- one of a run
@@ -123,7 +118,7 @@ module _ (bytes : List ℕ) (q : Program) (left : Budget) (cs : List Class) (fil
       let here : a.offset + 32 * (0 + class) ≡ has.at = (let zero_on : 0 + class ≡ class = omega arith in ap (λ n. a.offset + 32 * n) zero_on ∙ ap (λ n. n + 32 * class) offset ∙ sym entry.1) in
       let zero_on : 0 + class ≡ class = omega arith in
       let read : classes.class_at bytes q has.at class ran.before ≡ Ok (l.x, ran.behind) = subst (λ n. classes.class_at bytes q n class ran.before ≡ Ok (l.x, ran.behind)) here
-          (subst (λ n. classes.class_at bytes q (a.offset + 32 * (0 + class)) n ran.before ≡ Ok (l.x, ran.behind)) zero_on ran.is) in
+      (subst (λ n. classes.class_at bytes q (a.offset + 32 * (0 + class)) n ran.before ≡ Ok (l.x, ran.behind)) zero_on ran.is) in
       let is_read = (class_read bytes q has.at class ran.before).found (l.x, ran.behind) read in
       let is : IsClass bytes (record q { classes = cs }) (sizes_in q) has.at l.x = subst (λ n. IsClass bytes (record q { classes = cs }) (sizes_in q) n l.x) (sym entry.1) l.is in
       record {

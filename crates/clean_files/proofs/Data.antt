@@ -1,17 +1,17 @@
 -- The class data that is read where a class_def leads, and its entries.
-use Rattle.std.proofs.Common.{◌≡◌, ◌<◌, ◌≤◌, ◌⊎◌, inl, inr, ℕ, zero, suc, ◌+◌, ◌*◌, Bool, true, false, cond, eqb, List, [], ◌∷◌, map, length, Some, Ok, refl, sym, ap, subst, ◌∙◌, arith}
+use Rattle.std.proofs.Common.{◌≡◌, ◌<◌, ◌≤◌, inl, inr, ℕ, zero, suc, Bool, true, false, cond, List, [], ◌∷◌, length, Some, Ok, refl, sym, ap, subst, ◌∙◌, arith}
 use Rattle.std.specs.Prelude.{slice_get, slice_index}
 use Rattle.std.proofs.lemmas.Bool.{ne_eqb}
-use Rattle.lemmas.proofs.Lists.{got_short, get_there, get_map}
+use Rattle.lemmas.proofs.Lists.{got_short, get_map}
 use Rattle.lemmas.proofs.Options.{some_same, before_map}
 use Rattle.std.specs.List.{AllByRecursion}
 use Rattle.dex_base.specs.Leb.{IsUlebAt}
 use Rattle.program_model.specs.declared.program.Class.{Class}
 use Rattle.program_model.specs.declared.program.Program.{Program}
-use Rattle.dex_defs.specs.ClassData.{Entry, Lists, EntriesTo, IsClassData, IsClassDataOf}
+use Rattle.dex_defs.specs.ClassData.{Entry, Lists, EntriesTo, IsClassData}
 use Rattle.dex_defs.specs.ClassDefs.{Def}
 use Rattle.dex_defs.specs.Places.{HasDef, Leads, IsEntryOf, ListsTo, last_number, HasCounts, EntryStands, HasEntry}
-use Rattle.dex_read.specs.Ascending.{Rises, Ascends, AllAscend}
+use Rattle.dex_read.specs.Ascending.{Rises}
 use Rattle.dex_read.specs.declared.class_data.Listed.{Listed}
 use Rattle.dex_read.specs.declared.class_data.Members.{Members}
 use Rattle.dex_read.specs.declared.members.Budget.{Budget}
@@ -20,13 +20,12 @@ use Rattle.dex_read.specs.ClassData.{members_at}
 use Rattle.dex_read.specs.Classes as classes
 use Rattle.dex_read.specs.File.{classes_at}
 use Rattle.dex_defs.specs.Spells.{Spells}
-use Rattle.file_laws.specs.Class.{def_of}
 use Rattle.file_laws.specs.ClassData.{entry_of, lists_of, FieldSuits, MethodSuits, AreMembers}
 use Rattle.file_laws.proofs.ClassData.{founds_members}
 use Rattle.spelled_law.proofs.Once.{once_uleb, chain_once}
 use Rattle.spelled_law.proofs.OnceFile.{Once}
 use Rattle.refused_law.proofs.OnceEntries.{entry_once, same_lists, list_at, counts_of, listed_once, list_of}
-use Rattle.clean_files.proofs.Classes.{ClassRead, class_of, list_in, same_list}
+use Rattle.clean_files.proofs.Classes.{class_of, list_in, same_list}
 
 -- ---- entries one behind another
 
@@ -136,7 +135,7 @@ module _ (bytes : List ℕ) (at : ℕ) (l : Lists) (stop : ℕ) (h : IsClassData
       let inside : place < slice_index (counts_of l) which = subst (λ (ns : List ℕ). place < slice_index ns which) c.0 s.inside in
       let mine = list_at bytes at l stop h which place inside in
       let mid : s.mid ≡ mine.mid = same_lists bytes (counts_of l) 0 s.begin h.begin c.1 s.lists mine.lists s.mid mine.mid (s.many ∙ sym mine.many)
-          (subst (λ (ns : List ℕ). ListsTo bytes ns 0 s.begin s.lists s.mid) c.0 s.full) mine.full in
+      (subst (λ (ns : List ℕ). ListsTo bytes ns 0 s.begin s.lists s.mid) c.0 s.full) mine.full in
       let less : length s.front < length (list_of l which) = omega (arith, s.place_is, inside, mine.long) in
       let b = front_there (IsEntryOf bytes which) (entry_once bytes which) 0 0 mine.mid s.mid refl (sym mid) (list_of l which) s.front mine.stop here mine.entries s.stands less in
       record {

@@ -1,6 +1,6 @@
 -- The directories of annotations of a file that is read, and their sets, are good.
-use Rattle.std.proofs.Common.{◌≡◌, ◌<◌, ◌≤◌, ◌⊎◌, inl, inr, ℕ, zero, suc, ◌+◌, ◌-◌, ◌*◌, Bool, true, false, cond, eqb, ltb, List, [], ◌∷◌, ◌++◌, length, Some, Ok, refl, sym, ap, subst, ◌∙◌, arith, true≢false}
-use Rattle.std.specs.Prelude.{slice_get, ◌||◌, if◌then◌else◌}
+use Rattle.std.proofs.Common.{◌≡◌, ◌<◌, ◌≤◌, ◌⊎◌, inl, inr, ℕ, zero, suc, ◌+◌, ◌-◌, ◌*◌, Bool, true, false, cond, eqb, List, [], ◌∷◌, ◌++◌, length, Some, Ok, refl, sym, ap, subst, ◌∙◌, arith}
+use Rattle.std.specs.Prelude.{slice_get, ◌||◌}
 use Rattle.std.specs.List.{All, list_any}
 use Rattle.std.proofs.lemmas.Bool.{eqb-true, eq-eqb, ltb-true}
 use Rattle.std.proofs.lemmas.List.Elements.{All-head, All-tail}
@@ -16,11 +16,11 @@ use Rattle.program_model.specs.declared.program.Program.{Program}
 use Rattle.program_model.specs.declared.value.Mark.{Mark}
 use Rattle.dex_pools.specs.declared.scalar.TableSizes.{TableSizes}
 use Rattle.dex_pools.specs.Finds.{Ascends}
-use Rattle.dex_defs.specs.Annotations.{IsMark, IsOffset, IsMarkOf, AreMarks, AreMarksOf, IsSetOf, AreParameterMarks, AreParameterMarksOf, Directory, ArePairs, pair_below, IsDirectory, IsDirectoryOf, offset_for}
+use Rattle.dex_defs.specs.Annotations.{IsMark, IsMarkOf, AreMarks, AreMarksOf, IsSetOf, AreParameterMarks, AreParameterMarksOf, Directory, ArePairs, pair_below, IsDirectory, IsDirectoryOf, offset_for}
 use Rattle.dex_defs.specs.ClassData.{Entry, Lists, IsClassData, IsClassDataOf, no_lists}
 use Rattle.dex_defs.specs.ClassDefs.{Def, IsDefined, IsField, AreFields, IsMethod, AreMethods}
 use Rattle.dex_defs.specs.Parts.{Bytes, IndexOf}
-use Rattle.dex_defs.specs.Places.{HasDef, Leads, HasEntry, HasDirectory, DirectoryCounts, InList, PairStands, PairLeads, ListedAt, HasRefs, HasSet, OfClass, OfField, OfMethod, OfParameter, HasMark}
+use Rattle.dex_defs.specs.Places.{HasDef, Leads, HasEntry, HasDirectory, DirectoryCounts, InList, PairStands, ListedAt, HasRefs, HasSet, OfClass, OfField, OfMethod, OfParameter, HasMark}
 use Rattle.dex_defs.specs.Placed.{HasSize}
 use Rattle.dex_defs.specs.ClassFaults.{IsOfKind, IsTableOf}
 use Rattle.dex_defs.specs.Spells.{Spells}
@@ -204,7 +204,7 @@ module _ (bytes : List ℕ) (q : Program) (left : Budget) (cs : List Class) (fil
       let one : at + 16 + 8 * (0 + length d.fields) ≤ length bytes = pairs_room (at + 16) d.fields head r.is.fields in
       let two : at + 16 + 8 * length d.fields + 8 * (0 + length d.methods) ≤ length bytes = pairs_room (at + 16 + 8 * length d.fields) d.methods (omega (arith, one)) r.is.methods in
       let three : at + 16 + 8 * length d.fields + 8 * length d.methods + 8 * (0 + length d.parameters) ≤ length bytes
-        = pairs_room (at + 16 + 8 * length d.fields + 8 * length d.methods) d.parameters (omega (arith, two)) r.is.parameters in
+      = pairs_room (at + 16 + 8 * length d.fields + 8 * length d.methods) d.parameters (omega (arith, two)) r.is.parameters in
       omega (arith, three, ef, em, ep)
     where
       pairs_room : (base : ℕ) (pairs : List (ℕ × ℕ)) → base + 8 * 0 ≤ length bytes → ArePairs bytes base pairs → base + 8 * (0 + length pairs) ≤ length bytes
@@ -347,7 +347,7 @@ module _ (bytes : List ℕ) (q : Program) (left : Budget) (cs : List Class) (fil
       let n = named h.class st.directory r 2 m.k m.x m.there in
       let f = method_of h.class r.def r.c n.which n.k n.e n.there n.of_kind in
       let own : offset_for n.e.number r.c.is.directory.parameters ≡ h.offset = ap (λ i. offset_for i r.c.is.directory.parameters) n.is ∙ own_offset r.c.is.directory.parameters m.k m.x (in_order h.class st.directory r 2) m.there
-        ∙ once_32 bytes (h.pair + 4) m.x.1 h.offset m.offset h.is in
+      ∙ once_32 bytes (h.pair + 4) m.x.1 h.offset m.offset h.is in
       (f.0.parameter_marks, sets_there bytes (sizes_in q) h.offset at f.0.parameter_marks h.leads (subst (λ i. AreParameterMarksOf bytes (sizes_in q) i f.0.parameter_marks) own f.1.parameter_marks))
 
   -- the offset at a place of a list of offsets
@@ -370,7 +370,7 @@ module _ (bytes : List ℕ) (q : Program) (left : Budget) (cs : List Class) (fil
       let n = named h.class st.directory r 0 m.k m.x m.there in
       let f = field_of h.class r.def r.c n.which n.k n.e n.of_kind n.there in
       let own : offset_for n.e.number r.c.is.directory.fields ≡ h.offset = ap (λ i. offset_for i r.c.is.directory.fields) n.is ∙ own_offset r.c.is.directory.fields m.k m.x (in_order h.class st.directory r 0) m.there
-        ∙ once_32 bytes (h.pair + 4) m.x.1 h.offset m.offset h.is in
+      ∙ once_32 bytes (h.pair + 4) m.x.1 h.offset m.offset h.is in
       (f.0.marks, marks_there bytes (sizes_in q) h.offset at f.0.marks h.leads (subst (λ i. AreMarksOf bytes (sizes_in q) i f.0.marks) own f.1.marks))
   set_read at (OfMethod h) =
       let st = h.stands in
@@ -379,7 +379,7 @@ module _ (bytes : List ℕ) (q : Program) (left : Budget) (cs : List Class) (fil
       let n = named h.class st.directory r 1 m.k m.x m.there in
       let f = method_of h.class r.def r.c n.which n.k n.e n.there n.of_kind in
       let own : offset_for n.e.number r.c.is.directory.methods ≡ h.offset = ap (λ i. offset_for i r.c.is.directory.methods) n.is ∙ own_offset r.c.is.directory.methods m.k m.x (in_order h.class st.directory r 1) m.there
-        ∙ once_32 bytes (h.pair + 4) m.x.1 h.offset m.offset h.is in
+      ∙ once_32 bytes (h.pair + 4) m.x.1 h.offset m.offset h.is in
       (f.0.marks, marks_there bytes (sizes_in q) h.offset at f.0.marks h.leads (subst (λ i. AreMarksOf bytes (sizes_in q) i f.0.marks) own f.1.marks))
   set_read at (OfParameter refs i offset has listed leads) =
       let r = refs_read refs has in

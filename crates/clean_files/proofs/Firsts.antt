@@ -1,26 +1,23 @@
 -- The first values of a file that is read are those of static fields, and of their types.
-use Rattle.std.proofs.Common.{◌≡◌, ◌<◌, ◌≤◌, ℕ, zero, suc, ◌+◌, ◌*◌, Bool, true, false, List, [], ◌∷◌, length, Some, Ok, refl, sym, ap, subst, ◌∙◌, arith, true≢false}
+use Rattle.std.proofs.Common.{◌≡◌, ◌<◌, ℕ, zero, suc, ◌+◌, ◌*◌, true, List, [], ◌∷◌, length, Some, Ok, refl, sym, ap, subst, ◌∙◌, arith}
 use Rattle.std.specs.Prelude.{slice_get}
-use Rattle.lemmas.proofs.Bools.{clash}
 use Rattle.lemmas.proofs.Lists.{got_short}
 use Rattle.lemmas.proofs.Options.{some_same}
-use Rattle.dex_base.specs.Leb.{IsUlebAt}
 use Rattle.dex_base.specs.Word.{Is16}
 use Rattle.program_model.specs.MemberRules.{field_letter}
 use Rattle.program_model.specs.Texts.{letter_of}
-use Rattle.program_model.specs.declared.pools.FieldName.{FieldName}
 use Rattle.program_model.specs.declared.program.Class.{Class}
 use Rattle.program_model.specs.declared.program.Field.{Field}
 use Rattle.program_model.specs.declared.program.Program.{Program}
 use Rattle.program_model.specs.declared.value.EncValue.{EncValue, out-EncValue}
 use Rattle.dex_pools.specs.declared.scalar.TableSizes.{TableSizes}
 use Rattle.dex_defs.specs.Annotations.{Directory}
-use Rattle.dex_defs.specs.ClassData.{Entry, Lists, IsClassData, IsClassDataOf, no_lists}
-use Rattle.dex_defs.specs.ClassDefs.{Def, IsField, AreFields}
+use Rattle.dex_defs.specs.ClassData.{Entry, Lists, IsClassData, IsClassDataOf}
+use Rattle.dex_defs.specs.ClassDefs.{Def, AreFields}
 use Rattle.dex_defs.specs.Faults.{HasFieldLetter, HasStatics, NoData, Counted}
 use Rattle.dex_defs.specs.Places.{HasDef, Leads, HasEntry, HasArray, IsItemOf}
 use Rattle.dex_defs.specs.Spells.{Spells}
-use Rattle.dex_defs.specs.Values.{tag_at, HasTag, IsValue, suits, tag_of, is_of, letter_of_field, AreFirsts}
+use Rattle.dex_defs.specs.Values.{tag_at, IsValue, suits, tag_of, is_of, letter_of_field, AreFirsts}
 use Rattle.dex_read.specs.Tables.{sizes_in}
 use Rattle.dex_read.specs.declared.members.Budget.{Budget}
 use Rattle.dex_read.specs.File.{classes_at}

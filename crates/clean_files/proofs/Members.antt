@@ -1,17 +1,14 @@
 -- The members of a file that is read have no fault.
-use Rattle.std.proofs.Common.{◌≡◌, ◌<◌, ◌≤◌, ◌⊎◌, inl, inr, ℕ, zero, suc, ◌+◌, ◌*◌, Bool, true, false, cond, not, eqb, ltb, List, [], ◌∷◌, ◌++◌, length, min, Option, Some, None, Ok, refl, sym, ap, subst, ◌∙◌, arith, true≢false}
-use Rattle.std.specs.Prelude.{slice_get, is_none, ◌||◌, ◌&&◌, ◌==◌}
+use Rattle.std.proofs.Common.{◌≡◌, ◌<◌, ◌≤◌, ℕ, zero, suc, ◌+◌, ◌*◌, Bool, true, false, cond, not, eqb, List, [], ◌∷◌, Option, Some, None, Ok, refl, sym, ap, subst, ◌∙◌, arith, true≢false}
+use Rattle.std.specs.Prelude.{slice_get, is_none, ◌||◌, ◌==◌}
 use Rattle.std.specs.Option.{option_map}
-use Rattle.std.proofs.Math.Nat.{min-le_left}
 use Rattle.std.proofs.lemmas.Bool.{eqb-true, eq-eqb}
-use Rattle.lemmas.proofs.Bools.{and_parts, clash, not_true}
-use Rattle.lemmas.proofs.Lists.{got_short}
+use Rattle.lemmas.proofs.Bools.{and_parts}
 use Rattle.lemmas.proofs.Options.{some_same}
 use Rattle.dex_base.specs.Leb.{IsUlebAt}
 use Rattle.dex_base.specs.Word.{Is16, Is32}
 use Rattle.program_model.specs.Texts.{first_unit, string_text}
 use Rattle.program_model.specs.MemberRules.{is_static, is_private, class_of_field, class_of_method, is_class_number, name_of_method}
-use Rattle.program_model.specs.declared.pools.FieldName.{FieldName}
 use Rattle.program_model.specs.declared.pools.MethodName.{MethodName}
 use Rattle.program_model.specs.declared.program.Class.{Class}
 use Rattle.program_model.specs.declared.program.Program.{Program}
@@ -20,22 +17,21 @@ use Rattle.dex_defs.specs.ClassDefs.{Def}
 use Rattle.dex_defs.specs.Places.{IsEntryAt, HasDef, Leads, IsEntryOf, EntryStands, HasEntry}
 use Rattle.dex_defs.specs.Placed.{HasSize}
 use Rattle.dex_defs.specs.Faults.{HasText}
-use Rattle.dex_defs.specs.ClassFaults.{lacks_code, has_bit, IsIdAt, suits_list, IsPartner, IsTableOf}
+use Rattle.dex_defs.specs.ClassFaults.{lacks_code, IsIdAt, suits_list, IsPartner, IsTableOf}
 use Rattle.dex_defs.specs.Spells.{Spells}
-use Rattle.dex_read.specs.ClassData.{place_in, agree, field_suits, method_suits, is_direct_entry}
+use Rattle.dex_read.specs.ClassData.{place_in, agree, is_direct_entry}
 use Rattle.dex_read.specs.Tables.{sizes_in}
 use Rattle.dex_read.specs.declared.class_data.Listed.{Listed}
 use Rattle.dex_read.specs.declared.class_data.Members.{Members}
 use Rattle.dex_read.specs.declared.members.Budget.{Budget}
 use Rattle.dex_read.specs.declared.members.Owner.{Owner}
 use Rattle.dex_read.specs.File.{classes_at}
-use Rattle.file_laws.specs.ClassData.{entry_of, FieldSuits, MethodSuits}
 use Rattle.spelled_law.proofs.Once.{once_16, once_32, once_uleb}
 use Rattle.refused_law.proofs.ValueFaults.{AreSizes}
 use Rattle.clean_files.proofs.Tables as tables
 use Rattle.clean_files.proofs.Tables.{entry_is}
-use Rattle.clean_files.proofs.Classes.{list_in, one_def}
-use Rattle.clean_files.proofs.Data.{Suits, DataRead, MemberRead, EntryRead, data_of, entry_read, also_read, Standing, standing}
+use Rattle.clean_files.proofs.Classes.{one_def}
+use Rattle.clean_files.proofs.Data.{Suits, data_of, entry_read, also_read, standing}
 
 -- ---- a step to a number
 

@@ -1,8 +1,8 @@
 -- A part that is good where it is placed is not bad.
-use Rattle.std.proofs.Common.{◌≡◌, ◌<◌, ◌≤◌, ◌⊎◌, inl, inr, ℕ, ◌+◌, List, length, Some, sym, ap, subst, ◌∙◌, arith}
+use Rattle.std.proofs.Common.{◌≡◌, ◌<◌, ◌≤◌, ◌⊎◌, inl, inr, ℕ, ◌+◌, List, length, sym, ap, ◌∙◌, arith}
 use Rattle.dex_base.specs.declared.fault.BaseFault.{BaseFault}
 use Rattle.dex_base.specs.Leb.{IsUlebAt}
-use Rattle.dex_base.specs.Mutf8.{IsTextAt, text_at}
+use Rattle.dex_base.specs.Mutf8.{IsTextAt}
 use Rattle.dex_base.specs.Word.{Is16, Is32}
 use Rattle.dex_base.proofs.Decides.{ok_is}
 use Rattle.dex_base.proofs.LebReading.{is_uleb}

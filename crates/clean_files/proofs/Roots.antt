@@ -1,8 +1,8 @@
 -- A class that is read has the types that it may have, and stands on what it may stand on.
-use Rattle.std.proofs.Common.{◌≡◌, ◌<◌, ◌≤◌, ◌⊎◌, inl, inr, ℕ, zero, suc, ◌+◌, ◌*◌, Bool, true, false, cond, not, eqb, List, [], ◌∷◌, length, Some, Result, Ok, Err, refl, sym, ap, subst, ◌∙◌, arith, true≢false}
-use Rattle.std.specs.Prelude.{slice_get, codes, ◌&&◌, ◌||◌, ◌==◌}
+use Rattle.std.proofs.Common.{◌≡◌, ◌<◌, ℕ, ◌+◌, ◌*◌, Bool, true, false, cond, not, eqb, List, length, Some, Result, Ok, Err, refl, sym, ap, subst, ◌∙◌, arith}
+use Rattle.std.specs.Prelude.{slice_get, codes, ◌&&◌, ◌||◌}
 use Rattle.std.specs.Cmp.Lexicographic.{bytes_decides}
-use Rattle.std.specs.List.{list_all, list_any}
+use Rattle.std.specs.List.{list_all}
 use Rattle.std.proofs.lemmas.Bool.{eqb-true, eq-eqb}
 use Rattle.lemmas.proofs.Bools.{and_parts, and_both, clash, not_true}
 use Rattle.lemmas.proofs.Lists.{get_there, all_at, any_at}
@@ -24,7 +24,6 @@ use Rattle.dex_read.specs.declared.fault.DexFault.TheVariants.{Root}
 use Rattle.dex_read.specs.declared.members.Budget.{Budget}
 use Rattle.dex_read.specs.Classes.{is_class_type, root_at}
 use Rattle.dex_read.specs.File.{classes_at}
-use Rattle.file_laws.specs.Class.{def_of}
 use Rattle.file_laws.proofs.Classes.{founds_interfaces}
 use Rattle.refused_law.proofs.Defs.{half_there}
 use Rattle.spelled_law.proofs.Once.{once_16, once_32}

@@ -1,5 +1,5 @@
 -- The parts of the tables of a file that is read are good, and their entries ascend.
-use Rattle.std.proofs.Common.{◌≡◌, ◌<◌, ◌≤◌, ◌⊎◌, inl, inr, ℕ, zero, suc, ◌+◌, ◌*◌, ltb, List, [], ◌∷◌, length, Some, Ok, sym, ap, subst, ◌∙◌, arith, true≢false, true}
+use Rattle.std.proofs.Common.{◌≡◌, ◌<◌, ◌≤◌, ℕ, suc, ◌+◌, ◌*◌, ltb, List, ◌∷◌, length, Some, Ok, sym, subst, ◌∙◌, arith, true}
 use Rattle.std.specs.Prelude.{slice_get}
 use Rattle.std.specs.Ordering.{nat_cmp}
 use Rattle.std.specs.Cmp.Lexicographic.{slice_cmp}
@@ -8,16 +8,15 @@ use Rattle.lemmas.proofs.Lists.{get_there}
 use Rattle.dex_base.specs.Leb.{IsUlebAt}
 use Rattle.dex_base.specs.Mutf8.{IsTextAt}
 use Rattle.dex_base.specs.Word.{Is16, Is32}
-use Rattle.program_model.specs.declared.pools.Proto.{Proto}
 use Rattle.program_model.specs.declared.program.Class.{Class}
 use Rattle.program_model.specs.declared.program.Program.{Program}
 use Rattle.dex_pools.specs.declared.header.Extent.{Extent}
 use Rattle.dex_pools.specs.declared.header.Extents.{Extents}
 use Rattle.dex_pools.specs.Order.{list_below, three_below, proto_below, field_below, method_below}
-use Rattle.dex_pools.specs.Spelled.{IsExtent, AreExtents, IsHalfIndex, IsTypeList, AreParameters}
+use Rattle.dex_pools.specs.Spelled.{IsExtent, AreExtents, IsTypeList, AreParameters}
 use Rattle.dex_defs.specs.ClassDefs.{Def}
-use Rattle.dex_defs.specs.Parts.{Part, Bytes, Number, Units, IndexOf, HalfIndexOf}
-use Rattle.dex_defs.specs.Places.{IsTable, IsEntryAt, HasDef, Leads}
+use Rattle.dex_defs.specs.Parts.{Part, Units, IndexOf, HalfIndexOf}
+use Rattle.dex_defs.specs.Places.{IsTable, IsEntryAt}
 use Rattle.dex_defs.specs.Placed.{HasSize, HasTypeList, OfProto, OfClass, IsTableAt, InTables, TheHeader, TheTable, StringCount, StringText, TypeString, ProtoShorty, ProtoResult, FieldClass, FieldType, FieldText, MethodClass, MethodProto, MethodText, ListCount, ListWhole, ListEntry}
 use Rattle.dex_defs.specs.Placed as placed
 use Rattle.dex_defs.specs.Faults.{HasText, HasThree, HasKinds}
@@ -26,7 +25,7 @@ use Rattle.dex_read.specs.File.{classes_at}
 use Rattle.dex_read.specs.declared.members.Budget.{Budget}
 use Rattle.refused_law.proofs.Defs.{half_there}
 use Rattle.refused_law.proofs.Ids.{first_less}
-use Rattle.spelled_law.proofs.Once.{once_16, once_32, uleb_parts, once_uleb}
+use Rattle.spelled_law.proofs.Once.{once_16, once_32, once_uleb}
 use Rattle.clean_files.proofs.Parts.{Good}
 use Rattle.clean_files.proofs.Tables as tables
 use Rattle.clean_files.proofs.Tables.{entry_is, led, ascends_pair}

@@ -1,19 +1,14 @@
 -- The header and the tables of a file that is read have no fault.
-use Rattle.std.proofs.Common.{◌≡◌, ◌<◌, ◌≤◌, ℕ, zero, suc, ◌+◌, ◌*◌, Bool, true, false, cond, ltb, List, [], ◌∷◌, map, length, take, drop, Some, refl, sym, ap, subst, ◌∙◌, arith, true≢false}
-use Rattle.std.specs.Prelude.{◌==◌, ◌&&◌, ◌||◌, slice_get, slice_index}
-use Rattle.std.specs.Ordering.{nat_cmp, ordering_then}
-use Rattle.std.specs.Cmp.Lexicographic.{slice_cmp}
-use Rattle.std.specs.declared.cmp.Ordering.{Ordering}
-use Rattle.std.specs.declared.cmp.Ordering.TheVariants.{Less, Equal, Greater}
-use Rattle.std.proofs.lemmas.Bool.{ltb-true, eqb-true}
+use Rattle.std.proofs.Common.{◌≡◌, ◌<◌, ℕ, zero, suc, ◌+◌, ◌*◌, Bool, true, false, cond, List, [], ◌∷◌, map, length, drop, Some, refl, sym, ap, subst, ◌∙◌, arith, true≢false}
+use Rattle.std.specs.Prelude.{◌==◌, slice_get, slice_index}
+use Rattle.std.proofs.lemmas.Bool.{eqb-true}
 use Rattle.std.proofs.lemmas.Option.{get_or_from_slice_get}
 use Rattle.lemmas.proofs.Bools.{and_parts}
-use Rattle.lemmas.proofs.Lists.{got_short, get_there, got_map}
+use Rattle.lemmas.proofs.Lists.{get_there, got_map}
 use Rattle.lemmas.proofs.Options.{some_same}
 use Rattle.dex_base.specs.Adler.{adler_of}
 use Rattle.dex_base.specs.Decides.{Entries}
 use Rattle.dex_base.specs.Grammar.{BadDescriptorIn}
-use Rattle.dex_base.specs.Leb.{IsUlebAt}
 use Rattle.dex_base.specs.Mutf8.{IsTextAt}
 use Rattle.dex_base.specs.Word.{Is16, Is32}
 use Rattle.dex_base.specs.declared.fault.BaseFault.TheVariants as base
@@ -21,22 +16,19 @@ use Rattle.dex_base.proofs.DescriptorReading.{is_descriptor}
 use Rattle.program_model.specs.Texts.{first_unit, string_text, text_or_none, type_text}
 use Rattle.program_model.specs.Texts as texts
 use Rattle.program_model.specs.declared.pools.Proto.{Proto}
-use Rattle.program_model.specs.declared.pools.FieldName.{FieldName}
-use Rattle.program_model.specs.declared.pools.MethodName.{MethodName}
 use Rattle.program_model.specs.declared.program.Program.{Program}
 use Rattle.program_model.specs.declared.program.Version.{Version}
 use Rattle.dex_pools.specs.declared.header.Extent.{Extent}
 use Rattle.dex_pools.specs.declared.header.Extents.{Extents}
 use Rattle.dex_pools.specs.Finds.{Ascends}
-use Rattle.dex_pools.specs.Order.{is_less, list_below, three_below}
-use Rattle.dex_pools.specs.Spelled.{IsExtent, AreExtents, IsString, IsType, IsHalfIndex, IsTypeList, AreParameters, IsProto, IsField, IsMethod, SpellsPools}
+use Rattle.dex_pools.specs.Spelled.{IsExtent, AreExtents, IsString, IsType, IsHalfIndex, IsTypeList, AreParameters, IsProto, IsField, IsMethod}
 use Rattle.dex_pools.specs.Tables.{text_of, letter_of, letters_of, spells_all, spells_shorty}
 use Rattle.dex_defs.specs.Header.{IsHeader}
-use Rattle.dex_defs.specs.Parts.{Fault, Part}
-use Rattle.dex_defs.specs.Places.{IsTable, IsEntryAt, Leads}
+use Rattle.dex_defs.specs.Parts.{Fault}
+use Rattle.dex_defs.specs.Places.{IsEntryAt, Leads}
 use Rattle.dex_defs.specs.Placed.{HasSize}
-use Rattle.dex_defs.specs.Faults.{IsFixed, FileSize, HeaderSize, EndianTag, LinkSize, InHeader, BadMagic, BadField, BadSum, HasText, HasTypeText, shorty_letter, HasLetter, HaveTexts, HasProto, InPools, Descriptor, VoidField, OtherShorty, VoidParameter, HasThree, HasKinds}
-use Rattle.dex_defs.specs.Spells.{Spells, pools_of}
+use Rattle.dex_defs.specs.Faults.{IsFixed, FileSize, HeaderSize, EndianTag, LinkSize, InHeader, BadMagic, BadField, BadSum, HasText, HasTypeText, shorty_letter, HasLetter, HaveTexts, InPools, Descriptor, VoidField, OtherShorty, VoidParameter}
+use Rattle.dex_defs.specs.Spells.{Spells}
 use Rattle.refused_law.proofs.Failing.{each_at}
 use Rattle.refused_law.proofs.Ids.{same_letter}
 use Rattle.spelled_law.proofs.Once.{two, once_16, once_32, each_once, uleb_parts}
@@ -257,12 +249,12 @@ module _ (bytes : List ℕ) (p : Program) (s : Spells bytes p) where
       let same : k.proto.shorty ≡ string = once_32 bytes (t.protos.offset + 12 * i) k.proto.shorty string k.is.shorty.is (subst (λ n. Is32 bytes n string) at is_string) in
       let text = text_read string begin shorty has in
       let spelled : spells_shorty letters shorty proto.kind proto.kinds ≡ true =
-        subst (λ x. spells_shorty letters x proto.kind proto.kinds ≡ true) (ap (text_of p.strings) same ∙ text.text_is)
-        (subst (λ x. spells_shorty letters (text_of p.strings k.proto.shorty) proto.kind x ≡ true) k.kinds_are
-        (subst (λ x. spells_shorty letters (text_of p.strings k.proto.shorty) x k.proto.parameters ≡ true) k.result_is k.is.spelled)) in
+      subst (λ x. spells_shorty letters x proto.kind proto.kinds ≡ true) (ap (text_of p.strings) same ∙ text.text_is)
+      (subst (λ x. spells_shorty letters (text_of p.strings k.proto.shorty) proto.kind x ≡ true) k.kinds_are
+      (subst (λ x. spells_shorty letters (text_of p.strings k.proto.shorty) x k.proto.parameters ≡ true) k.result_is k.is.spelled)) in
       unlike (shorty_spelled shorty proto.kind proto.kinds result parameters spelled (type_read proto.kind proto.begin result proto.is_result) proto.texts)
   no_pools f (VoidParameter i entry k result text parameters e proto there void is) =
       let r = kinds_read i entry proto.kind proto.offset proto.size proto.kinds e proto.is_kind proto.is_offset proto.is_size proto.are_kinds in
       let spelled : spells_shorty letters (text_of p.strings r.proto.shorty) r.proto.result proto.kinds ≡ true =
-        subst (λ x. spells_shorty letters (text_of p.strings r.proto.shorty) r.proto.result x ≡ true) r.kinds_are r.is.spelled in
+      subst (λ x. spells_shorty letters (text_of p.strings r.proto.shorty) r.proto.result x ≡ true) r.kinds_are r.is.spelled in
       rest_void (text_of p.strings r.proto.shorty) r.proto.result proto.kinds parameters k text spelled proto.texts there void

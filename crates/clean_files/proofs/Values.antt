@@ -1,9 +1,8 @@
 -- Where a value that is read ends is one place, and each value and annotation that stands in a file that is read was read.
-use Rattle.std.proofs.Common.{◌≡◌, ◌<◌, ◌≤◌, ◌⊎◌, inl, inr, ℕ, zero, suc, ◌+◌, ◌*◌, Bool, true, false, ltb, List, [], ◌∷◌, length, take, drop, Some, Ok, refl, sym, ap, subst, ◌∙◌, arith, true≢false}
-use Rattle.std.specs.Prelude.{slice_get, ◌==◌}
+use Rattle.std.proofs.Common.{◌≡◌, ◌<◌, ◌≤◌, ℕ, zero, suc, ◌+◌, List, [], ◌∷◌, length, take, drop, Some, Ok, refl, sym, ap, subst, ◌∙◌, arith}
+use Rattle.std.specs.Prelude.{slice_get}
 use Rattle.std.specs.Int.{w32, from_le_bytes}
 use Rattle.std.proofs.lemmas.Bool.{ltb-true}
-use Rattle.lemmas.proofs.Options.{some_same}
 use Rattle.dex_base.specs.Decides.{ChainOf}
 use Rattle.dex_base.specs.Leb.{IsUlebAt}
 use Rattle.dex_base.specs.Word.{Is32}
@@ -12,12 +11,12 @@ use Rattle.program_model.specs.declared.program.Program.{Program}
 use Rattle.program_model.specs.declared.value.Element.{Element}
 use Rattle.program_model.specs.declared.value.EncValue.{EncValue}
 use Rattle.program_model.specs.declared.value.Mark.{Mark}
-use Rattle.program_model.specs.declared.value.Note.{Note, Note-F, roll-Note, out-Note, out-roll-Note}
+use Rattle.program_model.specs.declared.value.Note.{Note, Note-F, out-Note, out-roll-Note}
 use Rattle.dex_pools.specs.declared.scalar.TableSizes.{TableSizes}
 use Rattle.dex_pools.specs.Marks.{mark_below}
-use Rattle.dex_pools.specs.Value.{most_argument, is_within, size_for, zero_extended, element_below}
-use Rattle.dex_defs.specs.Annotations.{IsMark, AreMarks}
-use Rattle.dex_defs.specs.Parts.{Part, Bytes, Number, NumberIndexOf}
+use Rattle.dex_pools.specs.Value.{size_for, element_below}
+use Rattle.dex_defs.specs.Annotations.{IsMark}
+use Rattle.dex_defs.specs.Parts.{Part}
 use Rattle.dex_defs.specs.Places.{Leads, Repeat, ElementEnds, NoteBegins, EndsWith, EndsIn, ElementStands, IsElementOf, IsItemOf, Item, IsInside, OfArray, OfNote, HasOuter, First, OfMark, HasValue, HasArray, HasMark, HasSet, ListedAt}
 use Rattle.dex_defs.specs.Places as places
 use Rattle.dex_defs.specs.Placed.{HasSize, HasNote, ValueTag, ValueBytes, ItemCount, NoteType, NoteIndex, NoteCount, ElementText, ElementIndex}
@@ -31,7 +30,7 @@ use Rattle.dex_read.specs.Tables.{sizes_in}
 use Rattle.dex_read.specs.declared.members.Budget.{Budget}
 use Rattle.dex_read.specs.File.{classes_at}
 use Rattle.refused_law.proofs.ValueFaults.{AreSizes}
-use Rattle.spelled_law.proofs.Once.{once_32, once_uleb, uleb_parts}
+use Rattle.spelled_law.proofs.Once.{once_32, uleb_parts}
 use Rattle.clean_files.proofs.Parts.{Good}
 use Rattle.clean_files.proofs.Tables.{ascends_pair}
 use Rattle.clean_files.proofs.Classes.{ClassRead, class_of}
@@ -142,7 +141,7 @@ module _ (bytes : List ℕ) (sizes : TableSizes) where
       let c = uleb_parts bytes note note h.class e.begins.kind h.mid e.begins.mid refl h.is_class e.begins.is_kind in
       let n = uleb_parts bytes h.mid e.begins.mid (length h.elements) e.count h.begin e.begin c.1 h.count e.begins.is_count in
       let g = chain_at (IsElement bytes sizes (IsValue bytes sizes k)) (ElementEnds bytes (places.Ends bytes)) (element_agrees (IsValue bytes sizes k) (places.Ends bytes) (ends_agree k)) h.begin e.begin n.1 h.elements place r.1 at
-          (omega (arith, e.inside, n.0)) h.are e.behind in
+      (omega (arith, e.inside, n.0)) h.are e.behind in
       record { e = g.x; there = g.there; stop = g.stop; is = g.is }
 
   -- a value that is read so deep

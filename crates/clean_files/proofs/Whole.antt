@@ -1,12 +1,11 @@
 -- No fault stands in a file that is read.
-use Rattle.std.proofs.Common.{◌≡◌, ◌<◌, ◌≤◌, ◌↔◌, ℕ, zero, suc, ◌+◌, ◌*◌, Bool, true, false, List, [], length, Result, Ok, Err, refl, sym, ap, subst, ◌∙◌, arith, true≢false}
-use Rattle.lemmas.proofs.Bools.{clash}
+use Rattle.std.proofs.Common.{◌≡◌, ◌≤◌, ◌↔◌, ℕ, ◌+◌, ◌*◌, true, List, length, Result, Ok, Err, refl, sym, ap, subst, ◌∙◌, arith, true≢false}
 use Rattle.program_model.specs.InterfaceRules.{interfaces_stand_free}
 use Rattle.program_model.specs.declared.program.Class.{Class}
 use Rattle.program_model.specs.declared.program.Program.{Program}
 use Rattle.dex_defs.specs.ClassData.{Entry}
 use Rattle.dex_defs.specs.CodeItems.{Frame, tries_at}
-use Rattle.dex_defs.specs.Parts.{Fault, Part, Cycle, Twice, SplitOverride}
+use Rattle.dex_defs.specs.Parts.{Fault, Part}
 use Rattle.dex_defs.specs.Places.{Leads, HasEntry, HasFrame}
 use Rattle.dex_defs.specs.Placed as placed
 use Rattle.dex_defs.specs.Faults as faults
@@ -18,7 +17,7 @@ use Rattle.dex_read.specs.Faults.{is_free}
 use Rattle.dex_read.specs.Tables.{sizes_in}
 use Rattle.dex_read.specs.declared.fault.DexFault.{DexFault}
 use Rattle.dex_read.specs.declared.members.Budget.{Budget}
-use Rattle.dex_read.specs.File.{head_at, classes_at, program_at}
+use Rattle.dex_read.specs.File.{classes_at, program_at}
 use Rattle.read_laws.proofs.Bounds.{AreBytes}
 use Rattle.read_laws.proofs.Interfaces.{all_stand_free}
 use Rattle.read_laws.proofs.Told.{is_read}

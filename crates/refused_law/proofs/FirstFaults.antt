@@ -125,11 +125,11 @@ name_chain kind false false false false high low ea eb ec ed =
 name_tag : (kind n : ℕ) → 23 ≤ kind → kind < 28 → tag_of (out-EncValue (naming kind n)) ≡ kind
 name_tag kind n high low = name_tags n (kind == 23) (kind == 24) (kind == 25) (kind == 26) ∙ name_chain kind (kind == 23) (kind == 24) (kind == 25) (kind == 26) high low refl refl refl refl
 
-record HasType (bytes : List ℕ) (at : ℕ) (v : EncValue) : Type 0 where
-  has : HasTag bytes at
-  is : tag_of (out-EncValue v) ≡ tag_at bytes at
+pub record HasType (bytes : List ℕ) (at : ℕ) (v : EncValue) : Type 0 where
+  pub has : HasTag bytes at
+  pub is : tag_of (out-EncValue v) ≡ tag_at bytes at
 
-value_type : (bytes : List ℕ) (sizes : TableSizes) (Is : ℕ → EncValue × ℕ → Type 0) (at : ℕ) (r : EncValue × ℕ) → IsValueIn bytes sizes Is at r → HasType bytes at r.0
+pub value_type : (bytes : List ℕ) (sizes : TableSizes) (Is : ℕ → EncValue × ℕ → Type 0) (at : ℕ) (r : EncValue × ℕ) → IsValueIn bytes sizes Is at r → HasType bytes at r.0
 value_type bytes sizes Is at r (defs.Number few tag low h is) = record { has = tag; is = ap (λ (x : EncValue × ℕ). tag_of (out-EncValue x.0)) is ∙ number_tag (tag_at bytes at) (argument_at bytes at) few low tag.1 }
 value_type bytes sizes Is at r (defs.Name few tag high low h below is) = record { has = tag; is = ap (λ (x : EncValue × ℕ). tag_of (out-EncValue x.0)) is ∙ name_tag (tag_at bytes at) (zero_extended w32 few) high low }
 value_type bytes sizes Is at r (defs.Array items stop tag e h is) = record { has = tag; is = ap (λ (x : EncValue × ℕ). tag_of (out-EncValue x.0)) is ∙ layer_tag (layer.Array items) (value.Array items) (value.rolls-Array items) ∙ sym e }

@@ -80,7 +80,7 @@ module _ (bytes : List ℕ) (at size : ℕ) (has : HasTypeList bytes at) (is_siz
 
 -- ---- letters
 
-same_letter : (text : List ℕ) → letter_of text ≡ shorty_letter text
+pub same_letter : (text : List ℕ) → letter_of text ≡ shorty_letter text
 same_letter [] = refl
 same_letter (u ∷ us) = refl
 
@@ -127,7 +127,7 @@ spells_none letters (u ∷ us) (kind ∷ kinds) h = by_first (u == slice_index l
 
 -- ---- protos, fields and methods
 
-first_less : (a b : ℕ) (rest : Ordering) → is_less (ordering_then (nat_cmp a b) rest) ≡ (ltb a b || ((a == b) && is_less rest))
+pub first_less : (a b : ℕ) (rest : Ordering) → is_less (ordering_then (nat_cmp a b) rest) ≡ (ltb a b || ((a == b) && is_less rest))
 first_less a b rest = by_tests (ltb a b) (a == b)
   where
     by_tests : (x y : Bool) → is_less (ordering_then (cond x Less (cond y Equal Greater)) rest) ≡ (x || (y && is_less rest))

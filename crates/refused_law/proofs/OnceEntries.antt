@@ -8,7 +8,7 @@ use Rattle.dex_defs.specs.Places.{HasDef, IsEntryOf, last_number, ListsTo, HasEn
 use Rattle.spelled_law.proofs.Once.{once_32, once_uleb, chain_once}
 use Rattle.spelled_law.proofs.OnceFile.{Once, field_once, method_once, entries_once, def_once}
 
-entry_once : (bytes : List ℕ) (which : ℕ) → Once (IsEntryOf bytes which)
+pub entry_once : (bytes : List ℕ) (which : ℕ) → Once (IsEntryOf bytes which)
 entry_once bytes zero before at at' e f m n same a b = field_once bytes before at at' e f m n same a b
 entry_once bytes (suc zero) before at at' e f m n same a b = field_once bytes before at at' e f m n same a b
 entry_once bytes (suc (suc which)) before at at' e f m n same a b = method_once bytes before at at' e f m n same a b
@@ -24,7 +24,7 @@ behind_front Is once before before' at at' behind same (x ∷ xs) (f ∷ fs) sto
     behind_front Is once x.number f.number a.0 b.0 (ap (λ (y : Entry). y.number) s.entry) s.place xs fs stop mid e end a.2 b.2 i (omega (arith, less))
 
 -- lists of the same counts
-same_lists : (bytes counts : List ℕ) (which at at' : ℕ) → at ≡ at' → (xs ys : List (List Entry)) (stop end : ℕ) → length xs ≡ length ys → ListsTo bytes counts which at xs stop → ListsTo bytes counts which at' ys end → stop ≡ end
+pub same_lists : (bytes counts : List ℕ) (which at at' : ℕ) → at ≡ at' → (xs ys : List (List Entry)) (stop end : ℕ) → length xs ≡ length ys → ListsTo bytes counts which at xs stop → ListsTo bytes counts which at' ys end → stop ≡ end
 same_lists bytes counts which at at' same [] [] stop end l a b = a ∙ same ∙ sym b
 same_lists bytes counts which at at' same [] (y ∷ ys) stop end l a b = absurd cc
 same_lists bytes counts which at at' same (x ∷ xs) [] stop end l a b = absurd cc
@@ -40,14 +40,14 @@ same_def bytes class which place def e has x =
     def_once bytes has.at x.def def (subst (λ (n : ℕ). IsDef bytes n x.def) here x.has.is) has.is
 
 -- a list of class data, behind those before it
-record ListAt (bytes counts : List ℕ) (begin which : ℕ) (es : List Entry) : Type 0 where
-  lists : List (List Entry)
-  many : length lists ≡ which
-  mid : ℕ
-  full : ListsTo bytes counts 0 begin lists mid
-  stop : ℕ
-  entries : EntriesTo (IsEntryOf bytes which) 0 mid es stop
-  long : length es ≡ slice_index counts which
+pub record ListAt (bytes counts : List ℕ) (begin which : ℕ) (es : List Entry) : Type 0 where
+  pub lists : List (List Entry)
+  pub many : length lists ≡ which
+  pub mid : ℕ
+  pub full : ListsTo bytes counts 0 begin lists mid
+  pub stop : ℕ
+  pub entries : EntriesTo (IsEntryOf bytes which) 0 mid es stop
+  pub long : length es ≡ slice_index counts which
 
 abbrev pub list_of : Lists → ℕ → List Entry
 list_of l zero = l.statics
@@ -56,11 +56,11 @@ list_of l (suc (suc zero)) = l.directs
 list_of l (suc (suc (suc zero))) = l.virtuals
 list_of l (suc (suc (suc (suc k)))) = []
 
-abbrev counts_of : Lists → List ℕ
+abbrev pub counts_of : Lists → List ℕ
 counts_of l = length l.statics ∷ length l.instances ∷ length l.directs ∷ length l.virtuals ∷ []
 
 module _ (bytes : List ℕ) (at : ℕ) (l : Lists) (stop : ℕ) (h : IsClassData bytes at l stop) where
-  list_at : (which place : ℕ) → place < slice_index (counts_of l) which → ListAt bytes (counts_of l) h.begin which (list_of l which)
+  pub list_at : (which place : ℕ) → place < slice_index (counts_of l) which → ListAt bytes (counts_of l) h.begin which (list_of l which)
   list_at zero place less = record { lists = []; many = refl; mid = h.begin; full = refl; stop = h.instances_at; entries = h.statics; long = refl }
   list_at (suc zero) place less = record { lists = l.statics ∷ []; many = refl; mid = h.instances_at; full = (refl, (h.instances_at, h.statics, refl)); stop = h.directs_at; entries = h.instances; long = refl }
   list_at (suc (suc zero)) place less = record {

@@ -20,4 +20,4 @@ mod CodeFrames
 mod CodeMethods
 mod CodeReached
 mod CodeClean
-mod Whole
+pub mod Whole

@@ -27,6 +27,7 @@ use Rattle.refused_law.proofs.Read.{sizes_are}
 use Rattle.refused_law.proofs.ValueFaults.{AreSizes}
 use Rattle.past_law.specs.Within.{IsWithin, IsRead}
 use Rattle.past_law.proofs.Within.{reads}
+use Rattle.clean_files.specs.OfGraph.{IsOfGraph}
 use Rattle.clean_files.proofs.Parts.{Good, not_bad}
 use Rattle.clean_files.proofs.Tables.{no_header, no_pools}
 use Rattle.clean_files.proofs.TableParts as parts
@@ -124,30 +125,34 @@ module _ (bytes : List ℕ) (q : Program) (left : Budget) (cs : List Class) (fil
   none_in_roots f (members.OnPlain class def has interface plain is) = roots.not_on_plain bytes q left cs filled s free class def has interface plain
   none_in_roots f (members.ListsPlain class at i kind count def has interface leads is_count less is_kind plain is) = roots.no_plain_listed bytes q left cs filled s free class at i kind count def has interface leads is_count less is_kind plain
 
-  in_graph : (r : Program) (f : Fault) → InGraph r f → is_beyond f ≡ true
-  in_graph r f (DefinedTwice class h is) = ap is_beyond is
-  in_graph r f (OwnAncestor class h is) = ap is_beyond is
-  in_graph r f (Split class method h is) = ap is_beyond is
-
-  all_beyond : IsFaultless bytes
-  all_beyond f (members.BadPart part h bad) = absurd (not_bad bytes part f (part_good part h) bad)
-  all_beyond f (members.BadHeader h) = absurd (no_header bytes q.version s.header f h)
-  all_beyond f (members.BadPools h) = absurd (no_pools bytes p s f h)
-  all_beyond f (members.BadOrder h) = absurd (none_out_of_order f h)
-  all_beyond f (members.BadValues h) = absurd (none_in_values f h)
-  all_beyond f (members.BadMember h) = absurd (none_in_members f h)
-  all_beyond f (members.BadRoot h) = absurd (none_in_roots f h)
-  all_beyond f (members.BadCode h) = absurd (code.none f h)
-  all_beyond f (members.BadGraph r spells h) = in_graph r f h
+  all_of_graph : (f : Fault) → HasFault bytes f → IsOfGraph bytes f
+  all_of_graph f (members.BadPart part h bad) = absurd (not_bad bytes part f (part_good part h) bad)
+  all_of_graph f (members.BadHeader h) = absurd (no_header bytes q.version s.header f h)
+  all_of_graph f (members.BadPools h) = absurd (no_pools bytes p s f h)
+  all_of_graph f (members.BadOrder h) = absurd (none_out_of_order f h)
+  all_of_graph f (members.BadValues h) = absurd (none_in_values f h)
+  all_of_graph f (members.BadMember h) = absurd (none_in_members f h)
+  all_of_graph f (members.BadRoot h) = absurd (none_in_roots f h)
+  all_of_graph f (members.BadCode h) = absurd (code.none f h)
+  all_of_graph f (members.BadGraph r spells h) = record { program = r; spells = spells; stands = h }
 
 code_good : (bytes : List ℕ) (are : AreBytes bytes) (p : Program) → program_at bytes ≡ Ok p → IsCodeGood bytes
 code_good bytes are p read = record { frames = frame_inside bytes are p read; units = units_inside bytes are p read; tries = tries_inside bytes are p read; none = none_in_code bytes are p read }
 
-pub no_fault : (bytes : List ℕ) → AreBytes bytes → (p : Program) → program_at bytes ≡ Ok p → IsFaultless bytes
-no_fault bytes are p read =
+-- what stands in a file that is read is of the class graph
+pub only_graph : (bytes : List ℕ) → AreBytes bytes → (p : Program) → program_at bytes ≡ Ok p → (f : Fault) → HasFault bytes f → IsOfGraph bytes f
+only_graph bytes are p read =
     let r = is_read bytes p read in
-    all_beyond bytes r.tables (record { items = r.left; cells = 0 }) r.classes r.filled (subst (Spells bytes) r.is (read_is_spelled bytes p are read)) (sizes_are bytes are r.tables r.left r.head)
+    all_of_graph bytes r.tables (record { items = r.left; cells = 0 }) r.classes r.filled (subst (Spells bytes) r.is (read_is_spelled bytes p are read)) (sizes_are bytes are r.tables r.left r.head)
     (subst (λ x. interfaces_stand_free x ≡ true) r.is (all_stand_free bytes p read)) (code_good bytes are p read)
+
+in_graph : (r : Program) (f : Fault) → InGraph r f → is_beyond f ≡ true
+in_graph r f (DefinedTwice class h is) = ap is_beyond is
+in_graph r f (OwnAncestor class h is) = ap is_beyond is
+in_graph r f (Split class method h is) = ap is_beyond is
+
+pub no_fault : (bytes : List ℕ) → AreBytes bytes → (p : Program) → program_at bytes ≡ Ok p → IsFaultless bytes
+no_fault bytes are p read f h = let o = only_graph bytes are p read f h in in_graph o.program f o.stands
 
 -- which files are read
 read_faultless : (bytes : List ℕ) → AreBytes bytes → (answer : Result Program DexFault) → program_at bytes ≡ answer → IsRead answer → IsFaultless bytes

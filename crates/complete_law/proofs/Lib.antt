@@ -1,4 +1,5 @@
 pub mod Files
 pub mod Completing
 pub mod Standing
+pub mod Sound
 pub mod Least

@@ -1,20 +1,24 @@
 -- What a run that is refused says of its inputs: the fault that it tells stands in one of them, and the quantity that it tells passes
--- its limit there.
-use Rattle.std.specs.Prelude.{◌≡◌, ◌⊎◌, ◌<◌, ℕ, true, List, [], ◌∷◌, slice_index, Some}
+-- its limit there. And what a run says that is not refused: no fault stands in what it fetched.
+use Rattle.std.specs.Prelude.{◌≡◌, ◌⊎◌, ◌<◌, ◌≤◌, ℕ, true, List, [], ◌∷◌, length, slice_index, Some}
 use Rattle.command_line.specs.Spelling.{Spells as SpellsCommand}
 use Rattle.command_line.specs.declared.command.CommandWords.{CommandWords}
+use Rattle.dalvik_defs.specs.Naming.{named}
 use Rattle.dex_defs.specs.Parts as parts
+use Rattle.dex_defs.specs.Parts.{Fault}
 use Rattle.dex_defs.specs.ClassFaults.{HasFault}
 use Rattle.dex_defs.specs.Limits.{IsPast}
 use Rattle.dex_defs.specs.Spells.{Spells}
 use Rattle.hierarchy.specs.declared.fault.HierarchyFault.{HierarchyFault}
 use Rattle.hierarchy.specs.declared.fault.HierarchyFault.TheVariants as classes
+use Rattle.pass_defs.specs.Typed.{IsTyped}
+use Rattle.program_model.specs.Limits.{limit_of}
 use Rattle.program_model.specs.declared.limits.LimitFault.{LimitFault}
 use Rattle.program_model.specs.declared.program.Program.{Program}
 use Rattle.redex_cli.specs.Accepted.{IsTypeCause}
-use Rattle.redex_cli.specs.Commands.{Fetch, fetches}
+use Rattle.redex_cli.specs.Commands.{Fetch, counted_as, fetches}
 use Rattle.redex_cli.specs.Fetching.{PassesByOne}
-use Rattle.redex_cli.specs.Files.{RulesCause}
+use Rattle.redex_cli.specs.Files.{AreRules, IsPlay, RulesCause}
 use Rattle.redex_cli.specs.Refusals.{LineFault}
 use Rattle.redex_cli.specs.declared.fetching.Kind.{Kind}
 use Rattle.redex_cli.specs.declared.fetching.Kind.TheVariants as kind
@@ -23,6 +27,7 @@ use Rattle.redex_cli.specs.declared.status.InputFault.TheVariants as input
 use Rattle.redex_cli.specs.declared.status.Status.{Status}
 use Rattle.redex_cli.specs.declared.status.Status.TheVariants.{BadRules, BadDex, Limit, BadScript}
 use Rattle.redex_outside.specs.Held.{Held}
+use Rattle.refused_code.specs.Faultless.{IsFaultless}
 use Rattle.refused_law.specs.Just.{IsJust}
 use Rattle.verify.specs.declared.fault.TypeFault.{TypeFault}
 
@@ -102,3 +107,30 @@ IsTold words held (BadDex fault) = Says words held (BadDex fault)
 IsTold words held (Limit fault) = Says words held (Limit fault)
 IsTold words held (BadScript line) = Says words held (BadScript line)
 IsTold words held status = Unit {0}
+
+-- ---- what a run that isn't refused says
+
+-- no fault stands in the bytes, and the program that they spell is typed by names
+pub record IsSound (bytes : List ℕ) : Type 0 where
+  pub faultless : (fault : Fault) → HasFault bytes fault → ⊥
+  pub program : Program
+  pub spells : Spells bytes program
+  pub typed : IsTyped (named program)
+
+-- Rules are spelled, in a file no fault stands, in a library none but those of its class graph, and a script spells a play.
+abbrev pub IsSoundAs : Kind → List ℕ → Type 0
+IsSoundAs kind.Rules bytes = AreRules bytes
+IsSoundAs kind.File bytes = IsSound bytes
+IsSoundAs kind.Library bytes = IsFaultless bytes
+IsSoundAs kind.Script bytes = IsPlay bytes
+
+-- The name holds such bytes, and no more of them than a fetch takes.
+pub record HoldsSound (held : Held) (fetch : Fetch) : Type 0 where
+  pub bytes : List ℕ
+  pub there : held fetch.name ≡ Some bytes
+  pub within : length bytes ≤ limit_of (counted_as fetch.kind)
+  pub sound : IsSoundAs fetch.kind bytes
+
+abbrev pub AllSound : Held → List Fetch → Type 0
+AllSound held [] = Unit {0}
+AllSound held (fetch ∷ later) = HoldsSound held fetch × AllSound held later

@@ -7,7 +7,11 @@ ghost use Rattle.redex_cli.specs.Fetching.{Failures};
 ghost use Rattle.redex_cli.specs.declared.status.Status.{Status};
 ghost use Rattle.dex_defs.specs.Examples.{empty_file};
 ghost use Rattle.complete_law.specs.Complete.{AreGood, EndsGood, IsGoodFile};
-ghost use Rattle.complete_law.specs.Standing.{AreBytes, IsTold};
+ghost use Rattle.complete_law.specs.Standing.{AllSound, AreBytes, IsTold};
+ghost use Rattle.command_line.specs.Spelling.{Spells};
+ghost use Rattle.command_line.specs.declared.command.CommandWords.{CommandWords};
+ghost use Rattle.redex_cli.specs.Commands.{fetches};
+ghost use Rattle.redex_cli.specs.Refusals.{ReadsAll};
 
 /// Words that spell a command which has something fetched, rules without a fault, files without one whose programs are typed,
 /// a library without one, a good script, each within its limit of bytes, and no count that rose, end a run as `Done`, for want of
@@ -32,4 +36,11 @@ pub fn told()
     ensures { (words : List (List ℕ)) (held : Held) (fetches_old fetches_new puts_old puts_new : Failures) (notes_old notes_new : ℕ) (status : Status)
         → AreBytes held → Caused words true held fetches_old fetches_new puts_old puts_new notes_old notes_new status
         → IsTold words held status }
+{}
+
+/// In what a run has fetched that is not refused no fault stands, where names hold bytes: the rules are spelled, the file has no fault and
+/// what it spells is typed, the library has none but of its class graph, the script spells a play, and each keeps its limit of bytes.
+/// The premise is what `run` says where it has a result (`read` of `GivesFor`), of a shelf that tells what it holds.
+pub fn sound()
+    ensures { (words : List (List ℕ)) (held : Held) → AreBytes held → ReadsAll words held → (command : CommandWords) → Spells words command → AllSound held (fetches command) }
 {}

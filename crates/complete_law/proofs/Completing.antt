@@ -40,7 +40,7 @@ module _ (held : Held) where
   rules_cause [] all fault is h = all
   rules_cause (fetch ∷ later) all fault is h = none_bad_rules (fetch ∷ later) all fault is h
 
-  all_of : (names : List Fetch) → GoodFetches held names → AllGood held names
+  pub all_of : (names : List Fetch) → GoodFetches held names → AllGood held names
   all_of [] all = tt
   all_of (fetch ∷ later) all = all
 
@@ -134,7 +134,7 @@ module _ (held : Held) where
   limit_past names all fault (inr h) = file_past names all fault (h.file refl)
 
 -- the words spell one command
-its_fetches : (words : List (List ℕ)) (held : Held) (good : AreGood words held) (command : CommandWords) → Spells words command → GoodFetches held (fetches command)
+pub its_fetches : (words : List (List ℕ)) (held : Held) (good : AreGood words held) (command : CommandWords) → Spells words command → GoodFetches held (fetches command)
 its_fetches words held good command spelled = subst (λ (c : CommandWords). GoodFetches held (fetches c)) (some_same good.command command (sym (spells-again words good.command good.spelled) ∙ spells-again words command spelled)) good.good
 
 pub completes : (words : List (List ℕ)) (held : Held) (fetches_old fetches_new puts_old puts_new : Failures) (notes_old notes_new : ℕ) (status : Status)

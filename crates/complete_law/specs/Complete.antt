@@ -10,6 +10,7 @@ use Rattle.dex_read.specs.File.{program_at}
 use Rattle.dex_read.specs.declared.fault.DexFault.TheVariants as dex
 use Rattle.if_text.specs.Faults.{IsIfFault}
 use Rattle.pass_defs.specs.Typed.{IsTyped}
+use Rattle.past_law.specs.Within.{IsWithin}
 use Rattle.program_model.specs.Limits.{limit_of}
 use Rattle.program_model.specs.declared.limits.LimitFault.{LimitFault}
 use Rattle.program_model.specs.declared.program.Program.{Program}
@@ -101,3 +102,18 @@ EndsGood words held fetches_old fetches_new puts_old puts_new notes_old notes_ne
 EndsGood words held fetches_old fetches_new puts_old puts_new notes_old notes_new WriteFault = CouldNotPut words true held puts_old puts_new ⊎ CouldNotSay words true held notes_old notes_new
 EndsGood words held fetches_old fetches_new puts_old puts_new notes_old notes_new (Limit fault) = PassesOne words held fault
 EndsGood words held fetches_old fetches_new puts_old puts_new notes_old notes_new status = ⊥
+
+-- ---- and within all limits
+
+-- The bytes under the name pass no limit inside, where it is fetched as a file or as a library.
+abbrev pub IsInside : Held → Fetch → Type 0
+IsInside held fetch = (fetch.kind ≡ kind.File) ⊎ (fetch.kind ≡ kind.Library) → (bytes : List ℕ) → held fetch.name ≡ Some bytes → IsWithin bytes
+
+abbrev pub AllInside : Held → List Fetch → Type 0
+AllInside held [] = Unit {0}
+AllInside held (fetch ∷ later) = IsInside held fetch × AllInside held later
+
+-- the same ends but for a passed limit
+abbrev pub EndsWithin : List (List ℕ) → Held → Failures → Failures → Failures → Failures → ℕ → ℕ → Status → Type 0
+EndsWithin words held fetches_old fetches_new puts_old puts_new notes_old notes_new (Limit fault) = ⊥
+EndsWithin words held fetches_old fetches_new puts_old puts_new notes_old notes_new status = EndsGood words held fetches_old fetches_new puts_old puts_new notes_old notes_new status

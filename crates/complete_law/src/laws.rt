@@ -6,7 +6,7 @@ ghost use Rattle.redex_cli.specs.Ends.{Caused};
 ghost use Rattle.redex_cli.specs.Fetching.{Failures};
 ghost use Rattle.redex_cli.specs.declared.status.Status.{Status};
 ghost use Rattle.dex_defs.specs.Examples.{empty_file};
-ghost use Rattle.complete_law.specs.Complete.{AreGood, EndsGood, IsGoodFile};
+ghost use Rattle.complete_law.specs.Complete.{AllInside, AreGood, EndsGood, EndsWithin, IsGoodFile};
 ghost use Rattle.complete_law.specs.Standing.{AllSound, AreBytes, IsTold};
 ghost use Rattle.command_line.specs.Spelling.{Spells};
 ghost use Rattle.command_line.specs.declared.command.CommandWords.{CommandWords};
@@ -21,6 +21,15 @@ pub fn complete()
     ensures { (words : List (List ℕ)) (held : Held) (fetches_old fetches_new puts_old puts_new : Failures) (notes_old notes_new : ℕ) (status : Status)
         → AreGood words held → Caused words true held fetches_old fetches_new puts_old puts_new notes_old notes_new status
         → EndsGood words held fetches_old fetches_new puts_old puts_new notes_old notes_new status }
+{}
+
+/// Where the files and the library pass no limit inside either, such a run ends as `Done`, for want of memory or where a count rose, and
+/// at no limit.
+pub fn complete_within()
+    ensures { (words : List (List ℕ)) (held : Held) (fetches_old fetches_new puts_old puts_new : Failures) (notes_old notes_new : ℕ) (status : Status)
+        → AreGood words held → ((command : CommandWords) → Spells words command → AllInside held (fetches command))
+        → Caused words true held fetches_old fetches_new puts_old puts_new notes_old notes_new status
+        → EndsWithin words held fetches_old fetches_new puts_old puts_new notes_old notes_new status }
 {}
 
 /// There are good files: the 140 bytes of the program of nothing are one.

@@ -1,5 +1,5 @@
 -- The first word of a rule or an option, and the words behind it.
-use Rattle.std.proofs.Common.{◌≡◌, ◌⊎◌, inl, inr, ◌<◌, ◌≤◌, ◌+◌, ℕ, zero, suc, Bool, true, false, not, ◌&&◌, ◌||◌, if◌then◌else◌, nat_eq, map, drop, length, List, [], ◌∷◌, ◌++◌, Option, Some, None, refl, sym, ap, subst, ◌∙◌, codes, arith}
+use Rattle.std.proofs.Common.{◌≡◌, inl, inr, ◌<◌, ◌+◌, ℕ, zero, suc, true, not, ◌||◌, nat_eq, map, drop, length, List, [], ◌∷◌, ◌++◌, Some, refl, sym, ap, subst, ◌∙◌, arith}
 use Rattle.std.specs.List.{list_all}
 use Rattle.std.proofs.lemmas.List.{append_cancel_right, length-map}
 use Rattle.rule_text.specs.Tokens.{Word}
@@ -8,7 +8,7 @@ use Rattle.rule_text.specs.Spelling.{setting_word, keep_word, is_long, begins_op
 use Rattle.rule_text.specs.Halts.{is_known, IsRefusedEntry}
 use Rattle.rule_text.specs.Steps.{first_word, words_at}
 use Rattle.rule_text.specs.ReadEntries.{behind}
-use Rattle.rule_text.specs.Places.{Place, Between, BehindKeep, BeforeClass, InHead, next_place, follow, is_final, from_option}
+use Rattle.rule_text.specs.Places.{Place, Between, BehindKeep, BeforeClass, InHead, follow, from_option}
 use Rattle.rule_text.specs.Refusals.{IsRefused, EndsWhole}
 use Rattle.rule_text.specs.declared.rules.KeepKind.{KeepKind}
 use Rattle.rule_text.specs.declared.rules.KeepKind.TheVariants as keep
@@ -155,7 +155,7 @@ entries_same e f rest tokens at next ise isf begun mine theirs w =
     let first : entry_word f ≡ entry_word e = sym (first_entry f rest) ∙ ap first_word (sym mine ∙ theirs) ∙ first_entry e (words_at tokens next) in
     let more : words_in f ++ rest ≡ words_in e ++ words_at tokens next = sym (behind_entry f rest) ∙ ap behind (sym mine ∙ theirs) ∙ behind_entry e (words_at tokens next) in
     let both : (words_in f ≡ words_in e) × (rest ≡ words_at tokens next) = same_end (place_first e) (words_in f) rest (words_in e) (words_at tokens next)
-        (entry_stretch f (place_first e) rest isf (ap from_option first ∙ entry_from e) begun) (entry_ends e (place_first e) tokens at next ise (entry_from e) theirs w) more in
+    (entry_stretch f (place_first e) rest isf (ap from_option first ∙ entry_from e) begun) (entry_ends e (place_first e) tokens at next ise (entry_from e) theirs w) more in
     (entry_split f ∙ ap (λ x. x ∷ words_in f) first ∙ ap (λ xs. entry_word e ∷ xs) both.0 ∙ sym (entry_split e), both.1)
 
 -- None is refused.

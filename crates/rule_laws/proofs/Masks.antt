@@ -1,7 +1,7 @@
 -- Words with names in place of those with references: what begins a rule or an option begins it as before.
-use Rattle.std.proofs.Common.{◌≡◌, ℕ, zero, suc, Bool, true, false, not, ◌&&◌, ◌||◌, if◌then◌else◌, nat_eq, map, drop, length, List, [], ◌∷◌, ◌++◌, refl, sym, ap, subst, ◌∙◌, codes, arith}
+use Rattle.std.proofs.Common.{◌≡◌, ℕ, suc, Bool, true, false, not, ◌&&◌, if◌then◌else◌, nat_eq, map, drop, length, List, [], ◌∷◌, ◌++◌, refl, sym, ap, subst, ◌∙◌, codes, arith}
 use Rattle.std.specs.List.{flat_map, list_all, list_any}
-use Rattle.std.proofs.lemmas.List.{append_cancel_right, drop-map, length-map}
+use Rattle.std.proofs.lemmas.List.{drop-map}
 use Rattle.rule_text.specs.Tokens.{Word}
 use Rattle.rule_text.specs.Rules.{Entry, Setting, Keep, Assume}
 use Rattle.rule_text.specs.Spelling.{setting_word, keep_word, begins_option, entry_words}
@@ -15,7 +15,7 @@ use Rattle.rule_text.specs.declared.rules.SettingName.TheVariants as setting
 use Rattle.rule_text.specs.declared.token.Token.{Token as Lexed}
 use Rattle.rule_text.proofs.PlaceLemmas.{first_true, second_true, not_true, clash, entry_word, words_in, entry_split, entry_option}
 use Rattle.if_text.specs.Faults.{AreMasked}
-use Rattle.if_text.specs.Items.{Item, Plain, If, if_word, item_words}
+use Rattle.if_text.specs.Items.{Item, Plain, If, item_words}
 use Rattle.if_text.specs.Parts.{is_digit, parts_from, is_reference, has_reference, masked, stand_in}
 use Rattle.if_text.specs.declared.parts.Part.TheVariants.{Byte}
 use Rattle.rule_laws.proofs.Stretches.{begins}

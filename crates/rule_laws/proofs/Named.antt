@@ -1,6 +1,6 @@
 -- The words of a class specification tell what a reference may name of it.
-use Rattle.std.proofs.Common.{◌≡◌, ◌+◌, ℕ, zero, suc, Bool, true, false, not, ◌&&◌, ◌||◌, if◌then◌else◌, nat_eq, map, List, [], ◌∷◌, ◌++◌, Option, Some, None, refl, sym, ap, subst, ◌∙◌, codes, eqb-true, arith}
-use Rattle.std.specs.List.{list_all, list_any, flat_map}
+use Rattle.std.proofs.Common.{◌≡◌, ◌+◌, ℕ, Bool, true, false, not, ◌&&◌, ◌||◌, if◌then◌else◌, nat_eq, List, [], ◌∷◌, ◌++◌, Option, Some, None, refl, sym, ap, ◌∙◌, codes, eqb-true, arith}
+use Rattle.std.specs.List.{list_all, flat_map}
 use Rattle.std.specs.Cmp.Lexicographic.{bytes_decides}
 use Rattle.std.proofs.lemmas.List.{append-nil, append_assoc, append_cancel_right}
 use Rattle.rule_text.specs.Tokens.{Word}
@@ -408,9 +408,9 @@ same_line m n ism isn is =
     let whatm : is_what m.what ≡ true = second_true (list_all is_member_condition m.conditions) (is_what m.what) ism in
     let whatn : is_what n.what ≡ true = second_true (list_all is_member_condition n.conditions) (is_what n.what) isn in
     let two : (flat_map condition_words m.conditions ≡ flat_map condition_words n.conditions) × (what_words m.what ≡ what_words n.what) = front_split is_conditional (flat_map condition_words m.conditions) (flat_map condition_words n.conditions) (what_words m.what) (what_words n.what)
-        (all_each is_conditional condition_words is_member_condition condition_conditional m.conditions (first_true (list_all is_member_condition m.conditions) (is_what m.what) ism))
-        (all_each is_conditional condition_words is_member_condition condition_conditional n.conditions (first_true (list_all is_member_condition n.conditions) (is_what n.what) isn))
-        (what_plain m.what whatm) (what_plain n.what whatn) is in
+    (all_each is_conditional condition_words is_member_condition condition_conditional m.conditions (first_true (list_all is_member_condition m.conditions) (is_what m.what) ism))
+    (all_each is_conditional condition_words is_member_condition condition_conditional n.conditions (first_true (list_all is_member_condition n.conditions) (is_what n.what) isn))
+    (what_plain m.what whatm) (what_plain n.what whatn) is in
     let ahead : flat_map condition_slots m.conditions ≡ flat_map condition_slots n.conditions = sym (conditions_slot m.conditions) ∙ ap (flat_map mark_slot) two.0 ∙ conditions_slot n.conditions in
     let wilds : what_wilds m.what ≡ what_wilds n.what = sym (what_wild m.what whatm) ∙ ap wilds_in two.1 ∙ what_wild n.what whatn in
     ap (λ xs. xs ++ numbered (λ i. Line i) 0 (what_wilds m.what)) ahead ∙ ap (λ k. flat_map condition_slots n.conditions ++ numbered (λ i. Line i) 0 k) wilds
@@ -479,10 +479,10 @@ same_slots c d isc isd same =
     let wc : IsWritten c = written c isc in
     let wd : IsWritten d = written d isd in
     let one : (head c.conditions c.negated ≡ head d.conditions d.negated) × (rest_of c ≡ rest_of d) = first_split is_kind (head c.conditions c.negated) (head d.conditions d.negated) (rest_of c) (rest_of d) (kind_word c.kind) (kind_word d.kind)
-        (head_no_kind c.conditions c.negated wc.conditions) (head_no_kind d.conditions d.negated wd.conditions) (kind_is c.kind) (kind_is d.kind) (sym (class_shape c) ∙ same ∙ class_shape d) in
+    (head_no_kind c.conditions c.negated wc.conditions) (head_no_kind d.conditions d.negated wd.conditions) (kind_is c.kind) (kind_is d.kind) (sym (class_shape c) ∙ same ∙ class_shape d) in
     let conditions : flat_map condition_slots c.conditions ≡ flat_map condition_slots d.conditions = sym (head_slots c.conditions c.negated) ∙ ap (flat_map mark_slot) one.0 ∙ head_slots d.conditions d.negated in
     let two : (c.names ≡ d.names) × (above_words c.above ++ braces_words c.members ≡ above_words d.above ++ braces_words d.members) =
-        names_split c.names d.names (above_words c.above ++ braces_words c.members) (above_words d.above ++ braces_words d.members) wc.names wd.names (above_no_comma c.above c.members) (above_no_comma d.above d.members) one.1 in
+    names_split c.names d.names (above_words c.above ++ braces_words c.members) (above_words d.above ++ braces_words d.members) wc.names wd.names (above_no_comma c.above c.members) (above_no_comma d.above d.members) one.1 in
     let more : (above_slots c.above ≡ above_slots d.above) × (braces_words c.members ≡ braces_words d.members) = above_split c.above d.above c.members d.members wc.above wd.above two.1 in
     let members : members_slots c.members ≡ members_slots d.members = same_members c.members d.members wc.members wd.members more.1 in
     ap (λ xs. xs ++ (name_slots c.names ++ (above_slots c.above ++ members_slots c.members))) conditions

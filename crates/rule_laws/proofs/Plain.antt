@@ -1,15 +1,15 @@
 -- A text that spells rules and options without conditions has no fault.
-use Rattle.std.proofs.Common.{◌≡◌, ◌<◌, ◌≤◌, ◌+◌, ℕ, zero, suc, Bool, true, take, drop, length, slice_get, Some, List, [], ◌∷◌, ◌++◌, refl, sym, ap, subst, ◌∙◌, arith, take-append-drop}
+use Rattle.std.proofs.Common.{◌≡◌, ◌<◌, ℕ, suc, take, drop, length, List, refl, sym, ap, subst, ◌∙◌, arith, take-append-drop}
 use Rattle.std.specs.Str.{IsUtf8, IsValidUpTo}
 use Rattle.std.proofs.lemmas.List.{take_all}
 use Rattle.rule_text.specs.Tokens.{Word, words_of}
 use Rattle.rule_text.specs.Rules.{Entry}
-use Rattle.rule_text.specs.Spelling.{begins_rule, spelled, count_rules}
+use Rattle.rule_text.specs.Spelling.{count_rules}
 use Rattle.rule_text.specs.Fault.{IsFault}
-use Rattle.rule_text.specs.Faults.{SpellsRules, IsBeginning, AreRules, StopsAt, IsCrowdedAt, IsReadable, Whole, Front, HasRuleFault, AtWord, AtOption, AtRule, AtByte, AtEnd}
+use Rattle.rule_text.specs.Faults.{SpellsRules, IsBeginning, StopsAt, IsCrowdedAt, IsReadable, Whole, Front, HasRuleFault, AtWord, AtOption, AtRule, AtByte, AtEnd}
 use Rattle.rule_text.specs.declared.fault.RuleFault.{RuleFault}
 use Rattle.rule_text.specs.declared.fault.RuleFault.TheVariants as fault
-use Rattle.rule_text.proofs.OptionLemmas.{rules_in, rules_append, spelled_rules, begins_before}
+use Rattle.rule_text.proofs.OptionLemmas.{rules_in, spelled_rules, begins_before}
 
 -- ---- bytes
 

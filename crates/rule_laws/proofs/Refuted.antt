@@ -1,31 +1,28 @@
 -- A text that spells rules and options, some with a condition, has no fault.
-use Rattle.std.proofs.Common.{◌≡◌, ◌⊎◌, inl, inr, ◌<◌, ◌≤◌, ◌+◌, ℕ, zero, suc, Bool, true, false, ◌&&◌, ◌||◌, if◌then◌else◌, map, length, List, [], ◌∷◌, ◌++◌, Option, Some, None, refl, sym, ap, subst, ◌∙◌, arith}
+use Rattle.std.proofs.Common.{◌≡◌, inl, inr, ◌<◌, ◌≤◌, ◌+◌, ℕ, suc, Bool, true, false, ◌&&◌, ◌||◌, if◌then◌else◌, map, length, List, [], ◌∷◌, ◌++◌, Some, None, refl, sym, ap, subst, ◌∙◌, arith}
 use Rattle.std.specs.List.{flat_map, list_all, list_any}
 use Rattle.std.proofs.lemmas.List.{append-nil}
-use Rattle.std.specs.Str.{IsUtf8, IsValidUpTo}
-use Rattle.rule_text.specs.Tokens.{Word, words_of}
-use Rattle.rule_text.specs.Rules.{ClassRule, Entry}
+use Rattle.rule_text.specs.Tokens.{Word}
+use Rattle.rule_text.specs.Rules.{Entry}
 use Rattle.rule_text.specs.Spelling.{word_eq, begins_option, begins_rule, class_rule_words, is_entry, entry_words, is_rule, spelled, count_rules}
 use Rattle.rule_text.specs.Steps.{first_word, words_at}
 use Rattle.rule_text.specs.Fault.{IsFault}
-use Rattle.rule_text.specs.Faults.{SpellsRules}
 use Rattle.rule_text.specs.Fronts.{AreTokensOf}
-use Rattle.rule_text.specs.Halts.{is_known, IsRefusedEntry}
+use Rattle.rule_text.specs.Halts.{is_known}
 use Rattle.rule_text.specs.Places.{InHead, is_keep, from_option}
 use Rattle.rule_text.specs.declared.fault.RuleFault.{RuleFault}
 use Rattle.rule_text.specs.declared.fault.RuleFault.TheVariants as fault
 use Rattle.rule_text.specs.declared.token.Token.{Token as Lexed}
 use Rattle.rule_text.specs.declared.token.Tokens.{Tokens}
 use Rattle.rule_text.proofs.EntryLemmas.{words_from}
-use Rattle.rule_text.proofs.PlaceLemmas.{first_true, second_true, clash, entry_word}
-use Rattle.if_text.specs.Faults.{AreMasked, is_if_at, IsConditionTo, IsKeptTo, ItemsTo, IsRefusedItem, InEntry, InCondition, NoRule, InKept, AtReference, begins_item, IsRefusedAt, IsOptionAt, IsRuleAt, IsItemFault, IsFaultIn, HasIfFault, IsIfFault}
-use Rattle.if_text.specs.Items.{IfRule, Item, Plain, If, if_word, item_words, IsIfRule, AreItems, are_good, count_items, SpellsItems, plain_of, has_if}
+use Rattle.rule_text.proofs.PlaceLemmas.{clash, entry_word}
+use Rattle.if_text.specs.Faults.{AreMasked, is_if_at, ItemsTo, IsRefusedItem, InEntry, InCondition, NoRule, InKept, AtReference, begins_item, IsRefusedAt, IsOptionAt, IsRuleAt, HasIfFault, IsIfFault}
+use Rattle.if_text.specs.Items.{IfRule, Item, Plain, If, if_word, item_words, IsIfRule, AreItems, are_good, count_items, SpellsItems, has_if}
 use Rattle.if_text.specs.Parts.{masked}
 use Rattle.rule_laws.proofs.Plain.{no_bad_byte, no_plain_fault}
-use Rattle.rule_laws.proofs.Stretches.{begins}
-use Rattle.rule_laws.proofs.Firsts.{first_entry, entry_from, place_first, word_rule, word_known, some_there, never_refused, entry_goes, class_stretch}
-use Rattle.rule_laws.proofs.Masks.{masked_at, kept_begins, items_begin, items_masked}
-use Rattle.rule_laws.proofs.Splits.{Behind, split_to, no_if, if_there, if_step, behind_if, condition_same, hidden_words, kept_same}
+use Rattle.rule_laws.proofs.Firsts.{first_entry, word_rule, word_known, some_there, never_refused, entry_goes, class_stretch}
+use Rattle.rule_laws.proofs.Masks.{kept_begins, items_begin, items_masked}
+use Rattle.rule_laws.proofs.Splits.{Behind, split_to, no_if, if_there, behind_if, condition_same, hidden_words, kept_same}
 use Rattle.rule_laws.proofs.Named.{same_good}
 
 -- ---- where reading stops in an item

@@ -1,11 +1,11 @@
 -- What was read up to a place stands at the front of what the text spells.
-use Rattle.std.proofs.Common.{◌≡◌, ◌<◌, ◌≤◌, ◌+◌, ℕ, zero, suc, Bool, true, false, ◌||◌, if◌then◌else◌, map, drop, length, List, [], ◌∷◌, ◌++◌, Option, Some, None, refl, sym, ap, subst, ◌∙◌, arith}
+use Rattle.std.proofs.Common.{◌≡◌, ◌+◌, ℕ, zero, suc, Bool, true, false, if◌then◌else◌, map, drop, length, List, [], ◌∷◌, ◌++◌, Some, None, refl, sym, ap, ◌∙◌, arith}
 use Rattle.std.specs.List.{flat_map}
 use Rattle.std.specs.Cmp.Lexicographic.{bytes_decides}
 use Rattle.std.proofs.lemmas.List.{append_assoc, append_cancel_right, length-map}
 use Rattle.rule_text.specs.Tokens.{Word}
 use Rattle.rule_text.specs.Rules.{ClassRule, Entry}
-use Rattle.rule_text.specs.Spelling.{word_eq, begins_option, begins_rule, class_rule_words, is_class_rule, is_entry, entry_words, is_rule}
+use Rattle.rule_text.specs.Spelling.{word_eq, begins_option, begins_rule, class_rule_words, is_entry, entry_words, is_rule}
 use Rattle.rule_text.specs.Steps.{first_word, words_at}
 use Rattle.rule_text.specs.ReadEntries.{behind}
 use Rattle.rule_text.specs.Places.{Place, Between, InHead, from_option}

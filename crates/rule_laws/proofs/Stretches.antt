@@ -1,6 +1,6 @@
 -- Words that lead to the end of a rule or an option, behind which another begins or none is left: no other way on through
 -- them ends elsewhere, and none is refused.
-use Rattle.std.proofs.Common.{◌≡◌, Bool, true, false, not, ◌&&◌, nat_eq, List, [], ◌∷◌, ◌++◌, Option, Some, None, refl, sym, ap, subst, ◌∙◌}
+use Rattle.std.proofs.Common.{◌≡◌, Bool, true, false, nat_eq, List, [], ◌∷◌, ◌++◌, Option, Some, None, refl, sym, ap, subst, ◌∙◌}
 use Rattle.std.specs.List.{list_all}
 use Rattle.rule_text.specs.Tokens.{Word}
 use Rattle.rule_text.specs.Spelling.{begins_option}

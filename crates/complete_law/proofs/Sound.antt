@@ -17,14 +17,18 @@ use Rattle.program_model.specs.declared.program.Program.{Program}
 use Rattle.redex_cli.specs.Accepted.{IsAccepted}
 use Rattle.redex_cli.specs.Commands.{Fetch, counted_as, fetches}
 use Rattle.redex_cli.specs.Fetching.{AllWithin, HoldsWithin}
-use Rattle.redex_cli.specs.Files.{AllReadAs, HoldsRead, IsRead, IsReadAs, IsDeclared}
-use Rattle.redex_cli.specs.Refusals.{ReadsAll}
+use Rattle.redex_cli.specs.Files.{AllReadAs, AreRules, HoldsRead, IsRead, IsReadAs, IsDeclared}
+use Rattle.redex_cli.specs.Refusals.{IsRuleFault, ReadsAll}
 use Rattle.redex_cli.specs.declared.fetching.Kind.{Kind}
 use Rattle.redex_cli.specs.declared.fetching.Kind.TheVariants as kind
 use Rattle.redex_outside.specs.Held.{Held}
 use Rattle.refused_code.specs.Faultless.{IsFaultless}
 use Rattle.spelled_law.proofs.Whole.{read_is_spelled}
 use Rattle.spelled_law.proofs.OnceFile.{spells_once}
+use Rattle.rule_laws.proofs.Refuted.{no_item_fault}
+use Rattle.rule_text.specs.declared.fault.RuleFault.{RuleFault}
+use Rattle.rule_text.specs.declared.fault.RuleFault.TheVariants as rule
+use Rattle.complete_law.specs.Complete.{AreGoodRules}
 use Rattle.complete_law.specs.Standing.{AreBytes, IsSound, IsSoundAs, HoldsSound, AllSound}
 
 none_of_graph : (program : Program) → IsAccepted program → (fault : Fault) → InGraph program fault → ⊥
@@ -54,8 +58,14 @@ declared_read bytes it = by (program_at bytes) refl it.declares
 library_sound : (bytes : List ℕ) → ((i : ℕ) → slice_index bytes i < 256) → IsDeclared bytes → IsFaultless bytes
 library_sound bytes are it = let r = declared_read bytes it in no_fault bytes are r.0 r.1
 
+rules_sound : (bytes : List ℕ) → AreRules bytes → AreGoodRules bytes
+rules_sound bytes it fault is h = no_item_fault bytes it.items it.spells fault (λ e. no_memory fault e is) h
+  where
+    no_memory : (fault : RuleFault) → fault ≡ rule.NoMemory → IsRuleFault fault → ⊥
+    no_memory fault e is = subst IsRuleFault e is
+
 sound_as : (k : Kind) (bytes : List ℕ) → ((i : ℕ) → slice_index bytes i < 256) → IsReadAs k bytes → IsSoundAs k bytes
-sound_as kind.Rules bytes are it = it
+sound_as kind.Rules bytes are it = rules_sound bytes it
 sound_as kind.File bytes are it = read_sound bytes are it
 sound_as kind.Library bytes are it = library_sound bytes are it
 sound_as kind.Script bytes are it = it

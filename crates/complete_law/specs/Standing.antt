@@ -18,7 +18,7 @@ use Rattle.program_model.specs.declared.program.Program.{Program}
 use Rattle.redex_cli.specs.Accepted.{IsTypeCause}
 use Rattle.redex_cli.specs.Commands.{Fetch, counted_as, fetches}
 use Rattle.redex_cli.specs.Fetching.{PassesByOne}
-use Rattle.redex_cli.specs.Files.{AreRules, IsPlay, RulesCause}
+use Rattle.redex_cli.specs.Files.{IsPlay, RulesCause}
 use Rattle.redex_cli.specs.Refusals.{LineFault}
 use Rattle.redex_cli.specs.declared.fetching.Kind.{Kind}
 use Rattle.redex_cli.specs.declared.fetching.Kind.TheVariants as kind
@@ -29,6 +29,7 @@ use Rattle.redex_cli.specs.declared.status.Status.TheVariants.{BadRules, BadDex,
 use Rattle.redex_outside.specs.Held.{Held}
 use Rattle.refused_code.specs.Faultless.{IsFaultless}
 use Rattle.refused_law.specs.Just.{IsJust}
+use Rattle.complete_law.specs.Complete.{AreGoodRules}
 use Rattle.verify.specs.declared.fault.TypeFault.{TypeFault}
 
 -- what names hold are bytes
@@ -117,9 +118,9 @@ pub record IsSound (bytes : List ℕ) : Type 0 where
   pub spells : Spells bytes program
   pub typed : IsTyped (named program)
 
--- Rules are spelled, in a file no fault stands, in a library none but those of its class graph, and a script spells a play.
+-- Rules and a file have no fault, a library none but those of its class graph, and a script spells a play.
 abbrev pub IsSoundAs : Kind → List ℕ → Type 0
-IsSoundAs kind.Rules bytes = AreRules bytes
+IsSoundAs kind.Rules bytes = AreGoodRules bytes
 IsSoundAs kind.File bytes = IsSound bytes
 IsSoundAs kind.Library bytes = IsFaultless bytes
 IsSoundAs kind.Script bytes = IsPlay bytes

@@ -47,7 +47,7 @@ pub fn told()
         → IsTold words held status }
 {}
 
-/// In what a run has fetched that is not refused no fault stands, where names hold bytes: the rules are spelled, the file has no fault and
+/// In what a run has fetched that is not refused no fault stands, where names hold bytes: the rules and the file have no fault, and
 /// what it spells is typed, the library has none but of its class graph, the script spells a play, and each keeps its limit of bytes.
 /// The premise is what `run` says where it has a result (`read` of `GivesFor`), of a shelf that tells what it holds.
 pub fn sound()

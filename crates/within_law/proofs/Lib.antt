@@ -1,0 +1,4 @@
+mod Most
+mod Spending
+mod Tables
+pub mod Whole

@@ -1,6 +1,6 @@
 -- The code of a file has no more cells than the program that the file spells.
-use Rattle.std.proofs.Common.{◌≡◌, ◌≤◌, ◌<◌, ◌⊎◌, inl, inr, ℕ, zero, suc, ◌+◌, ◌*◌, List, [], ◌∷◌, ◌++◌, length, Option, Some, None, refl, sym, ap, subst, ◌∙◌, arith}
-use Rattle.std.specs.Prelude.{slice_get, slice_index, sum_by}
+use Rattle.std.proofs.Common.{◌≡◌, ◌≤◌, ◌<◌, ◌⊎◌, inl, inr, ℕ, zero, suc, ◌+◌, ◌*◌, List, [], ◌∷◌, length, Option, Some, None, refl, sym, ap, subst, ◌∙◌, arith}
+use Rattle.std.specs.Prelude.{slice_get, sum_by}
 use Rattle.std.proofs.lemmas.List.Sums.{sum_by-append}
 use Rattle.lemmas.proofs.Lists.{got_short, get_there}
 use Rattle.lemmas.proofs.Options.{some_same}
@@ -14,7 +14,7 @@ use Rattle.dex_defs.specs.Sweep.{Piece, IsSwept, instructions, places_of}
 use Rattle.dex_defs.specs.Instructions.{AreInsns}
 use Rattle.dex_defs.specs.ClassData.{Entry, Lists, IsClassDataOf}
 use Rattle.dex_defs.specs.ClassDefs.{Def, HasCode, IsCodeOf, IsMethod, AreMethods, IsClass}
-use Rattle.dex_defs.specs.CodeItems.{Frame, IsCode}
+use Rattle.dex_defs.specs.CodeItems.{Frame}
 use Rattle.dex_defs.specs.CodeFaults.{HasUnits}
 use Rattle.dex_defs.specs.Limits.{IsMethodCode, HasEntries, IsCell}
 use Rattle.dex_defs.specs.Limits as limits

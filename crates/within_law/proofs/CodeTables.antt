@@ -1,11 +1,9 @@
 -- The table that an instruction names has as many entries as the instruction that stands there.
-use Rattle.std.proofs.Common.{◌≡◌, ◌⊎◌, inl, inr, ℕ, ◌+◌, true, false, List, length, Some, sym, ap, subst, ◌∙◌}
-use Rattle.std.specs.Prelude.{ℤ, pos, ◌+ℤ◌, ◌==◌, slice_get, slice_index}
-use Rattle.lemmas.proofs.Options.{some_same}
+use Rattle.std.proofs.Common.{◌≡◌, inl, inr, ℕ, ◌+◌, true, false, List, Some, sym, ap, subst, ◌∙◌}
+use Rattle.std.specs.Prelude.{pos, ◌==◌, slice_get, slice_index}
 use Rattle.insn_set.specs.declared.form.Insn.{Insn}
 use Rattle.program_model.specs.Cells.{entries_of}
 use Rattle.code_read.specs.declared.fields.Fields.{Fields}
-use Rattle.code_read.specs.Forms.{word}
 use Rattle.dex_defs.specs.Sweep.{Piece, Places, instructions, places_of}
 use Rattle.dex_defs.specs.Instructions.{opcode, double_at, IsPayloadOf, HasFields, IsInsn, AreInsns, IsFill, IsPacked, IsSparse}
 use Rattle.dex_defs.specs.Limits.{HasEntries}

@@ -27,7 +27,7 @@ frame_once bytes at f g a b =
     (once_16 bytes (at + 4) f.outs g.outs a.outs b.outs) (once_16 bytes (at + 6) f.tries g.tries a.tries b.tries)
     ∙ two (frame_made g.registers g.ins g.outs g.tries) (once_32 bytes (at + 8) f.debug g.debug a.debug b.debug) (once_32 bytes (at + 12) f.size g.size a.size b.size)
 
-units_once : (bytes : List ℕ) (at : ℕ) (f g : Frame) (us vs : List ℕ) → HasUnits bytes at f us → HasUnits bytes at g vs → us ≡ vs
+pub units_once : (bytes : List ℕ) (at : ℕ) (f g : Frame) (us vs : List ℕ) → HasUnits bytes at f us → HasUnits bytes at g vs → us ≡ vs
 units_once bytes at f g us vs a b =
     let size : f.size ≡ g.size = ap (λ (x : Frame). x.size) (frame_once bytes at f g a.frame b.frame) in
     each_once (λ i unit. Is16 bytes (at + 16 + 2 * i) unit) (λ i m n. once_16 bytes (at + 16 + 2 * i) m n) 0 us vs (a.many ∙ size ∙ sym b.many) a.are b.are

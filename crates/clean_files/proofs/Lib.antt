@@ -1,23 +1,23 @@
-mod Parts
-mod Tables
-mod Classes
-mod Data
-mod Members
-mod TableParts
-mod ClassParts
-mod Roots
-mod Directories
-mod Values
-mod Firsts
-mod CodeSweep
-mod CodeForms
-mod CodeInsns
-mod CodeChecked
-mod CodeTries
-mod CodeFlows
-mod CodeItems
-mod CodeFrames
-mod CodeMethods
-mod CodeReached
-mod CodeClean
+pub mod Parts
+pub mod Tables
+pub mod Classes
+pub mod Data
+pub mod Members
+pub mod TableParts
+pub mod ClassParts
+pub mod Roots
+pub mod Directories
+pub mod Values
+pub mod Firsts
+pub mod CodeSweep
+pub mod CodeForms
+pub mod CodeInsns
+pub mod CodeChecked
+pub mod CodeTries
+pub mod CodeFlows
+pub mod CodeItems
+pub mod CodeFrames
+pub mod CodeMethods
+pub mod CodeReached
+pub mod CodeClean
 pub mod Whole

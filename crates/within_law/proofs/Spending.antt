@@ -1,0 +1,81 @@
+-- Readings that hand on what is left: what is counted there is no more than what they take.
+use Rattle.std.proofs.Common.{◌≡◌, ◌≤◌, ◌<◌, ◌⊎◌, inl, inr, ℕ, zero, suc, ◌+◌, ◌-◌, Bool, true, false, cond, leb, List, [], ◌∷◌, Result, Ok, Err, refl, subst, arith}
+use Rattle.std.proofs.lemmas.Bool.{leb-true}
+use Rattle.dex_base.specs.Reading.{◌>>=◌}
+use Rattle.dex_base.proofs.Decides.{ok_is, not_both}
+use Rattle.program_model.specs.declared.limits.Counted.{Counted}
+use Rattle.dex_pools.specs.declared.fault.PoolFault.{PoolFault}
+use Rattle.dex_pools.specs.Items.{past, spend}
+use Rattle.dex_pools.specs.Run.{run}
+use Rattle.file_laws.specs.Founds.{Founds}
+use Rattle.within_law.proofs.Most.{Most, fewer, none, together}
+
+pub took_next : {X Y F : Type 0} {Is : Y → Type 0} (read : Result X F) {f : X → Result Y F} → ((x : X) → read ≡ Ok x → Founds Is (f x)) → Founds Is (read >>= f)
+took_next (Ok x) g = g x refl
+took_next (Err e) g = record { found = λ y h. absurd (not_both e y h) }
+
+-- of these things there are no more than what is left here and not there
+pub record Spent (Is : List ℕ → Type 0) (before behind : ℕ) : Type 0 where
+  pub count : ℕ
+  pub most : Most Is count
+  pub taken : count + behind ≤ before
+
+pub nothing_spent : (Is : List ℕ → Type 0) (left : ℕ) → ((w : List ℕ) → Is w → ⊥) → Spent Is left left
+nothing_spent Is left never = record { count = 0; most = none Is never; taken = omega arith }
+
+pub spent_fewer : {Is : List ℕ → Type 0} (Are : List ℕ → Type 0) (before behind : ℕ) → Spent Is before behind → ((w : List ℕ) → Are w → Is w) → Spent Are before behind
+spent_fewer Are before behind h to = record { count = h.count; most = fewer Are h.count h.count h.most to (omega arith); taken = h.taken }
+
+pub spent_both : {A B : List ℕ → Type 0} (Is : List ℕ → Type 0) (before mid behind : ℕ) → Spent A before mid → Spent B mid behind → ((w : List ℕ) → Is w → A w ⊎ B w) → Spent Is before behind
+spent_both Is before mid behind a b to = record { count = a.count + b.count; most = together Is a.count b.count a.most b.most to; taken = let first = a.taken in let second = b.taken in omega (arith, first, second) }
+
+-- so many are taken
+pub spends : (kind : Counted) (count left : ℕ) → Founds (λ behind. count + behind ≤ left) (spend kind count left)
+unfolding spend
+spends kind count left = by_test (leb count left) refl
+  where
+    by_test : (b : Bool) → leb count left ≡ b → Founds {F = PoolFault} (λ behind. count + behind ≤ left) (cond b (Ok (left - count)) (Err (past kind)))
+    by_test true e = record { found = λ y h. (let same : left - count ≡ y = ok_is {F = PoolFault} (left - count) y h in let low = leb-true count left e in omega (arith, same, low)) }
+    by_test false e = record { found = λ y h. absurd (not_both (past kind) y h) }
+
+-- ---- one entry behind another
+
+-- things of the parts from this one on
+pub record Between (Is : List ℕ → Type 0) (key : List ℕ → ℕ) (from total : ℕ) (w : List ℕ) : Type 0 where
+  pub is : Is w
+  pub low : from ≤ key w
+  pub high : key w < total
+
+pub record Has (Is : List ℕ → Type 0) (key : List ℕ → ℕ) (k : ℕ) (w : List ℕ) : Type 0 where
+  pub is : Is w
+  pub same : key w ≡ k
+
+first_or_later : (n k : ℕ) → n ≤ k → (k ≡ n) ⊎ (suc n ≤ k)
+first_or_later zero zero low = inl refl
+first_or_later zero (suc k) low = inr (omega arith)
+first_or_later (suc n) zero low = absurd (omega (arith, low))
+first_or_later (suc n) (suc k) low = elim (first_or_later n k (omega (arith, low))) [
+  | inl e ↦ inl (omega (arith, e))
+  | inr high ↦ inr (omega (arith, high))
+]
+
+pub here_or_later : (Is : List ℕ → Type 0) (key : List ℕ → ℕ) (from total : ℕ) (w : List ℕ) → Between Is key from total w → Has Is key from w ⊎ Between Is key (suc from) total w
+here_or_later Is key from total w b = elim (first_or_later from (key w) b.low) [
+  | inl e ↦ inl (record { is = b.is; same = e })
+  | inr low ↦ inr (record { is = b.is; low = low; high = b.high })
+]
+
+module _ (Is : List ℕ → Type 0) (key : List ℕ → ℕ) where
+  empty : (from total : ℕ) → from + 0 ≡ total → (w : List ℕ) → Between Is key from total w → ⊥
+  empty from total all w b = let low = b.low in let high = b.high in omega (arith, low, high, all)
+
+  pub spent_run : {X S F : Type 0} (f : ℕ → S → Result (X × S) F) (left : S → ℕ) (total : ℕ) → ((i : ℕ) (s : S) → i < total → Founds (λ x. Spent (Has Is key i) (left s) (left x.1)) (f i s)) → (from n : ℕ) (s : S) → from + n ≡ total
+      → Founds (λ r. Spent (Between Is key from total) (left s) (left r.1)) (run f from n s)
+  spent_run {X = X} {S = S} {F = F} f left total each from zero s all =
+      record { found = λ y h. subst (λ (r : List X × S). Spent (Between Is key from total) (left s) (left r.1)) (ok_is {F = F} ([], s) y h) (nothing_spent (Between Is key from total) (left s) (empty from total all)) }
+  spent_run {X = X} {S = S} {F = F} f left total each from (suc n) s all =
+      took_next (f from s) (λ x h.
+      took_next (run f (suc from) n x.1) (λ xs g. record {
+        found = λ y e. subst (λ (r : List X × S). Spent (Between Is key from total) (left s) (left r.1)) (ok_is {F = F} (x.0 ∷ xs.0, xs.1) y e)
+            (spent_both (Between Is key from total) (left s) (left x.1) (left xs.1) ((each from s (omega (arith, all))).found x h) ((spent_run f left total each (suc from) n x.1 (omega (arith, all))).found xs g) (here_or_later Is key from total));
+      }))

@@ -1,6 +1,6 @@
 -- What no fact needs to exceed: a table of flat values by number, under which every step of an analysis keeps values that are under
 -- it. Constants solutions give such tables.
-use Rattle.std.specs.Prelude.{◌≡◌, ◌⊎◌, ◌<◌, ◌+◌, ◌-◌, ℕ, Bool, true, false, List, [], ◌∷◌, ◌++◌, Option, None, Some, is_some, slice_get, Contains}
+use Rattle.std.specs.Prelude.{◌≡◌, ◌⊎◌, ◌<◌, ◌+◌, ◌-◌, ℕ, zero, suc, Bool, true, false, List, [], ◌∷◌, ◌++◌, Option, None, Some, is_some, slice_get, Contains}
 use Rattle.insn_set.specs.declared.ops.Slot.{Slot}
 use Rattle.insn_set.specs.declared.ops.Item.{Item}
 use Rattle.insn_set.specs.declared.ops.InvokeKind.{InvokeKind}
@@ -104,8 +104,8 @@ taken_flat p b class before (insn.MoveResult slot to) = answer_flat b class befo
 taken_flat p b class before i = Any
 
 abbrev pub before_of : Body → ℕ → Option Insn
-before_of body 0 = None
-before_of body n = slice_get body.insns (n - 1)
+before_of body zero = None
+before_of body (suc n) = slice_get body.insns n
 
 pub record BoundFlows (p : Program) (b : FlatTable) : Type 0 where
   pub onward : (at : MethodAt) (n : ℕ) (x : Registers) (v : Parts) (q : ℕ × Registers) (here : FlatAt p b at n) → AreUnder x here.registers

@@ -1,6 +1,6 @@
 -- What no fact needs to exceed: a table of flat values by number, under which every step of an analysis keeps values that are under
 -- it. Constants solutions give such tables.
-use Rattle.std.specs.Prelude.{◌≡◌, ◌⊎◌, ◌<◌, ◌+◌, ◌-◌, ℕ, zero, suc, Bool, true, false, List, [], ◌∷◌, ◌++◌, Option, None, Some, is_some, slice_get, Contains}
+use Rattle.std.specs.Prelude.{◌≡◌, ◌⊎◌, ◌<◌, ◌+◌, ◌-◌, ℕ, zero, suc, Bool, true, false, List, [], ◌∷◌, ◌++◌, Option, None, Some, is_some, is_none, slice_get, Contains, option_and_then}
 use Rattle.insn_set.specs.declared.ops.Slot.{Slot}
 use Rattle.insn_set.specs.declared.ops.Item.{Item}
 use Rattle.insn_set.specs.declared.ops.InvokeKind.{InvokeKind}
@@ -12,7 +12,7 @@ use Rattle.program_model.specs.declared.program.Method.{Method}
 use Rattle.program_model.specs.declared.program.MethodAt.{MethodAt}
 use Rattle.program_model.specs.declared.program.Program.{Program}
 use Rattle.program_model.specs.declared.pass.Outside.{Outside}
-use Rattle.program_model.specs.Lookups.{method_at}
+use Rattle.program_model.specs.Lookups.{class_place, method_at}
 use Rattle.class_defs.specs.Finding.{Finds, Nothing, is_037}
 use Rattle.class_defs.specs.Members.{is_interface}
 use Rattle.class_defs.specs.Places.{super_place, interface_places}
@@ -118,18 +118,43 @@ pub record BoundFlows (p : Program) (b : FlatTable) : Type 0 where
 
 -- ---- calls
 
--- what a call passes comes to a method that it finds, which it enters where it has code, and gets back what that returns
-pub record BoundCall (b : FlatTable) (class m : ℕ) (coded : Bool) (i : Insn) (args : List ℕ) (registers : ℕ → Flat) : Type 0 where
+-- what a call passes comes to a method that it finds, which it enters where it has code
+pub record BoundCall (b : FlatTable) (m : ℕ) (coded : Bool) (args : List ℕ) (registers : ℕ → Flat) : Type 0 where
   pub passes : (word r : ℕ) (v : Parts) → slice_get args word ≡ Some r → IsUnder v (registers r) → IsUnder v (b.parameters m word)
   pub enters : coded ≡ true → IsReached b m
-  pub answers : FlatBelow (b.results m) (b.answers class i)
 
 pub record BoundCalls (p : Program) (o : Outside) (b : FlatTable) : Type 0 where
   pub named : (at : MethodAt) (n method : ℕ) (kind : InvokeKind) (args : List ℕ) (found : MethodAt) (m : Method) (here : FlatAt p b at n) → here.insn ≡ insn.Invoke kind method args
-      → finds_bound p at.class method kind ≡ Finds found → method_at p found ≡ Some m → BoundCall b at.class m.name (is_some m.body) here.insn args here.registers
+      → finds_bound p at.class method kind ≡ Finds found → method_at p found ≡ Some m → BoundCall b m.name (is_some m.body) args here.registers
   pub linked : (live : LiveSet) → IsLeastSet p o live → (at : MethodAt) (n method : ℕ) (kind : InvokeKind) (args : List ℕ) (interface : Bool) (link : Link) (here : FlatAt p b at n)
       → here.insn ≡ insn.Invoke kind method args → interface_of kind ≡ Some interface → IsLink p live link → link.call ≡ call_at method interface
-      → BoundCall b at.class link.method true here.insn args here.registers
+      → BoundCall b link.method true args here.registers
+
+-- the class that a method number names is none of the program's
+abbrev pub names_outer : Program → ℕ → Bool
+names_outer p method = is_none (option_and_then (λ q. class_place p q.class) (slice_get p.methods method))
+
+-- a call that finds by its name may leave the program's code: it finds nothing, or a method without code, or names a class of the
+-- framework
+pub data LeavesNamed (p : Program) (class method : ℕ) : InvokeKind → Type 0 where
+  Unfound : (kind : InvokeKind) → IsBound kind → finds_bound p class method kind ≡ Nothing → LeavesNamed p class method kind
+  Bare : (kind : InvokeKind) (at : MethodAt) (m : Method) → finds_bound p class method kind ≡ Finds at → method_at p at ≡ Some m → m.body ≡ None → LeavesNamed p class method kind
+  Outer : (kind : InvokeKind) → IsBound kind → names_outer p method ≡ true → LeavesNamed p class method kind
+
+abbrev pub is_call : Insn → Bool
+is_call (insn.Invoke kind method args) = true
+is_call i = false
+
+-- what a call gets back, whether or not a run comes to it: what the methods return that it finds, and anything where it may leave
+pub record BoundAnswers (p : Program) (o : Outside) (b : FlatTable) : Type 0 where
+  pub named : (class method : ℕ) (kind : InvokeKind) (args : List ℕ) (found : MethodAt) (m : Method) → finds_bound p class method kind ≡ Finds found → method_at p found ≡ Some m
+      → FlatBelow (b.results m.name) (b.answers class (insn.Invoke kind method args))
+  pub leaves_named : (class method : ℕ) (kind : InvokeKind) (args : List ℕ) → LeavesNamed p class method kind → b.answers class (insn.Invoke kind method args) ≡ Any
+  pub linked : (live : LiveSet) → IsLeastSet p o live → (class method : ℕ) (kind : InvokeKind) (args : List ℕ) (interface : Bool) (link : Link) → interface_of kind ≡ Some interface
+      → IsLink p live link → link.call ≡ call_at method interface → FlatBelow (b.results link.method) (b.answers class (insn.Invoke kind method args))
+  pub leaves : (live : LiveSet) → IsLeastSet p o live → (class method : ℕ) (kind : InvokeKind) (args : List ℕ) (interface : Bool) → interface_of kind ≡ Some interface
+      → MayLeave p live (call_at method interface) → b.answers class (insn.Invoke kind method args) ≡ Any
+  pub others : (class : ℕ) (i : Insn) → is_call i ≡ false → b.answers class i ≡ Any
 
 -- ---- all of it
 
@@ -147,5 +172,6 @@ pub record BoundEntries (p : Program) (o : Outside) (b : FlatTable) : Type 0 whe
 pub record IsFlatBound (p : Program) (o : Outside) (b : FlatTable) : Type 0 where
   pub flows : BoundFlows p b
   pub calls : BoundCalls p o b
+  pub answers : BoundAnswers p o b
   pub fields : BoundFields p o b
   pub entries : BoundEntries p o b

@@ -118,9 +118,9 @@ under_joined v w (KnownWord n) (inl e) (inr f) = inr (rw e (rw f.0 (nothing_word
 under_joined v w (KnownWord n) (inr e) (inl f) = inr (rw e.0 (rw f (word_nothing n)), e.1)
 under_joined v w (KnownWord n) (inr e) (inr f) = inr (rw e.0 (rw f.0 (word_word n)), e.1)
 under_joined v w (KnownWide n) (inl e) (inl f) = inl (rw e (rw f refl))
-under_joined v w (KnownWide n) (inl e) (inr f) = inr (rw e (rw f.0 (nothing_wide n)), f.1)
-under_joined v w (KnownWide n) (inr e) (inl f) = inr (rw e.0 (rw f (wide_nothing n)), e.1)
-under_joined v w (KnownWide n) (inr e) (inr f) = inr (rw e.0 (rw f.0 (wide_wide n)), e.1)
+under_joined v w (KnownWide n) (inl e) (inr f) = inr (rw e (rw f (nothing_wide n)))
+under_joined v w (KnownWide n) (inr e) (inl f) = inr (rw e (rw f (wide_nothing n)))
+under_joined v w (KnownWide n) (inr e) (inr f) = inr (rw e (rw f (wide_wide n)))
 
 pub under_widened : (v w : Parts) (x : Flat) → IsUnder v x → IsUnder w x → IsUnder (value_widened v w) x
 under_widened v w Any h k = tt
@@ -130,6 +130,6 @@ under_widened v w (KnownWord n) (inl e) (inr f) = inr (rw e (rw f.0 refl), f.1)
 under_widened v w (KnownWord n) (inr e) (inl f) = inr (rw e.0 (rw f (word_wider_nothing n)), e.1)
 under_widened v w (KnownWord n) (inr e) (inr f) = inr (rw e.0 (rw f.0 (word_wider n)), e.1)
 under_widened v w (KnownWide n) (inl e) (inl f) = inl (rw e (rw f refl))
-under_widened v w (KnownWide n) (inl e) (inr f) = inr (rw e (rw f.0 refl), f.1)
-under_widened v w (KnownWide n) (inr e) (inl f) = inr (rw e.0 (rw f refl), e.1)
-under_widened v w (KnownWide n) (inr e) (inr f) = inr (rw e.0 (rw f.0 (wide_wider n)), e.1)
+under_widened v w (KnownWide n) (inl e) (inr f) = inr (rw e (rw f refl))
+under_widened v w (KnownWide n) (inr e) (inl f) = inr (rw e (rw f refl))
+under_widened v w (KnownWide n) (inr e) (inr f) = inr (rw e (rw f (wide_wider n)))

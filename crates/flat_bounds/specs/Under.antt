@@ -4,12 +4,12 @@ use Rattle.pass_defs.specs.Flat.{Flat, Bottom, KnownWord, KnownWide, Any}
 use Rattle.domains.specs.Values.{Parts, least_value, constant_value, wide_value}
 use Rattle.dom_frame.specs.Registers.{Registers, value_at}
 
--- it is this word, or this wide number
+-- it is this word of 32 bits, or this wide number
 abbrev pub IsWord : Parts → ℕ → Type 0
 IsWord v n = (v ≡ constant_value n) × (n < 2 ^ 32)
 
 abbrev pub IsWide : Parts → ℕ → Type 0
-IsWide v n = (v ≡ wide_value n) × (n < 2 ^ 64)
+IsWide v n = v ≡ wide_value n
 
 abbrev pub IsUnder : Parts → Flat → Type 0
 IsUnder v Bottom = v ≡ least_value

@@ -1,5 +1,5 @@
 -- What a test leaves of its operands is under flat values where they were, and a test of two known words goes the one way that it has.
-use Rattle.std.specs.Prelude.{◌≡◌, ◌⊎◌, ◌<◌, ◌^◌, ◌%◌, ◌==◌, ◌&&◌, ◌||◌, not, nat_eq, ℕ, ℤ, pos, Bool, true, false, if◌then◌else◌, List, [], Option, Some, None, refl}
+use Rattle.std.specs.Prelude.{◌≡◌, ◌⊎◌, ◌<◌, ◌^◌, ◌%◌, ◌==◌, ◌&&◌, ◌||◌, not, nat_eq, ℕ, ℤ, pos, Bool, true, false, if◌then◌else◌, List, [], ◌∷◌, Option, Some, None, refl}
 use Rattle.std.specs.Option.{option_map}
 use Rattle.std.specs.Int.{w32, cast_signed, cast_unsigned}
 use Rattle.std.proofs.Common.{sym, ◌∙◌, arith, inl, inr, subst, ap}
@@ -17,10 +17,10 @@ use Rattle.domains.specs.Ranges.{Bounds, words_between, first_word, last_word}
 use Rattle.domains.specs.ClassSets.{is_no_set}
 use Rattle.domains.specs.Reducing.{in_range, reduced, with_number}
 use Rattle.domains.specs.Values.{Parts, least_value, constant_value, wide_value, known_of}
-use Rattle.value_ops.specs.Left.{is_nothing, both_go_on, word_met, range_met, null_met, settled, same_as, word_without, range_without, null_without, without_null, without, narrowed}
-use Rattle.value_ops.specs.Tests.{other_than, tested_values, passed_values, words_below, words_above, turned, less_values, least_values, opposite, keyed_value, has_word, null_has}
+use Rattle.value_ops.specs.Left.{is_nothing, goes_on, both_go_on, word_met, range_met, null_met, settled, same_as, word_without, range_without, null_without, without_null, without, narrowed}
+use Rattle.value_ops.specs.Tests.{other_than, tested_values, passed_values, words_below, words_above, turned, less_values, least_values, opposite, keyed_value, has_word, null_has, without_all, unkeyed_value}
 use Rattle.flat_bounds.specs.Under.{IsWord, IsWide, IsUnder}
-use Rattle.flat_law.proofs.Operands.{no_some, some_is}
+use Rattle.flat_law.proofs.Operands.{no_some, some_is, word_something}
 
 -- ---- what is left of a number
 
@@ -320,3 +320,77 @@ keyed_under z v o Any h e = (tt, λ n q. any_known n q)
   where
     any_known : (n : ℕ) → Any ≡ KnownWord n → n ≡ cast_unsigned w32 z
     any_known n q = absurd (cc)
+
+-- ---- past keys
+
+without_under : (c : ℕ) (v : Parts) (f : Flat) → IsUnder v f → IsUnder (without c v) f
+without_under c v f h = left_under (λ x. without c x) (without_none c) (λ n. without_left c n) (λ n. without_wide c n) v f h
+
+-- without itself, nothing is left of a word
+without_itself : (n : ℕ) → without n (constant_value n) ≡ least_value
+without_itself n =
+    let it : word_without n (word.Known n) ≡ word.Bottom = by (n == n) (grind (arith, common_steps)) in
+    rw it (settle (no_word_left (range_without (cast_signed w32 n) (constant_value n).interval) (null_without n (null_of n)) (plain (null_dropped n (n == 0)))))
+  where
+    by : (b : Bool) → b ≡ true → (if b then word.Bottom else word.Known n) ≡ word.Bottom
+    by true e = refl
+    by false e = absurd (cc)
+
+    plain : (null_without n (null_of n) ≡ NoNull) ⊎ (null_without n (null_of n) ≡ null_of n) → null_without n (null_of n) ≡ AnyNull → ⊥
+    plain (inl e) k = let m : NoNull ≡ AnyNull = sym e ∙ k in cc
+    plain (inr e) k = null_known n (sym e ∙ k)
+
+    settle : {v : Parts} → v ≡ least_value → settled v ≡ least_value
+    settle e = rw e refl
+
+-- keys are taken away one by one
+abbrev pub Past : (ℕ → Type 0) → ℕ → Parts → Type 0
+Past P n v = (v ≡ least_value) ⊎ ((v ≡ constant_value n) × P n)
+
+past_one : (c n : ℕ) (v : Parts) (P : ℕ → Type 0) → Past P n v → Past (λ m. P m × (c ≡ m → ⊥)) n (without c v)
+past_one c n v P (inl e) = inl (rw e (without_none c))
+past_one c n v P (inr e) = by (c == n) refl
+  where
+    by : (b : Bool) → (c == n) ≡ b → Past (λ m. P m × (c ≡ m → ⊥)) n (without c v)
+    by true q = let same : c ≡ n = grind (arith, common_steps) in inl (rw same (rw e.0 (without_itself n)))
+    by false q = elim (without_left c n) [ inl k ↦ inl (rw e.0 k) | inr k ↦ inr (rw e.0 k, (e.1, λ s. apart s)) ]
+      where
+        apart : c ≡ n → ⊥
+        apart s = grind (arith, common_steps)
+
+goes_past : (P : ℕ → Type 0) (n : ℕ) (v o : Parts) → Past P n v → goes_on v ≡ Some o → (o ≡ constant_value n) × P n
+goes_past P n v o (inl e) k = no_some (subst (λ (x : Parts). goes_on x ≡ Some o) e k)
+goes_past P n v o (inr e) k = (sym (some_is (subst (λ (b : Bool). (if b then None else Some (constant_value n)) ≡ Some o) (word_something n) (subst (λ (x : Parts). goes_on x ≡ Some o) e.0 k))), e.1)
+
+goes_same : (v o : Parts) → goes_on v ≡ Some o → o ≡ v
+goes_same v o e = by (is_nothing v) e
+  where
+    by : (b : Bool) → (if b then None else Some v) ≡ Some o → o ≡ v
+    by true k = no_some k
+    by false k = sym (some_is k)
+
+-- none of some keys
+abbrev pub NoKey : List ℤ → ℕ → Type 0
+NoKey [] n = Unit {0}
+NoKey (z ∷ zs) n = NoKey zs n × (cast_unsigned w32 z ≡ n → ⊥)
+
+all_under : (zs : List ℤ) (v : Parts) (f : Flat) → IsUnder v f → IsUnder (without_all zs v) f
+all_under [] v f h = h
+all_under (z ∷ zs) v f h = all_under zs (without (cast_unsigned w32 z) v) f (without_under (cast_unsigned w32 z) v f h)
+
+past_all : (zs : List ℤ) (n : ℕ) (v : Parts) (P : ℕ → Type 0) → Past P n v → Past (λ m. P m × NoKey zs m) n (without_all zs v)
+past_all [] n v P (inl e) = inl e
+past_all [] n v P (inr e) = inr (e.0, (e.1, tt))
+past_all (z ∷ zs) n v P h = by (past_all zs n (without (cast_unsigned w32 z) v) (λ m. P m × (cast_unsigned w32 z ≡ m → ⊥)) (past_one (cast_unsigned w32 z) n v P h))
+  where
+    by : Past (λ m. (P m × (cast_unsigned w32 z ≡ m → ⊥)) × NoKey zs m) n (without_all zs (without (cast_unsigned w32 z) v)) → Past (λ m. P m × (NoKey zs m × (cast_unsigned w32 z ≡ m → ⊥))) n (without_all (z ∷ zs) v)
+    by (inl e) = inl e
+    by (inr e) = inr (e.0, (e.1.0.0, (e.1.1, e.1.0.1)))
+
+-- what is left past some keys is under what the operand is under, and a known word is none of them
+pub unkeyed_under : (zs : List ℤ) (v o : Parts) (f : Flat) → IsUnder v f → unkeyed_value zs v ≡ Some o → IsUnder o f × ((n : ℕ) → f ≡ KnownWord n → NoKey zs n)
+unkeyed_under zs v o f h e = (subst (λ (x : Parts). IsUnder x f) (sym (goes_same (without_all zs v) o e)) (all_under zs v f h), λ n q. known n (subst (IsUnder v) q h))
+  where
+    known : (n : ℕ) → IsUnder v (KnownWord n) → NoKey zs n
+    known n (inl k) = (goes_past (λ m. Unit {0} × NoKey zs m) n (without_all zs v) o (past_all zs n v (λ m. Unit {0}) (inl k)) e).1.1
+    known n (inr k) = (goes_past (λ m. Unit {0} × NoKey zs m) n (without_all zs v) o (past_all zs n v (λ m. Unit {0}) (inr (k.0, tt))) e).1.1

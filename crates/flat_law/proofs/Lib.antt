@@ -1,3 +1,4 @@
 pub mod Operands
 pub mod Others
 pub mod Tests
+pub mod Outcomes

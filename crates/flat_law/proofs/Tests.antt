@@ -28,7 +28,7 @@ abbrev numbers_of : Word → Bounds → Nullness → Parts
 numbers_of w i a = record { word = w; interval = i; nullness = a; classes = Some [] }
 
 -- the nullness of a word
-abbrev null_of : ℕ → Nullness
+abbrev pub null_of : ℕ → Nullness
 null_of n = if n == 0 then Null else NotNull
 
 -- one word, or nothing
@@ -58,7 +58,7 @@ word_left n i a (inr e) = by (n == 0) refl
     by false z = subst (λ (x : Nullness). IsLeft n (reduced (numbers_of (word.Known n) i x))) (sym (e ∙ ap (λ (b : Bool). if b then Null else NotNull) z)) (known_left n i)
 
 -- no word of any nullness
-no_word_left : (i : Bounds) (a : Nullness) → (a ≡ AnyNull → ⊥) → reduced (numbers_of word.Bottom i a) ≡ least_value
+pub no_word_left : (i : Bounds) (a : Nullness) → (a ≡ AnyNull → ⊥) → reduced (numbers_of word.Bottom i a) ≡ least_value
 no_word_left i NoNull h = refl
 no_word_left i Null h = refl
 no_word_left i NotNull h = refl
@@ -327,7 +327,7 @@ without_under : (c : ℕ) (v : Parts) (f : Flat) → IsUnder v f → IsUnder (wi
 without_under c v f h = left_under (λ x. without c x) (without_none c) (λ n. without_left c n) (λ n. without_wide c n) v f h
 
 -- without itself, nothing is left of a word
-without_itself : (n : ℕ) → without n (constant_value n) ≡ least_value
+pub without_itself : (n : ℕ) → without n (constant_value n) ≡ least_value
 without_itself n =
     let it : word_without n (word.Known n) ≡ word.Bottom = by (n == n) (grind (arith, common_steps)) in
     rw it (settle (no_word_left (range_without (cast_signed w32 n) (constant_value n).interval) (null_without n (null_of n)) (plain (null_dropped n (n == 0)))))

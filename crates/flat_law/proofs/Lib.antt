@@ -2,3 +2,4 @@ pub mod Operands
 pub mod Others
 pub mod Tests
 pub mod Outcomes
+pub mod Steps

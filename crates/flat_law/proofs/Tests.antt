@@ -24,7 +24,7 @@ use Rattle.flat_law.proofs.Operands.{no_some, some_is, word_something}
 
 -- ---- what is left of a number
 
-abbrev numbers_of : Word → Bounds → Nullness → Parts
+abbrev pub numbers_of : Word → Bounds → Nullness → Parts
 numbers_of w i a = record { word = w; interval = i; nullness = a; classes = Some [] }
 
 -- the nullness of a word
@@ -32,7 +32,7 @@ abbrev pub null_of : ℕ → Nullness
 null_of n = if n == 0 then Null else NotNull
 
 -- one word, or nothing
-abbrev IsLeft : ℕ → Parts → Type 0
+abbrev pub IsLeft : ℕ → Parts → Type 0
 IsLeft n v = (v ≡ least_value) ⊎ (v ≡ constant_value n)
 
 chosen : {n : ℕ} (b : Bool) (x y : Parts) → IsLeft n x → IsLeft n y → IsLeft n (if b then x else y)
@@ -49,7 +49,7 @@ zero_left : (n : ℕ) (i : Bounds) → (n == 0) ≡ true → IsLeft n (reduced (
 zero_left n i e = chosen ((n == 0) && in_range i (pos 0)) _ _ (inr (ap constant_value (sym (zero_is n e)))) (inl refl)
 
 -- a known word of some nullness, which is its own or none
-word_left : (n : ℕ) (i : Bounds) (a : Nullness) → (a ≡ NoNull) ⊎ (a ≡ null_of n) → IsLeft n (reduced (numbers_of (word.Known n) i a))
+pub word_left : (n : ℕ) (i : Bounds) (a : Nullness) → (a ≡ NoNull) ⊎ (a ≡ null_of n) → IsLeft n (reduced (numbers_of (word.Known n) i a))
 word_left n i a (inl e) = inl (rw e refl)
 word_left n i a (inr e) = by (n == 0) refl
   where
@@ -155,7 +155,7 @@ narrowed_left n r = left_parts n (word.Known n) (range_met (constant_value n).in
 -- ---- a wide number, and nothing
 
 -- a wide number, or nothing
-abbrev IsWideLeft : ℕ → Parts → Type 0
+abbrev pub IsWideLeft : ℕ → Parts → Type 0
 IsWideLeft n v = (v ≡ least_value) ⊎ (v ≡ wide_value n)
 
 settled_wide : (n : ℕ) (v : Parts) → IsWideLeft n v → IsWideLeft n (settled v)
@@ -233,7 +233,7 @@ narrowed_none r = refl
 
 -- a way to leave something of a value that keeps words, wides and nothing
 module _ (leaves : Parts → Parts) (of_none : leaves least_value ≡ least_value) (of_word : (n : ℕ) → IsLeft n (leaves (constant_value n))) (of_wide : (n : ℕ) → IsWideLeft n (leaves (wide_value n))) where
-  left_under : (v : Parts) (f : Flat) → IsUnder v f → IsUnder (leaves v) f
+  pub left_under : (v : Parts) (f : Flat) → IsUnder v f → IsUnder (leaves v) f
   left_under v Bottom h = rw h of_none
   left_under v (KnownWord n) (inl h) = inl (rw h of_none)
   left_under v (KnownWord n) (inr h) = subst (λ (x : Parts). IsUnder (leaves x) (KnownWord n)) (sym h.0) (by (of_word n))
@@ -362,7 +362,7 @@ goes_past : (P : ℕ → Type 0) (n : ℕ) (v o : Parts) → Past P n v → goes
 goes_past P n v o (inl e) k = no_some (subst (λ (x : Parts). goes_on x ≡ Some o) e k)
 goes_past P n v o (inr e) k = (sym (some_is (subst (λ (b : Bool). (if b then None else Some (constant_value n)) ≡ Some o) (word_something n) (subst (λ (x : Parts). goes_on x ≡ Some o) e.0 k))), e.1)
 
-goes_same : (v o : Parts) → goes_on v ≡ Some o → o ≡ v
+pub goes_same : (v o : Parts) → goes_on v ≡ Some o → o ≡ v
 goes_same v o e = by (is_nothing v) e
   where
     by : (b : Bool) → (if b then None else Some v) ≡ Some o → o ≡ v

@@ -3,3 +3,5 @@ pub mod Others
 pub mod Tests
 pub mod Outcomes
 pub mod Steps
+pub mod Branches
+pub mod Edges

@@ -32,7 +32,7 @@ use Rattle.dom_frame.proofs.Reading.{value_put}
 use Rattle.pass_defs.specs.Flat.{Flat, Bottom, KnownWord, KnownWide, Any, flat_literal}
 use Rattle.pass_defs.specs.Facts as name
 use Rattle.pass_defs.specs.Constants.{flat, Solution}
-use Rattle.cover_law.specs.Sound.{IsSmall}
+use Rattle.cover_law.specs.Sound.{IsSmall, AreSmall}
 use Rattle.cover_law.proofs.Ranges.{small_bits}
 use Rattle.flat_bounds.specs.Under.{IsUnder, AreUnder}
 use Rattle.flat_law.proofs.Operands.{no_some, some_is, binary_under}
@@ -121,6 +121,8 @@ answered_under wide to g (Some v) x y a k h e = just (number.put_sized wide to v
 abbrev pub HasSmall : Insn → Type 0
 HasSmall (insn.Const to value) = IsSmall value
 HasSmall (insn.Literal op to a value) = IsSmall value
+HasSmall (insn.PackedSwitch on first targets) = IsSmall first
+HasSmall (insn.SparseSwitch on keys targets) = AreSmall keys
 HasSmall i = Unit {0}
 
 module _ (p : Program) (t : Solution) (class : Text) (before : Option Form) where

@@ -1,32 +1,27 @@
 -- Where an instruction goes on is where its form goes on under flat registers, and with registers that are under these.
-use Rattle.std.specs.Prelude.{◌≡◌, ◌⊎◌, ◌<◌, ◌^◌, ◌+◌, ◌-◌, ◌%◌, ◌&&◌, ◌||◌, ◌++◌, ◌<ℤ◌, int_lt, nat_eq, zero, suc, ℕ, ℤ, pos, negsuc, Bool, true, false, if◌then◌else◌, List, [], ◌∷◌, length, take, drop, zip, Option, Some, None, refl, slice_get, Contains}
-use Rattle.std.specs.Option.{option_map}
-use Rattle.std.specs.List.{list_all}
+use Rattle.std.specs.Prelude.{◌≡◌, ◌⊎◌, ◌<◌, ◌^◌, ◌+◌, ◌-◌, ◌%◌, ◌||◌, ◌++◌, ◌<ℤ◌, int_lt, nat_eq, zero, suc, ℕ, ℤ, pos, negsuc, Bool, true, false, if◌then◌else◌, List, [], ◌∷◌, length, take, Option, Some, None, refl, slice_get, Contains}
 use Rattle.std.specs.Int.{w32, cast_signed, cast_unsigned}
 use Rattle.std.specs.Int.RustNames.{FitsSigned}
 use Rattle.std.proofs.Common.{sym, ◌∙◌, arith, inl, inr, subst, ap}
 use Rattle.std.proofs.lemmas.Bool.{eqb-true}
 use Rattle.std.proofs.lemmas.Grind.{common_steps}
 use Rattle.std.proofs.lemmas.Int.{ints, of_z-to_z, to_z-of_z}
-use Rattle.std.proofs.lemmas.List.Elements.{Contains-append_cases}
 use Rattle.std.proofs.Math.Nat.{mod-eq_of_lt}
-use Rattle.lemmas.proofs.Bools.{and_left, and_right}
+use Rattle.lemmas.proofs.Bools.{and_right}
 use Rattle.lemmas.proofs.Lists.{got_short, contains_here, contains_there}
-use Rattle.insn_set.specs.Spelling.{is_encodable, keys_ascend}
+use Rattle.insn_set.specs.Spelling.{keys_ascend}
 use Rattle.insn_set.specs.declared.ops.Test.{Test}
 use Rattle.insn_set.specs.declared.ops.Test.TheVariants.{Eq, Ne, Lt, Ge, Gt, Le}
-use Rattle.dalvik_defs.specs.Arith.{passes, signed}
+use Rattle.dalvik_defs.specs.Arith.{signed}
 use Rattle.dalvik_defs.specs.ActPlain.{packed_target, switch_target}
-use Rattle.dalvik_defs.specs.declared.state.Value.TheVariants as machine
 use Rattle.domains.specs.Values.{Parts, least_value, constant_value, known_of}
 use Rattle.domains.specs.Ranges.{words_between, first_word, last_word}
 use Rattle.value_ops.specs.Left.{is_nothing, both_go_on, same_as, narrowed}
-use Rattle.value_ops.specs.Tests.{passed_values, tested_values, opposite, turned, less_values, least_values, other_than, words_below, words_above, keyed_value, unkeyed_value, unpacked_value, without_all, key_at, key_word, consecutive}
-use Rattle.value_ops.proofs.Keys.{unpacked_is}
-use Rattle.pass_defs.specs.Flat.{Flat, Bottom, KnownWord, KnownWide, Any, flat_outcome, flat_known}
+use Rattle.value_ops.specs.Tests.{passed_values, tested_values, opposite, turned, less_values, least_values, other_than, words_below, words_above, key_at, key_word, consecutive}
+use Rattle.pass_defs.specs.Flat.{Flat, Bottom, KnownWord, KnownWide, Any, flat_outcome}
 use Rattle.pass_defs.specs.Facts as name
 use Rattle.pass_defs.specs.Constants.{flat}
-use Rattle.cover_law.specs.Sound.{IsSmall, AreSmall}
+use Rattle.cover_law.specs.Sound.{IsSmall}
 use Rattle.cover_law.proofs.Ranges.{small_bits}
 use Rattle.flat_bounds.specs.Under.{IsUnder}
 use Rattle.flat_law.proofs.Operands.{no_some, some_is}

@@ -1,13 +1,12 @@
 -- Each way on which an instruction goes is one of its form under flat registers, and what arrives is under what the form leaves.
-use Rattle.std.specs.Prelude.{◌≡◌, ◌⊎◌, ◌<◌, ◌^◌, ◌+◌, ◌%◌, ◌&&◌, ◌||◌, ◌++◌, int_lt, nat_eq, nat_lt, zero, suc, ℕ, ℤ, pos, Bool, true, false, not, if◌then◌else◌, List, [], ◌∷◌, length, take, Option, Some, None, refl, slice_get, Contains}
+use Rattle.std.specs.Prelude.{◌≡◌, ◌⊎◌, ◌<◌, ◌^◌, ◌+◌, ◌&&◌, ◌||◌, ◌++◌, nat_eq, nat_lt, zero, suc, ℕ, ℤ, pos, Bool, true, false, if◌then◌else◌, List, [], ◌∷◌, length, take, Option, Some, None, refl, slice_get, Contains}
 use Rattle.std.specs.Option.{option_map}
 use Rattle.std.specs.Ordering.{int_eq}
 use Rattle.std.specs.Int.{w32, cast_unsigned}
 use Rattle.std.proofs.Common.{sym, ◌∙◌, arith, inl, inr, subst, ap}
-use Rattle.std.proofs.lemmas.Grind.{common_steps}
-use Rattle.std.proofs.lemmas.Bool.{ltb-true, eqb-true}
+use Rattle.std.proofs.lemmas.Bool.{ltb-true}
 use Rattle.std.proofs.lemmas.List.Elements.{Contains-append_cases}
-use Rattle.lemmas.proofs.Bools.{and_left, and_right}
+use Rattle.lemmas.proofs.Bools.{and_right}
 use Rattle.lemmas.proofs.Lists.{got_short, contains_here, contains_there}
 use Rattle.insn_set.specs.Flow.{divides, divides_by_literal}
 use Rattle.insn_set.specs.Spelling.{is_encodable, keys_ascend}
@@ -21,28 +20,28 @@ use Rattle.program_model.specs.declared.program.Program.{Program}
 use Rattle.dalvik_defs.specs.Arith.{Div, Rem}
 use Rattle.dalvik_defs.specs.Operators.{sort_of}
 use Rattle.dalvik_defs.specs.Names.{Text}
-use Rattle.dalvik_defs.specs.Naming.{form_of, named}
+use Rattle.dalvik_defs.specs.Naming.{form_of}
 use Rattle.dalvik_defs.specs.declared.forms.Form.{Form}
-use Rattle.domains.specs.Values.{Parts, least_value, constant_value, wide_value}
+use Rattle.domains.specs.Values.{Parts, least_value, constant_value}
 use Rattle.value_ops.specs.Left.{is_nothing, goes_on, number_in}
 use Rattle.value_ops.specs.Numbers.{binary_value, literal_value, literal_known, sorted_value, is_zero_number, word_answer, wide_answer}
 use Rattle.value_ops.specs.Sums.{range_of}
 use Rattle.insn_set.specs.Widths.{binary_is_wide}
 use Rattle.cover_law.proofs.Ranges.{small_bits}
-use Rattle.value_ops.specs.Tests.{tested_values, keyed_value, unkeyed_value, unpacked_value, without_all, key_at, consecutive}
+use Rattle.value_ops.specs.Tests.{tested_values, keyed_value, unkeyed_value, without_all, key_at, consecutive}
 use Rattle.value_ops.proofs.Keys.{unpacked_is}
 use Rattle.dom_frame.specs.Registers as number
 use Rattle.dom_frame.specs.Registers.{Registers, value_at, refined, refined_both}
 use Rattle.dom_frame.specs.Steps as step
-use Rattle.closed_facts.specs.Edges.{arm, both_ways, cases_from}
+use Rattle.closed_facts.specs.Edges.{arm, cases_from}
 use Rattle.pass_defs.specs.Flat.{Flat, Bottom, KnownWord, KnownWide, Any, flat_outcome, flat_known, flat_zero}
 use Rattle.pass_defs.specs.Facts as name
 use Rattle.pass_defs.specs.Constants.{flat, Solution}
 use Rattle.cover_law.specs.Sound.{IsSmall, AreSmall}
 use Rattle.flat_bounds.specs.Under.{IsUnder, AreUnder}
 use Rattle.flat_bounds.specs.Bounds.{edges_by}
-use Rattle.flat_law.proofs.Operands.{no_some, some_is, left_nothing, right_nothing}
-use Rattle.flat_law.proofs.Tests.{NoKey, tested_under, keyed_under, unkeyed_under, goes_same}
+use Rattle.flat_law.proofs.Operands.{no_some, some_is, right_nothing}
+use Rattle.flat_law.proofs.Tests.{NoKey, tested_under, keyed_under, unkeyed_under}
 use Rattle.flat_law.proofs.Branches.{way_so, way_in, packed_at, packed_none, sparse_at, sparse_none}
 use Rattle.flat_law.proofs.Steps.{told_under, refined_under, HasSmall, taken_named, left_of, after_under}
 

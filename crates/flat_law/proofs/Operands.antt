@@ -1,21 +1,18 @@
 -- What operators with two operands answer is under what they answer of flat values, where the operands are under these.
-use Rattle.std.specs.Prelude.{◌≡◌, ◌⊎◌, ◌<◌, ◌^◌, ◌%◌, ◌==◌, ◌||◌, nat_eq, ℕ, ℤ, Bool, true, false, if◌then◌else◌, List, [], Option, Some, None, refl}
+use Rattle.std.specs.Prelude.{◌≡◌, ◌^◌, ◌%◌, ◌==◌, ◌||◌, ℕ, Bool, true, false, if◌then◌else◌, Option, Some, None, refl}
 use Rattle.std.specs.Option.{option_map}
-use Rattle.std.specs.Int.{w32, cast_unsigned}
-use Rattle.std.proofs.Common.{sym, ◌∙◌, arith, inl, inr, subst, ap}
-use Rattle.std.proofs.lemmas.Grind.{common_steps}
+use Rattle.std.proofs.Common.{sym, inl, inr, subst}
 use Rattle.std.proofs.Math.Nat.{mod-eq_of_lt}
 use Rattle.insn_set.specs.declared.ops.BinaryOp.{BinaryOp}
 use Rattle.dalvik_defs.specs.Arith.{Kind, answer}
 use Rattle.dalvik_defs.specs.Operators.{Sort, OnWord, OnWide, Shifts, OnFloat, OnDouble, sort_of}
 use Rattle.pass_defs.specs.Flat.{Flat, Bottom, KnownWord, KnownWide, Any, of_words, of_wides, of_shift, word_or_none, wide_or_none, flat_sort, flat_binary}
-use Rattle.domains.specs.declared.nulls.Nullness.{Nullness}
-use Rattle.domains.specs.declared.nulls.Nullness.TheVariants.{Bottom as NoNull, Null, NotNull, Any as AnyNull}
+use Rattle.domains.specs.declared.nulls.Nullness.TheVariants.{Null, NotNull}
 use Rattle.domains.specs.Values.{Parts, least_value, constant_value, wide_value}
 use Rattle.value_ops.specs.Left.{is_nothing, is_bottom}
 use Rattle.value_ops.specs.Sums.{range_of}
 use Rattle.value_ops.specs.Numbers.{stops, word_answer, wide_answer, shift_answer, sorted_value, binary_value}
-use Rattle.flat_bounds.specs.Under.{IsWord, IsWide, IsUnder}
+use Rattle.flat_bounds.specs.Under.{IsWord, IsUnder}
 use Rattle.cover_law.proofs.Numbers.{MaybeLess, answer_less}
 
 pub no_some : {A : Type 0} {P : Type 0} {x : A} → None ≡ Some x → P

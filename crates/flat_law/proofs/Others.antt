@@ -1,8 +1,8 @@
 -- What the other operators answer, and what fields keep, is under what they are of flat values.
-use Rattle.std.specs.Prelude.{◌≡◌, ◌⊎◌, ◌<◌, ◌^◌, ◌%◌, ◌==◌, ◌||◌, nat_eq, ℕ, ℤ, Bool, true, false, if◌then◌else◌, List, [], Option, Some, None, refl}
+use Rattle.std.specs.Prelude.{◌≡◌, ◌⊎◌, ◌<◌, ◌^◌, ◌%◌, ◌||◌, ℕ, ℤ, Bool, true, false, if◌then◌else◌, Option, Some, None, refl}
 use Rattle.std.specs.Option.{option_map}
 use Rattle.std.specs.Int.{w8, w16, w32, cast_unsigned}
-use Rattle.std.proofs.Common.{sym, ◌∙◌, arith, inl, inr, subst, ap}
+use Rattle.std.proofs.Common.{sym, arith, inl, inr, subst, ap}
 use Rattle.insn_set.specs.declared.ops.Item.{Item}
 use Rattle.insn_set.specs.declared.ops.Item.TheVariants as item
 use Rattle.insn_set.specs.declared.ops.CmpOp.{CmpOp}
@@ -12,14 +12,12 @@ use Rattle.insn_set.specs.declared.ops.UnaryOp.TheVariants as unary
 use Rattle.insn_set.specs.declared.ops.LiteralOp.{LiteralOp}
 use Rattle.dalvik_defs.specs.Arith.{literal_answer, compared, signed, low_signed}
 use Rattle.dalvik_defs.specs.Operators.{Number, OneWord, OneWide, unary_answer}
-use Rattle.dalvik_defs.specs.Items.{stored}
-use Rattle.dalvik_defs.specs.declared.state.Value.TheVariants as machine
 use Rattle.pass_defs.specs.Flat as flat
 use Rattle.pass_defs.specs.Flat.{Flat, Bottom, KnownWord, KnownWide, Any, of_number, word_or_none, flat_number, flat_unary, flat_literal, flat_compared, flat_stored, flat_of}
 use Rattle.domains.specs.Values.{Parts, least_value, constant_value, wide_value}
 use Rattle.value_ops.specs.Left.{is_nothing, number_in}
-use Rattle.value_ops.specs.Numbers.{literal_known, literal_value, divides_by_zero, unary_known, unary_value, number_value, is_exact, no_floats, compared_known, compared_value, kept_value, stored_value}
-use Rattle.flat_bounds.specs.Under.{IsWord, IsWide, IsUnder}
+use Rattle.value_ops.specs.Numbers.{literal_known, literal_value, divides_by_zero, unary_value, number_value, is_exact, no_floats, compared_known, compared_value, kept_value, stored_value}
+use Rattle.flat_bounds.specs.Under.{IsUnder}
 use Rattle.cover_law.proofs.Numbers.{MaybeLess, NumberLess, literal_less, unary_less, compared_less, cut}
 use Rattle.flat_law.proofs.Operands.{no_some, some_is, word_something}
 

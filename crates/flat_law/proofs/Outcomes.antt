@@ -1,9 +1,9 @@
 -- A test of two known words leaves something where it answers as the machine does, and nothing the other way.
-use Rattle.std.specs.Prelude.{◌≡◌, ◌⊎◌, ◌<◌, ◌^◌, ◌%◌, ◌==◌, ◌&&◌, ◌||◌, ◌<ℤ◌, ◌≤ℤ◌, ◌-ℤ◌, not, nat_eq, int_lt, ℕ, ℤ, pos, Bool, true, false, if◌then◌else◌, List, [], Option, Some, None, refl}
+use Rattle.std.specs.Prelude.{◌≡◌, ◌<◌, ◌^◌, ◌==◌, ◌&&◌, ◌||◌, ◌<ℤ◌, ◌≤ℤ◌, ◌-ℤ◌, not, nat_eq, int_lt, ℕ, ℤ, pos, Bool, true, false, if◌then◌else◌, [], Option, Some, None, refl}
 use Rattle.std.specs.Int.{w32, cast_signed, int_min, int_max}
 use Rattle.std.specs.Int.RustNames.{int_le}
 use Rattle.std.specs.Ordering.{int_eq}
-use Rattle.std.proofs.Common.{sym, ◌∙◌, arith, inl, inr, subst, ap}
+use Rattle.std.proofs.Common.{sym, ◌∙◌, arith, subst, ap}
 use Rattle.std.proofs.lemmas.Grind.{common_steps}
 use Rattle.std.proofs.lemmas.Int.{ints, clamps}
 use Rattle.std.proofs.Math.Nat.{mod-eq_of_lt}
@@ -13,7 +13,7 @@ use Rattle.dalvik_defs.specs.Arith.{passes, signed}
 use Rattle.dalvik_defs.specs.declared.state.Value.TheVariants as machine
 use Rattle.domains.specs.declared.numbers.Word.TheVariants as word
 use Rattle.domains.specs.declared.nulls.Nullness.{Nullness}
-use Rattle.domains.specs.declared.nulls.Nullness.TheVariants.{Bottom as NoNull, Null, NotNull, Any as AnyNull}
+use Rattle.domains.specs.declared.nulls.Nullness.TheVariants.{Null, NotNull, Any as AnyNull}
 use Rattle.domains.specs.Ranges.{Bounds, no_words, only_word, words_between, first_word, last_word}
 use Rattle.domains.specs.Reducing.{in_range, reduced, known_value}
 use Rattle.domains.specs.Values.{Parts, least_value, constant_value, objects_value}

@@ -1,8 +1,8 @@
 -- What an instruction leaves in registers is under what its form leaves of flat ones, where they are under these.
-use Rattle.std.specs.Prelude.{◌≡◌, ◌⊎◌, ◌<◌, ◌^◌, ◌+◌, ◌==◌, ◌&&◌, ◌||◌, nat_eq, ℕ, ℤ, Bool, true, false, if◌then◌else◌, List, [], ◌∷◌, Option, Some, None, refl}
+use Rattle.std.specs.Prelude.{◌≡◌, ◌⊎◌, ◌+◌, ◌==◌, nat_eq, ℕ, Bool, true, false, if◌then◌else◌, List, Option, Some, None, refl}
 use Rattle.std.specs.Option.{option_map}
 use Rattle.std.specs.Int.{w32, cast_unsigned}
-use Rattle.std.proofs.Common.{sym, ◌∙◌, arith, inl, inr, subst, ap}
+use Rattle.std.proofs.Common.{sym, inl, inr, subst}
 use Rattle.std.proofs.lemmas.Bool.{eqb-true}
 use Rattle.insn_set.specs.Widths.{is_wide_slot, is_wide_item, unary_writes_wide, binary_is_wide}
 use Rattle.insn_set.specs.declared.ops.Slot.{Slot}
@@ -17,19 +17,16 @@ use Rattle.dalvik_defs.specs.Names.{Text}
 use Rattle.dalvik_defs.specs.Naming.{form_of, named}
 use Rattle.dalvik_defs.specs.declared.forms.Form.{Form}
 use Rattle.dalvik_defs.specs.declared.forms.Form.TheVariants as form
-use Rattle.domains.specs.declared.numbers.Word.TheVariants as word
-use Rattle.domains.specs.declared.nulls.Nullness.{Nullness}
-use Rattle.domains.specs.declared.nulls.Nullness.TheVariants.{Bottom as NoNull, Null, NotNull, Any as AnyNull}
-use Rattle.domains.specs.Reducing.{reduced}
-use Rattle.domains.specs.Values.{Parts, least_value, constant_value, wide_value, any_value}
-use Rattle.value_ops.specs.Left.{is_nothing, goes_on, held_value, without_null}
+use Rattle.domains.specs.declared.nulls.Nullness.TheVariants.{Bottom as NoNull, Null, NotNull}
+use Rattle.domains.specs.Values.{Parts, constant_value, any_value}
+use Rattle.value_ops.specs.Left.{goes_on, held_value, without_null}
 use Rattle.value_ops.specs.Numbers.{binary_value, literal_value, compared_value, unary_value}
 use Rattle.dom_frame.specs.Registers as number
 use Rattle.dom_frame.specs.Registers.{Registers, value_at, refined, then_put}
 use Rattle.dom_frame.specs.Classes.{cast_value, cast_under}
 use Rattle.dom_frame.specs.Steps as step
 use Rattle.dom_frame.proofs.Reading.{value_put}
-use Rattle.pass_defs.specs.Flat.{Flat, Bottom, KnownWord, KnownWide, Any, flat_literal}
+use Rattle.pass_defs.specs.Flat.{Flat, KnownWord, KnownWide, Any, flat_literal}
 use Rattle.pass_defs.specs.Facts as name
 use Rattle.pass_defs.specs.Constants.{flat, Solution}
 use Rattle.cover_law.specs.Sound.{IsSmall, AreSmall}
@@ -37,7 +34,7 @@ use Rattle.cover_law.proofs.Ranges.{small_bits}
 use Rattle.flat_bounds.specs.Under.{IsUnder, AreUnder}
 use Rattle.flat_law.proofs.Operands.{no_some, some_is, binary_under}
 use Rattle.flat_law.proofs.Others.{literal_under, compared_under, unary_under}
-use Rattle.flat_law.proofs.Tests.{null_of, IsLeft, IsWideLeft, word_left, left_under, goes_same}
+use Rattle.flat_law.proofs.Tests.{null_of, IsLeft, word_left, left_under, goes_same}
 
 -- ---- registers that are written
 

@@ -1,10 +1,8 @@
 -- What a test leaves of its operands is under flat values where they were, and a test of two known words goes the one way that it has.
-use Rattle.std.specs.Prelude.{◌≡◌, ◌⊎◌, ◌<◌, ◌^◌, ◌%◌, ◌==◌, ◌&&◌, ◌||◌, not, nat_eq, ℕ, ℤ, pos, Bool, true, false, if◌then◌else◌, List, [], ◌∷◌, Option, Some, None, refl}
-use Rattle.std.specs.Option.{option_map}
+use Rattle.std.specs.Prelude.{◌≡◌, ◌⊎◌, ◌<◌, ◌^◌, ◌==◌, ◌&&◌, ◌||◌, not, ℕ, ℤ, pos, Bool, true, false, if◌then◌else◌, List, [], ◌∷◌, Option, Some, None, refl}
 use Rattle.std.specs.Int.{w32, cast_signed, cast_unsigned}
 use Rattle.std.proofs.Common.{sym, ◌∙◌, arith, inl, inr, subst, ap}
 use Rattle.std.proofs.lemmas.Grind.{common_steps}
-use Rattle.std.proofs.lemmas.Int.{ints}
 use Rattle.std.specs.Ordering.{int_eq}
 use Rattle.insn_set.specs.declared.ops.Test.{Test}
 use Rattle.insn_set.specs.declared.ops.Test.TheVariants.{Eq, Ne, Lt, Ge, Gt, Le}
@@ -19,7 +17,7 @@ use Rattle.domains.specs.Reducing.{in_range, reduced, with_number}
 use Rattle.domains.specs.Values.{Parts, least_value, constant_value, wide_value, known_of}
 use Rattle.value_ops.specs.Left.{is_nothing, goes_on, both_go_on, word_met, range_met, null_met, settled, same_as, word_without, range_without, null_without, without_null, without, narrowed}
 use Rattle.value_ops.specs.Tests.{other_than, tested_values, passed_values, words_below, words_above, turned, less_values, least_values, opposite, keyed_value, has_word, null_has, without_all, unkeyed_value}
-use Rattle.flat_bounds.specs.Under.{IsWord, IsWide, IsUnder}
+use Rattle.flat_bounds.specs.Under.{IsUnder}
 use Rattle.flat_law.proofs.Operands.{no_some, some_is, word_something}
 
 -- ---- what is left of a number

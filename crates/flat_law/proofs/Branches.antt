@@ -108,7 +108,7 @@ module _ (first : ℤ) (s : IsSmall first) where
   pub packed_at : (targets : List ℕ) (place w target : ℕ) → place < 2 ^ 32 → w ≡ cast_unsigned w32 (key_at first place) → slice_get targets place ≡ Some target → packed_target w first targets ≡ Some target
   packed_at targets place w target l e h =
       let is : (w + (2 ^ 32 - cast_unsigned w32 first)) % 2 ^ 32 ≡ place =
-          ap (λ (m : ℕ). (m + (2 ^ 32 - cast_unsigned w32 first)) % 2 ^ 32) (e ∙ word_at place) ∙ back (cast_unsigned w32 first) place (small_bits first s) l in
+      ap (λ (m : ℕ). (m + (2 ^ 32 - cast_unsigned w32 first)) % 2 ^ 32) (e ∙ word_at place) ∙ back (cast_unsigned w32 first) place (small_bits first s) l in
       ap (slice_get targets) is ∙ h
 
   last_key : (zs : List ℤ) (z : ℤ) (w : ℕ) → NoKey (zs ++ z ∷ []) w → NoKey zs w × (cast_unsigned w32 z ≡ w → ⊥)

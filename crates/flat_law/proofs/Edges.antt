@@ -84,9 +84,10 @@ module _ (x : Registers) (a : ℕ → Flat) (h : AreUnder x a) (n : ℕ) where
 
   way_under : (taken : Bool) (t : Test) (r s target : ℕ) (y : Registers) → step.branched taken (insn.If t r s target) x ≡ Some y → Contains (two_ways t r s target) (if taken then target else n + 1) × AreUnder y a
   way_under taken t r s target y e =
-      let some = mapped_some (λ (v : Parts × Parts). number.put s v.1 (number.put r v.0 x)) (tested_values taken t (value_at x r) (value_at x s)) y e in
-      (way_in (flat_outcome t (a r) (a s)) taken n target (way_so taken t (value_at x r) (value_at x s) (a r) (a s) some.0 (h r) (h s) some.1),
-      refined_both_under r s (tested_values taken t (value_at x r) (value_at x s)) x y a (λ z k. tested_under taken t (value_at x r) (value_at x s) (a r) (a s) z (h r) (h s) k) h e)
+      let some = mapped_some (λ (v : Parts × Parts). number.put s v.1 (number.put r v.0 x)) (tested_values taken t (value_at x r) (value_at x s)) y e in (
+        way_in (flat_outcome t (a r) (a s)) taken n target (way_so taken t (value_at x r) (value_at x s) (a r) (a s) some.0 (h r) (h s) some.1),
+        refined_both_under r s (tested_values taken t (value_at x r) (value_at x s)) x y a (λ z k. tested_under taken t (value_at x r) (value_at x s) (a r) (a s) z (h r) (h s) k) h e,
+      )
 
   zero_under : IsUnder (constant_value 0) (KnownWord 0)
   zero_under = inr (refl, omega arith)
@@ -99,10 +100,11 @@ module _ (x : Registers) (a : ℕ → Flat) (h : AreUnder x a) (n : ℕ) where
       → Contains (name.branches flat (flat_outcome t (a r) (KnownWord 0)) n target) (if taken then target else n + 1) × AreUnder y a
   zero_way taken t r target y e =
       let left = mapped_some (λ (v : Parts). number.put r v x) (option_map (λ v. v.0) (tested_values taken t (value_at x r) (constant_value 0))) y e in
-      let some = mapped_some (λ (v : Parts × Parts). v.0) (tested_values taken t (value_at x r) (constant_value 0)) left.0 left.1 in
-      (way_in (flat_outcome t (a r) (KnownWord 0)) taken n target (way_so taken t (value_at x r) (constant_value 0) (a r) (KnownWord 0) some.0 (h r) zero_under some.1),
-      refined_under r (option_map (λ v. v.0) (tested_values taken t (value_at x r) (constant_value 0))) x y a
-          (λ v k. first_under (tested_values taken t (value_at x r) (constant_value 0)) (a r) v (λ z d. (tested_under taken t (value_at x r) (constant_value 0) (a r) (KnownWord 0) z (h r) zero_under d).0) k) h e)
+      let some = mapped_some (λ (v : Parts × Parts). v.0) (tested_values taken t (value_at x r) (constant_value 0)) left.0 left.1 in (
+        way_in (flat_outcome t (a r) (KnownWord 0)) taken n target (way_so taken t (value_at x r) (constant_value 0) (a r) (KnownWord 0) some.0 (h r) zero_under some.1),
+        refined_under r (option_map (λ v. v.0) (tested_values taken t (value_at x r) (constant_value 0))) x y a
+            (λ v k. first_under (tested_values taken t (value_at x r) (constant_value 0)) (a r) v (λ z d. (tested_under taken t (value_at x r) (constant_value 0) (a r) (KnownWord 0) z (h r) zero_under d).0) k) h e,
+      )
 
   -- ---- switches
 
@@ -122,9 +124,10 @@ module _ (x : Registers) (a : ℕ → Flat) (h : AreUnder x a) (n : ℕ) where
   past_under : (zs : List ℤ) (on : ℕ) (y : Registers) → refined on (unkeyed_value zs (value_at x on)) x ≡ Some y → AreUnder y a × ((w : ℕ) → a on ≡ KnownWord w → (w < 2 ^ 32) × NoKey zs w)
   past_under zs on y e =
       let left = mapped_some (λ (v : Parts). number.put on v x) (unkeyed_value zs (value_at x on)) y e in
-      let it = unkeyed_under zs (value_at x on) left.0 (a on) (h on) left.1 in
-      (refined_under on (unkeyed_value zs (value_at x on)) x y a (λ v k. (unkeyed_under zs (value_at x on) v (a on) (h on) k).0) h e,
-      λ w k. (known_less left.0 w (subst (IsUnder left.0) k it.0) (goes_something (without_all zs (value_at x on)) left.0 left.1), it.1 w k))
+      let it = unkeyed_under zs (value_at x on) left.0 (a on) (h on) left.1 in (
+        refined_under on (unkeyed_value zs (value_at x on)) x y a (λ v k. (unkeyed_under zs (value_at x on) v (a on) (h on) k).0) h e,
+        λ w k. (known_less left.0 w (subst (IsUnder left.0) k it.0) (goes_something (without_all zs (value_at x on)) left.0 left.1), it.1 w k),
+      )
 
   key_under : (z : ℤ) (on : ℕ) (y : Registers) → refined on (keyed_value z (value_at x on)) x ≡ Some y → AreUnder y a × ((w : ℕ) → a on ≡ KnownWord w → w ≡ cast_unsigned w32 z)
   key_under z on y e =
@@ -149,21 +152,25 @@ module _ (x : Registers) (a : ℕ → Flat) (h : AreUnder x a) (n : ℕ) where
 
     packed_past : (y : Registers) → step.unswitched (insn.PackedSwitch on first targets) x ≡ Some y → Contains packed_ways (n + 1) × AreUnder y a
     packed_past y e =
-        let it = past_under (consecutive first (length targets)) on y (subst (λ (o : Option Parts). refined on o x ≡ Some y) (unpacked_is first (length targets) (value_at x on)) e) in
-        (by_known (Contains packed_ways (n + 1)) (a on)
-            (λ w k. let known = it.1 w k in
-                subst (λ (f : Flat). Contains (name.packed flat (flat_known f) first targets n) (n + 1)) (sym k)
-                (subst (λ (o : Option ℕ). Contains (name.chosen flat o n) (n + 1)) (sym (packed_none first s targets w known.0 known.1)) (contains_here (n + 1) [])))
-            (λ k. subst (λ (o : Option ℕ). Contains (name.packed flat o first targets n) (n + 1)) (sym k) (contains_here (n + 1) targets)), it.0)
+        let it = past_under (consecutive first (length targets)) on y (subst (λ (o : Option Parts). refined on o x ≡ Some y) (unpacked_is first (length targets) (value_at x on)) e) in (
+          by_known (Contains packed_ways (n + 1)) (a on)
+              (λ w k. let known = it.1 w k in
+              subst (λ (f : Flat). Contains (name.packed flat (flat_known f) first targets n) (n + 1)) (sym k)
+              (subst (λ (o : Option ℕ). Contains (name.chosen flat o n) (n + 1)) (sym (packed_none first s targets w known.0 known.1)) (contains_here (n + 1) [])))
+              (λ k. subst (λ (o : Option ℕ). Contains (name.packed flat o first targets n) (n + 1)) (sym k) (contains_here (n + 1) targets)),
+          it.0,
+        )
 
     packed_case : (place target : ℕ) (y : Registers) → slice_get targets place ≡ Some target → step.switched place (insn.PackedSwitch on first targets) x ≡ Some y → Contains packed_ways target × AreUnder y a
     packed_case place target y there e =
         let it = key_under (key_at first place) on y e in
-        let short = got_short targets place target there in
-        (by_known (Contains packed_ways target) (a on)
-            (λ w k. subst (λ (f : Flat). Contains (name.packed flat (flat_known f) first targets n) target) (sym k)
-                (subst (λ (o : Option ℕ). Contains (name.chosen flat o n) target) (sym (packed_at first s targets place w target (omega (arith, short, few)) (it.1 w k) there)) (contains_here target [])))
-            (λ k. subst (λ (o : Option ℕ). Contains (name.packed flat o first targets n) target) (sym k) (contains_there (n + 1) targets target (target_there targets place target there))), it.0)
+        let short = got_short targets place target there in (
+          by_known (Contains packed_ways target) (a on)
+              (λ w k. subst (λ (f : Flat). Contains (name.packed flat (flat_known f) first targets n) target) (sym k)
+              (subst (λ (o : Option ℕ). Contains (name.chosen flat o n) target) (sym (packed_at first s targets place w target (omega (arith, short, few)) (it.1 w k) there)) (contains_here target [])))
+              (λ k. subst (λ (o : Option ℕ). Contains (name.packed flat o first targets n) target) (sym k) (contains_there (n + 1) targets target (target_there targets place target there))),
+          it.0,
+        )
 
   module _ (on : ℕ) (keys : List ℤ) (targets : List ℕ) (s : AreSmall keys) (up : keys_ascend keys ≡ true) where
     abbrev sparse_ways : List ℕ
@@ -171,12 +178,14 @@ module _ (x : Registers) (a : ℕ → Flat) (h : AreUnder x a) (n : ℕ) where
 
     sparse_past : (y : Registers) → step.unswitched (insn.SparseSwitch on keys targets) x ≡ Some y → Contains sparse_ways (n + 1) × AreUnder y a
     sparse_past y e =
-        let it = past_under (take (length targets) keys) on y e in
-        (by_known (Contains sparse_ways (n + 1)) (a on)
-            (λ w k. let known = it.1 w k in
-                subst (λ (f : Flat). Contains (name.sparse flat (flat_known f) keys targets n) (n + 1)) (sym k)
-                (subst (λ (o : Option ℕ). Contains (name.chosen flat o n) (n + 1)) (sym (sparse_none keys targets w known.0 known.1)) (contains_here (n + 1) [])))
-            (λ k. subst (λ (o : Option ℕ). Contains (name.sparse flat o keys targets n) (n + 1)) (sym k) (contains_here (n + 1) targets)), it.0)
+        let it = past_under (take (length targets) keys) on y e in (
+          by_known (Contains sparse_ways (n + 1)) (a on)
+              (λ w k. let known = it.1 w k in
+              subst (λ (f : Flat). Contains (name.sparse flat (flat_known f) keys targets n) (n + 1)) (sym k)
+              (subst (λ (o : Option ℕ). Contains (name.chosen flat o n) (n + 1)) (sym (sparse_none keys targets w known.0 known.1)) (contains_here (n + 1) [])))
+              (λ k. subst (λ (o : Option ℕ). Contains (name.sparse flat o keys targets n) (n + 1)) (sym k) (contains_here (n + 1) targets)),
+          it.0,
+        )
 
     small_at : (zs : List ℤ) (place : ℕ) (z : ℤ) → AreSmall zs → slice_get zs place ≡ Some z → IsSmall z
     small_at [] place z m e = no_some e
@@ -190,13 +199,15 @@ module _ (x : Registers) (a : ℕ → Flat) (h : AreUnder x a) (n : ℕ) where
         by None q e = no_some e
         by (Some z) q e =
             let it = key_under z on y e in
-            let left = mapped_some (λ (v : Parts). number.put on v x) (keyed_value z (value_at x on)) y e in
-            (by_known (Contains sparse_ways target) (a on)
-                (λ w k. let small = small_at keys place z s q in
-                    let less : w < 2 ^ 32 = subst (λ (m : ℕ). m < 2 ^ 32) (sym (it.1 w k)) (small_bits z small) in
-                    subst (λ (f : Flat). Contains (name.sparse flat (flat_known f) keys targets n) target) (sym k)
-                    (subst (λ (o : Option ℕ). Contains (name.chosen flat o n) target) (sym (sparse_at keys targets place w target z up small less q (it.1 w k) there)) (contains_here target [])))
-                (λ k. subst (λ (o : Option ℕ). Contains (name.sparse flat o keys targets n) target) (sym k) (contains_there (n + 1) targets target (target_there targets place target there))), it.0)
+            let left = mapped_some (λ (v : Parts). number.put on v x) (keyed_value z (value_at x on)) y e in (
+              by_known (Contains sparse_ways target) (a on)
+                  (λ w k. let small = small_at keys place z s q in
+                  let less : w < 2 ^ 32 = subst (λ (m : ℕ). m < 2 ^ 32) (sym (it.1 w k)) (small_bits z small) in
+                  subst (λ (f : Flat). Contains (name.sparse flat (flat_known f) keys targets n) target) (sym k)
+                  (subst (λ (o : Option ℕ). Contains (name.chosen flat o n) target) (sym (sparse_at keys targets place w target z up small less q (it.1 w k) there)) (contains_here target [])))
+                  (λ k. subst (λ (o : Option ℕ). Contains (name.sparse flat o keys targets n) target) (sym k) (contains_there (n + 1) targets target (target_there targets place target there))),
+              it.0,
+            )
 
 -- the ways to targets
 cases_lead : (i : Insn) (x : Registers) (ns : List ℕ) (a : ℕ → Flat) (k : ℕ) (ts : List ℕ)
@@ -205,8 +216,8 @@ cases_lead i x ns a k [] h q c = none_there q c
 cases_lead i x ns a k (t ∷ ts) h q c =
     let first : k + 0 ≡ k = omega arith in
     both_lead (arm t (step.switched k i x)) (cases_from (k + 1) i ts x) ns a
-        (λ z. arm_leads t (step.switched k i x) ns a (λ y e. h 0 t y refl (subst (λ (m : ℕ). step.switched m i x ≡ Some y) (sym first) e)) z)
-        (cases_lead i x ns a (k + 1) ts (λ j u y d e. h (suc j) u y d (subst (λ (m : ℕ). step.switched m i x ≡ Some y) (more j) e))) q c
+    (λ z. arm_leads t (step.switched k i x) ns a (λ y e. h 0 t y refl (subst (λ (m : ℕ). step.switched m i x ≡ Some y) (sym first) e)) z)
+    (cases_lead i x ns a (k + 1) ts (λ j u y d e. h (suc j) u y d (subst (λ (m : ℕ). step.switched m i x ≡ Some y) (more j) e))) q c
   where
     more : (j : ℕ) → (k + 1) + j ≡ k + suc j
     more j = omega arith
@@ -295,26 +306,26 @@ module _ (p : Program) (t : Solution) (class : Text) (before : Option Form) (n :
   edges_under (insn.If test r s target) f k q c =
       let ns = two_ways x a h n test r s target in
       both_lead (arm (n + 1) (step.branched false (insn.If test r s target) x)) (arm target (step.branched true (insn.If test r s target) x)) ns a
-          (arm_leads (n + 1) (step.branched false (insn.If test r s target) x) ns a (way_under x a h n false test r s target))
-          (arm_leads target (step.branched true (insn.If test r s target) x) ns a (way_under x a h n true test r s target)) q c
+      (arm_leads (n + 1) (step.branched false (insn.If test r s target) x) ns a (way_under x a h n false test r s target))
+      (arm_leads target (step.branched true (insn.If test r s target) x) ns a (way_under x a h n true test r s target)) q c
   edges_under (insn.IfZero test r target) f k q c =
       let ns = name.branches flat (flat_outcome test (a r) (KnownWord 0)) n target in
       both_lead (arm (n + 1) (step.branched false (insn.IfZero test r target) x)) (arm target (step.branched true (insn.IfZero test r target) x)) ns a
-          (arm_leads (n + 1) (step.branched false (insn.IfZero test r target) x) ns a (zero_way x a h n false test r target))
-          (arm_leads target (step.branched true (insn.IfZero test r target) x) ns a (zero_way x a h n true test r target)) q c
+      (arm_leads (n + 1) (step.branched false (insn.IfZero test r target) x) ns a (zero_way x a h n false test r target))
+      (arm_leads target (step.branched true (insn.IfZero test r target) x) ns a (zero_way x a h n true test r target)) q c
   edges_under (insn.PackedSwitch on first targets) f k q c =
       let few = ltb-true (length targets) 65536 (and_right (nat_lt on 256) (nat_lt (length targets) 65536) f.0) in
       let ns = packed_ways x a h n on first targets f.1 few in
       both_lead (arm (n + 1) (step.unswitched (insn.PackedSwitch on first targets) x)) (cases_from 0 (insn.PackedSwitch on first targets) targets x) ns a
-          (arm_leads (n + 1) (step.unswitched (insn.PackedSwitch on first targets) x) ns a (packed_past x a h n on first targets f.1 few))
-          (cases_lead (insn.PackedSwitch on first targets) x ns a 0 targets (λ j u y d e. packed_case x a h n on first targets f.1 few j u y d (from_zero j (insn.PackedSwitch on first targets) y e))) q c
+      (arm_leads (n + 1) (step.unswitched (insn.PackedSwitch on first targets) x) ns a (packed_past x a h n on first targets f.1 few))
+      (cases_lead (insn.PackedSwitch on first targets) x ns a 0 targets (λ j u y d e. packed_case x a h n on first targets f.1 few j u y d (from_zero j (insn.PackedSwitch on first targets) y e))) q c
   edges_under (insn.SparseSwitch on keys targets) f k q c =
       let up = and_right (nat_eq (length keys) (length targets)) (keys_ascend keys) (and_right (nat_lt (length targets) 65536) (nat_eq (length keys) (length targets) && keys_ascend keys)
-          (and_right (nat_lt on 256) (nat_lt (length targets) 65536 && (nat_eq (length keys) (length targets) && keys_ascend keys)) f.0)) in
+      (and_right (nat_lt on 256) (nat_lt (length targets) 65536 && (nat_eq (length keys) (length targets) && keys_ascend keys)) f.0)) in
       let ns = sparse_ways x a h n on keys targets f.1 up in
       both_lead (arm (n + 1) (step.unswitched (insn.SparseSwitch on keys targets) x)) (cases_from 0 (insn.SparseSwitch on keys targets) targets x) ns a
-          (arm_leads (n + 1) (step.unswitched (insn.SparseSwitch on keys targets) x) ns a (sparse_past x a h n on keys targets f.1 up))
-          (cases_lead (insn.SparseSwitch on keys targets) x ns a 0 targets (λ j u y d e. sparse_case x a h n on keys targets f.1 up j u y d (from_zero j (insn.SparseSwitch on keys targets) y e))) q c
+      (arm_leads (n + 1) (step.unswitched (insn.SparseSwitch on keys targets) x) ns a (sparse_past x a h n on keys targets f.1 up))
+      (cases_lead (insn.SparseSwitch on keys targets) x ns a 0 targets (λ j u y d e. sparse_case x a h n on keys targets f.1 up j u y d (from_zero j (insn.SparseSwitch on keys targets) y e))) q c
   edges_under (insn.Binary op to r s) f k q c = plain (insn.Binary op to r s) f.1 k (name.unless flat (divides op && flat_zero (a s)) n) (binary_there op to r s) q c
   edges_under (insn.Literal op to r value) f k q c = plain (insn.Literal op to r value) f.1 k (name.unless flat (divides_by_literal op && int_eq value (pos 0)) n) (literal_there op to r value) q c
   edges_under insn.ReturnVoid f k q c = none_there q c

@@ -77,9 +77,9 @@ module _ (k : Kind) (v w r : Parts) where
       let other : is_nothing w ≡ false = subst (λ (x : Parts). is_nothing x ≡ false) (sym j.0) (word_something b) in
       let goes : on_words ≡ Some r = unless_stops (stops k w) on_words r (numbers_go v w (if stops k w then None else on_words) r something other e) in
       let by_second : word_answer k v.word (constant_value b).word (range_of k v.interval (constant_value b).interval) ≡ Some r =
-          subst (λ (x : Parts). word_answer k v.word x.word (range_of k v.interval x.interval) ≡ Some r) j.0 goes in
+      subst (λ (x : Parts). word_answer k v.word x.word (range_of k v.interval x.interval) ≡ Some r) j.0 goes in
       let is : option_map constant_value (answer k false a b) ≡ Some r =
-          subst (λ (x : Parts). word_answer k x.word (constant_value b).word (range_of k x.interval (constant_value b).interval) ≡ Some r) h.0 by_second in
+      subst (λ (x : Parts). word_answer k x.word (constant_value b).word (range_of k x.interval (constant_value b).interval) ≡ Some r) h.0 by_second in
       let first : a % 2 ^ 32 ≡ a = mod-eq_of_lt h.1 in
       let second : b % 2 ^ 32 ≡ b = mod-eq_of_lt j.1 in
       rw first (rw second (answered (answer k false a b) r (answer_less k a b h.1 j.1) is))

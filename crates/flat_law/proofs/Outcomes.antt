@@ -138,7 +138,7 @@ equal_goes a b o e = by (a == b) refl (first_goes (same_as (constant_value a) (c
     by false q h =
         let none : is_nothing (settled (reduced (record { word = word.Bottom; interval = met; nullness = nulls; classes = Some [] }))) ≡ true = nothing (no_word_left met nulls plain) in
         let left : is_nothing (settled (reduced (record { word = if false then word.Known a else word.Bottom; interval = met; nullness = nulls; classes = Some [] }))) ≡ false =
-            subst (λ (c : Bool). is_nothing (settled (reduced (record { word = if c then word.Known a else word.Bottom; interval = met; nullness = nulls; classes = Some [] }))) ≡ false) q h in
+        subst (λ (c : Bool). is_nothing (settled (reduced (record { word = if c then word.Known a else word.Bottom; interval = met; nullness = nulls; classes = Some [] }))) ≡ false) q h in
         let wrong : true ≡ false = sym none ∙ left in
         absurd (cc)
 

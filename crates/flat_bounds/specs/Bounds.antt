@@ -1,6 +1,6 @@
 -- What no fact needs to exceed: a table of flat values by number, under which every step of an analysis keeps values that are under
 -- it. Constants solutions give such tables.
-use Rattle.std.specs.Prelude.{◌≡◌, ◌⊎◌, ◌<◌, ◌+◌, ◌-◌, ℕ, zero, suc, Bool, true, false, List, [], ◌∷◌, ◌++◌, Option, None, Some, is_some, is_none, slice_get, Contains, option_and_then}
+use Rattle.std.specs.Prelude.{◌≡◌, ◌⊎◌, ◌<◌, ◌≤◌, ◌+◌, ◌-◌, ℕ, zero, suc, Bool, true, false, List, [], ◌∷◌, ◌++◌, Option, None, Some, is_some, is_none, slice_get, Contains, option_and_then}
 use Rattle.insn_set.specs.declared.ops.Slot.{Slot}
 use Rattle.insn_set.specs.declared.ops.Item.{Item}
 use Rattle.insn_set.specs.declared.ops.InvokeKind.{InvokeKind}
@@ -19,7 +19,7 @@ use Rattle.class_defs.specs.Places.{super_place, interface_places}
 use Rattle.class_defs.specs.Starts.{initialiser_place}
 use Rattle.pass_defs.specs.Flat.{Flat, Any, FlatBelow}
 use Rattle.flow_cfg.specs.Walks.{thrown_to}
-use Rattle.domains.specs.Values.{Parts}
+use Rattle.domains.specs.Values.{Parts, least_value}
 use Rattle.value_ops.specs.Numbers.{stored_value}
 use Rattle.dom_frame.specs.Registers.{Registers, value_at}
 use Rattle.dom_frame.specs.Steps.{after, unswitched, switched}
@@ -114,7 +114,7 @@ pub record BoundFlows (p : Program) (b : FlatTable) : Type 0 where
       → ArriveUnder x (b.registers here.method.name q)
   pub returns : (at : MethodAt) (n from : ℕ) (s : Slot) (v : Parts) (here : FlatAt p b at n) → here.insn ≡ insn.Return s from → IsUnder v (here.registers from) → IsUnder v (b.results here.method.name)
   pub begins : (at : MethodAt) (m : Method) (body : Body) (a : ℕ → Flat) (x : Registers) → method_at p at ≡ Some m → m.body ≡ Some body → b.registers m.name 0 ≡ Some a
-      → ((i : ℕ) → i < body.ins → IsUnder (value_at x (body.registers - body.ins + i)) (b.parameters m.name i)) → AreUnder x a
+      → ((i : ℕ) → i < body.ins → IsUnder (value_at x (body.registers - body.ins + i)) (b.parameters m.name i)) → ((r : ℕ) → body.registers ≤ r → value_at x r ≡ least_value) → AreUnder x a
 
 -- ---- calls
 

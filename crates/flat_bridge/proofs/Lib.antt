@@ -1,2 +1,5 @@
+pub mod Fits
 pub mod Standing
+pub mod Fielding
 pub mod Flowing
+pub mod Calling

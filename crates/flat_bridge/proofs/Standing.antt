@@ -54,7 +54,7 @@ module _ (p : Program) (s : Sound p) (once : (class : ℕ) → IsTwice p class �
 
   module _ (t : Solution) where
     -- the position by names
-    pub there : (at : MethodAt) (n : ℕ) (here : FlatAt p (numbered p t) at n) → name.At flat (named p) t (method_at p here.method.name) n
+    abbrev pub there : (at : MethodAt) (n : ℕ) (here : FlatAt p (numbered p t) at n) → name.At flat (named p) t (method_at p here.method.name) n
     there at n here =
         let o = owned at here.method here.has_method in
         record {

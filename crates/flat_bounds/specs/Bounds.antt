@@ -145,15 +145,27 @@ abbrev pub is_call : Insn → Bool
 is_call (insn.Invoke kind method args) = true
 is_call i = false
 
+-- an instruction that stands in code of the class at a place
+pub record StandsIn (p : Program) (class : ℕ) (i : Insn) : Type 0 where
+  pub at : MethodAt
+  pub method : Method
+  pub body : Body
+  pub position : ℕ
+  pub has_method : method_at p at ≡ Some method
+  pub has_body : method.body ≡ Some body
+  pub has_insn : slice_get body.insns position ≡ Some i
+  pub is_class : at.class ≡ class
+
 -- what a call gets back, whether or not a run comes to it: what the methods return that it finds, and anything where it may leave
 pub record BoundAnswers (p : Program) (o : Outside) (b : FlatTable) : Type 0 where
-  pub named : (class method : ℕ) (kind : InvokeKind) (args : List ℕ) (found : MethodAt) (m : Method) → finds_bound p class method kind ≡ Finds found → method_at p found ≡ Some m
-      → FlatBelow (b.results m.name) (b.answers class (insn.Invoke kind method args))
-  pub leaves_named : (class method : ℕ) (kind : InvokeKind) (args : List ℕ) → LeavesNamed p class method kind → b.answers class (insn.Invoke kind method args) ≡ Any
-  pub linked : (live : LiveSet) → IsLeastSet p o live → (class method : ℕ) (kind : InvokeKind) (args : List ℕ) (interface : Bool) (link : Link) → interface_of kind ≡ Some interface
-      → IsLink p live link → link.call ≡ call_at method interface → FlatBelow (b.results link.method) (b.answers class (insn.Invoke kind method args))
-  pub leaves : (live : LiveSet) → IsLeastSet p o live → (class method : ℕ) (kind : InvokeKind) (args : List ℕ) (interface : Bool) → interface_of kind ≡ Some interface
-      → MayLeave p live (call_at method interface) → b.answers class (insn.Invoke kind method args) ≡ Any
+  pub named : (class method : ℕ) (kind : InvokeKind) (args : List ℕ) (found : MethodAt) (m : Method) → StandsIn p class (insn.Invoke kind method args) → finds_bound p class method kind ≡ Finds found
+      → method_at p found ≡ Some m → FlatBelow (b.results m.name) (b.answers class (insn.Invoke kind method args))
+  pub leaves_named : (class method : ℕ) (kind : InvokeKind) (args : List ℕ) → StandsIn p class (insn.Invoke kind method args) → LeavesNamed p class method kind
+      → b.answers class (insn.Invoke kind method args) ≡ Any
+  pub linked : (live : LiveSet) → IsLeastSet p o live → (class method : ℕ) (kind : InvokeKind) (args : List ℕ) (interface : Bool) (link : Link) → StandsIn p class (insn.Invoke kind method args)
+      → interface_of kind ≡ Some interface → IsLink p live link → link.call ≡ call_at method interface → FlatBelow (b.results link.method) (b.answers class (insn.Invoke kind method args))
+  pub leaves : (live : LiveSet) → IsLeastSet p o live → (class method : ℕ) (kind : InvokeKind) (args : List ℕ) (interface : Bool) → StandsIn p class (insn.Invoke kind method args)
+      → interface_of kind ≡ Some interface → MayLeave p live (call_at method interface) → b.answers class (insn.Invoke kind method args) ≡ Any
   pub others : (class : ℕ) (i : Insn) → is_call i ≡ false → b.answers class i ≡ Any
 
 -- ---- all of it

@@ -14,7 +14,7 @@ use Rattle.program_model.specs.declared.program.MethodAt.{MethodAt}
 use Rattle.program_model.specs.declared.program.Program.{Program}
 use Rattle.class_defs.specs.ClassGraph.{IsTwice}
 use Rattle.class_defs.specs.Finding as look_up
-use Rattle.class_defs.proofs.WellFormed.{below, Sound}
+use Rattle.class_defs.proofs.WellFormed.{below, class_parts, Sound}
 use Rattle.dalvik_defs.specs.Find as find
 use Rattle.dalvik_defs.specs.Find.{Found, found_in}
 use Rattle.dalvik_defs.specs.Names.{Text}
@@ -27,7 +27,8 @@ use Rattle.name_bridge.specs.Named.{search_at}
 use Rattle.name_bridge.proofs.Candidates.{coded_test}
 use Rattle.name_bridge.proofs.Found.{found_there_is}
 use Rattle.closed_facts.specs.Found.{finds_bound}
-use Rattle.closed_bridge.proofs.Calling.{statically_is, super_is}
+use Rattle.name_bridge.proofs.Above.{own_place}
+use Rattle.name_bridge.proofs.Resolved.{static_by_number, super_by_number}
 use Rattle.closed_bridge.proofs.Fits.{Owner, owner_of}
 use Rattle.closed_bridge.proofs.Places.{own_key}
 use Rattle.domains.specs.Values.{Parts}
@@ -75,9 +76,9 @@ module _ (p : Program) (s : Sound p) (once : (class : ℕ) → IsTwice p class �
   pub bound_found : (class : ℕ) (text : Text) (method : ℕ) (kind : InvokeKind) (at : MethodAt) (g : Found) (owner : MethodAt) (caller : Method) → look.method_at p owner ≡ Some caller → owner.class ≡ class
       → class_text p class ≡ text → method < length p.methods → finds_bound p class method kind ≡ look_up.Finds at → names.found_at p at ≡ Some g → Contains (may_find (named p) text kind (method_at p method)) g
   bound_found class text method call.Static at g owner caller e c d low finds is =
-      found_first (find.finds_statically (named p) (method_at p method)) g (statically_is p s once method (method_at p method) low refl ∙ searched (finds_bound p class method call.Static) at g finds is)
+      found_first (find.finds_statically (named p) (method_at p method)) g (static_by_number p s method low ∙ searched (finds_bound p class method call.Static) at g finds is)
   bound_found class text method call.Direct at g owner caller e c d low finds is =
-      found_first (find.finds_statically (named p) (method_at p method)) g (statically_is p s once method (method_at p method) low refl ∙ searched (finds_bound p class method call.Static) at g finds is)
+      found_first (find.finds_statically (named p) (method_at p method)) g (static_by_number p s method low ∙ searched (finds_bound p class method call.Static) at g finds is)
   bound_found class text method call.Super at g owner caller e c d low finds is =
       let o = owner_of p owner caller e in
       let place : slice_get p.classes class ≡ Some o.class = ap (slice_get p.classes) (sym c) ∙ o.is_class in
@@ -85,7 +86,7 @@ module _ (p : Program) (s : Sound p) (once : (class : ℕ) → IsTwice p class �
       subst (λ (u : Text). Contains (may_find (named p) u call.Super (method_at p method)) g) (sym called)
       (Contains-append_left (found_by (find.finds_super (named p) (type_at p o.class.name) (method_at p method))) (super_candidates (named p) (method_at p method)) g
       (found_first (find.finds_super (named p) (type_at p o.class.name) (method_at p method)) g
-      (super_is p s once class method o.class (method_at p method) place low refl ∙ searched (finds_bound p class method call.Super) at g finds is)))
+      (super_by_number p s once o.class.name class (class_parts p s class o.class place).name (own_place p once class o.class place) o.class place method low ∙ searched (finds_bound p class method call.Super) at g finds is)))
   bound_found class text method call.Virtual at g owner caller e c d low finds is = absurd (cc)
   bound_found class text method call.Interface at g owner caller e c d low finds is = absurd (cc)
 

@@ -3,3 +3,4 @@ pub mod Standing
 pub mod Fielding
 pub mod Flowing
 pub mod Calling
+pub mod Answering

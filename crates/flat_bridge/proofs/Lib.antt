@@ -4,3 +4,5 @@ pub mod Fielding
 pub mod Flowing
 pub mod Calling
 pub mod Answering
+pub mod Leaving
+pub mod Putting

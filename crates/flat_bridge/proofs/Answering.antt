@@ -1,5 +1,5 @@
 -- What a call gets back that finds by its name: no less than what the method returns that it finds.
-use Rattle.std.specs.Prelude.{◌≡◌, ℕ, ◌<◌, ◌||◌, Bool, true, false, if◌then◌else◌, nat_eq, List, [], ◌∷◌, zero, suc, map, length, Option, Some, None, refl, slice_get, Contains}
+use Rattle.std.specs.Prelude.{◌≡◌, ℕ, ◌<◌, Bool, true, false, if◌then◌else◌, nat_eq, List, [], ◌∷◌, zero, suc, map, Some, refl, Contains}
 use Rattle.std.proofs.Common.{sym, ◌∙◌, arith, ap, subst}
 use Rattle.std.proofs.lemmas.Bool.{eqb-true}
 use Rattle.insn_set.specs.declared.form.Insn.{Insn}

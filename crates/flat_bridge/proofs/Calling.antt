@@ -1,5 +1,5 @@
 -- A call that finds by its name enters, by number, a method that it may find by names.
-use Rattle.std.specs.Prelude.{◌≡◌, ℕ, ◌<◌, ◌++◌, Bool, true, false, List, [], ◌∷◌, length, Option, Some, None, refl, is_some, slice_get, Contains}
+use Rattle.std.specs.Prelude.{◌≡◌, ℕ, ◌<◌, Bool, true, List, [], length, Some, None, refl, is_some, slice_get, Contains}
 use Rattle.std.proofs.Common.{sym, ◌∙◌, ap, subst}
 use Rattle.std.proofs.lemmas.List.Elements.{Contains-append_left}
 use Rattle.lemmas.proofs.Lists.{contains_here}
@@ -18,7 +18,7 @@ use Rattle.class_defs.proofs.WellFormed.{below, class_parts, Sound}
 use Rattle.dalvik_defs.specs.Find as find
 use Rattle.dalvik_defs.specs.Find.{Found, found_in}
 use Rattle.dalvik_defs.specs.Names.{Text}
-use Rattle.dalvik_defs.specs.Naming.{body_of, form_of, method_at, named, named_class, named_method, type_at}
+use Rattle.dalvik_defs.specs.Naming.{form_of, method_at, named, named_class, named_method, type_at}
 use Rattle.dalvik_defs.specs.Outer.{outer_of}
 use Rattle.insn_set.specs.declared.form.Insn.{Insn}
 use Rattle.dalvik_defs.specs.declared.names.MethodKey.{MethodKey}
@@ -29,15 +29,12 @@ use Rattle.name_bridge.proofs.Found.{found_there_is}
 use Rattle.closed_facts.specs.Found.{finds_bound}
 use Rattle.name_bridge.proofs.Above.{own_place}
 use Rattle.name_bridge.proofs.Resolved.{static_by_number, super_by_number}
-use Rattle.closed_bridge.proofs.Fits.{Owner, owner_of}
+use Rattle.closed_bridge.proofs.Fits.{owner_of}
 use Rattle.closed_bridge.proofs.Places.{own_key}
-use Rattle.domains.specs.Values.{Parts}
 use Rattle.pass_defs.specs.Calls.{may_find, found_by, super_candidates}
-use Rattle.pass_defs.specs.Flat.{Flat, FlatBelow}
-use Rattle.pass_defs.specs.Facts as name
-use Rattle.pass_defs.specs.Constants.{flat, Solution, IsSolution}
+use Rattle.pass_defs.specs.Flat.{FlatBelow}
+use Rattle.pass_defs.specs.Constants.{Solution, IsSolution}
 use Rattle.flat_bounds.specs.Bounds.{FlatAt, FlatTable, BoundCall}
-use Rattle.flat_bounds.specs.Under.{IsUnder}
 use Rattle.flat_bounds.proofs.Under.{under_below}
 use Rattle.flat_bridge.specs.Numbered.{class_text, numbered, IsAsked}
 use Rattle.flat_bridge.proofs.Fits.{insn_fit}

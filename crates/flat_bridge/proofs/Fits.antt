@@ -1,5 +1,5 @@
 -- The instructions of a program have operands that fit.
-use Rattle.std.proofs.Common.{◌≡◌, ℕ, zero, suc, ◌+◌, ◌-◌, Bool, true, List, [], ◌∷◌, length, Option, Some, None, refl, subst}
+use Rattle.std.proofs.Common.{◌≡◌, ℕ, zero, suc, ◌+◌, ◌-◌, Bool, true, List, [], ◌∷◌, length, Some, subst}
 use Rattle.std.specs.Prelude.{◌&&◌, not, slice_get}
 use Rattle.std.specs.List.{list_all, enumerate_from}
 use Rattle.lemmas.proofs.Options.{none_some, some_same}
@@ -29,9 +29,10 @@ placed f (y ∷ ys) k (suc n) x h e = placed f ys (k + 1) n x (and_right (f (k, 
 insn_parts : (p : Program) (b : Body) (m : ℕ) (x : Insn) → insn_fits p b (m, x) ≡ true → (is_encodable x ≡ true) × (numbers_fit x p ≡ true)
 unfolding insn_fits
 insn_parts p b m x h =
-    let l = and_left (is_encodable x && (registers_fit x b.registers && numbers_fit x p)) (targets_fit b.insns x && (leaves m x && is_caught b.regions m x)) h in
-    (and_left (is_encodable x) (registers_fit x b.registers && numbers_fit x p) l,
-    and_right (registers_fit x b.registers) (numbers_fit x p) (and_right (is_encodable x) (registers_fit x b.registers && numbers_fit x p) l))
+    let l = and_left (is_encodable x && (registers_fit x b.registers && numbers_fit x p)) (targets_fit b.insns x && (leaves m x && is_caught b.regions m x)) h in (
+      and_left (is_encodable x) (registers_fit x b.registers && numbers_fit x p) l,
+      and_right (registers_fit x b.registers) (numbers_fit x p) (and_right (is_encodable x) (registers_fit x b.registers && numbers_fit x p) l),
+    )
 
 insns_fit : (p : Program) (b : Body) → body_fits p b ≡ true → list_all (insn_fits p b) (enumerate_from 0 b.insns) ≡ true
 unfolding body_fits

@@ -1,5 +1,5 @@
 -- What flows on, what is thrown, what is returned and what begins stays under a solution by number.
-use Rattle.std.specs.Prelude.{◌≡◌, ◌⊎◌, ℕ, zero, suc, ◌+◌, ◌-◌, ◌<◌, ◌≤◌, true, false, List, [], length, Option, Some, None, refl, slice_get, Contains, option_and_then}
+use Rattle.std.specs.Prelude.{◌≡◌, ◌⊎◌, ℕ, zero, suc, ◌+◌, ◌-◌, ◌<◌, ◌≤◌, true, List, length, Option, Some, None, refl, Contains}
 use Rattle.std.specs.Option.{option_map}
 use Rattle.std.proofs.Common.{sym, ◌∙◌, arith, ap, subst, inl, inr}
 use Rattle.std.proofs.lemmas.Bool.{cases_lt}
@@ -20,12 +20,10 @@ use Rattle.flow_cfg.specs.Walks.{thrown_to}
 use Rattle.dalvik_defs.specs.Names.{Text}
 use Rattle.dalvik_defs.specs.Naming.{body_of, form_of, method_at, named}
 use Rattle.dalvik_defs.specs.declared.forms.Form.{Form}
-use Rattle.dalvik_defs.specs.declared.forms.Form.TheVariants as form
 use Rattle.domains.specs.Values.{Parts, least_value}
 use Rattle.dom_frame.specs.Registers.{Registers, value_at}
 use Rattle.walk_bridge.proofs.Formed.{same_caught}
-use Rattle.pass_defs.specs.Walks.{form_at, caught}
-use Rattle.pass_defs.specs.Flat.{Flat, Any, FlatBelow}
+use Rattle.pass_defs.specs.Flat.{Flat, Any}
 use Rattle.pass_defs.specs.Facts as name
 use Rattle.pass_defs.specs.Constants.{flat, Solution, IsSolution}
 use Rattle.flat_bounds.specs.Bounds.{FlatAt, FlatTable, BoundFlows, edges_by, before_of, taken_flat}
@@ -78,7 +76,7 @@ module _ (p : Program) (o : Outside) (asked : IsAsked p o) (t : Solution) (close
       let text : Text = (method_at p here.method.name).class in
       let before : Option Form = option_map (form_of p) (before_of here.body n) in
       let takes : IsUnder v (taken_named p t text before (form_of p here.insn)) =
-          subst (IsUnder v) (taken_same p t asked.sound text at.class own.text_is (before_of here.body n) here.insn fits.1) k in
+      subst (IsUnder v) (taken_same p t asked.sound text at.class own.text_is (before_of here.body n) here.insn fits.1) k in
       let way = edges_under p t text before n v x here.registers h here.insn fits.0 takes q c in
       let left = closed.flows.onward (method_at p here.method.name) n q.0 (there p asked.sound asked.once t at n here) way.0 in
       arrive_under q.1 (left_of p t text before here.insn here.registers) (b.registers here.method.name q.0) way.1

@@ -1,7 +1,7 @@
 -- A call that finds by its name and may leave the program's code by number may do so by names, so it gets back anything.
 use Rattle.std.specs.Prelude.{◌≡◌, ℕ, ◌<◌, ◌||◌, not, is_some, is_none, Bool, true, false, List, [], ◌∷◌, zero, suc, length, Option, Some, None, refl, slice_get, Contains, option_and_then}
 use Rattle.std.specs.List.{list_any}
-use Rattle.std.proofs.Common.{sym, ◌∙◌, arith, ap, subst}
+use Rattle.std.proofs.Common.{sym, ◌∙◌, arith, ap}
 use Rattle.lemmas.proofs.Bools.{or_left, or_right}
 use Rattle.insn_set.specs.declared.form.Insn.TheVariants as insn
 use Rattle.insn_set.specs.declared.ops.InvokeKind.{InvokeKind}
@@ -9,7 +9,6 @@ use Rattle.insn_set.specs.declared.ops.InvokeKind.TheVariants as call
 use Rattle.program_model.specs.Lookups as look
 use Rattle.program_model.specs.Lookups.{class_place}
 use Rattle.program_model.specs.declared.body.Body.{Body}
-use Rattle.program_model.specs.declared.pools.MethodName.{MethodName}
 use Rattle.program_model.specs.declared.pass.Outside.{Outside}
 use Rattle.program_model.specs.declared.program.Method.{Method}
 use Rattle.program_model.specs.declared.program.MethodAt.{MethodAt}
@@ -20,7 +19,7 @@ use Rattle.class_defs.proofs.WellFormed.{class_parts}
 use Rattle.dalvik_defs.specs.Find as find
 use Rattle.dalvik_defs.specs.Find.{Found}
 use Rattle.dalvik_defs.specs.Names.{Text}
-use Rattle.dalvik_defs.specs.Naming.{form_of, method_at, named, type_at}
+use Rattle.dalvik_defs.specs.Naming.{method_at, named, type_at}
 use Rattle.dalvik_defs.specs.Under.{defines}
 use Rattle.dalvik_defs.specs.declared.program.NamedClass.{NamedClass}
 use Rattle.name_bridge.specs.Named.{class_at, search_at}
@@ -34,7 +33,7 @@ use Rattle.pass_defs.specs.Calls.{may_find, is_nothing}
 use Rattle.pass_defs.specs.Leaves.{may_leave, misses}
 use Rattle.pass_defs.specs.Flat.{Any}
 use Rattle.pass_defs.specs.Constants.{Solution}
-use Rattle.flat_bounds.specs.Bounds.{FlatTable, StandsIn, LeavesNamed, Unfound, Bare, Outer, names_outer}
+use Rattle.flat_bounds.specs.Bounds.{StandsIn, LeavesNamed, Unfound, Bare, Outer, names_outer}
 use Rattle.flat_bridge.specs.Numbered.{class_text, numbered, IsAsked}
 use Rattle.flat_bridge.proofs.Fits.{insn_fit}
 use Rattle.flat_bridge.proofs.Calling.{bound_found, call_low, found_named}
@@ -91,7 +90,7 @@ module _ (p : Program) (o : Outside) (asked : IsAsked p o) where
       let class : (method_at p method).class ≡ type_at p q.0.class = ap (λ k. k.class) (method_is p asked.sound method q.0 q.1) in
       let none : class_place p q.0.class ≡ None = no_place (class_place p q.0.class) (sym (ap (λ x. is_none (option_and_then (λ q. class_place p q.class) x)) q.1) ∙ h) in
       ap (defines (named p)) class ∙ ap (λ (x : Option NamedClass). elim x as (λ o. Bool) [ Some c ↦ true | None ↦ false ])
-          (class_by_number p asked.sound q.0.class (method_class p asked.sound method q.0 q.1) ∙ ap (option_and_then (class_at p)) none)
+      (class_by_number p asked.sound q.0.class (method_class p asked.sound method q.0 q.1) ∙ ap (option_and_then (class_at p)) none)
     where
       no_place : (x : Option ℕ) → is_none x ≡ true → x ≡ None
       no_place None e = refl

@@ -1,8 +1,7 @@
 -- What is put into a field stays under what a solution says of it.
-use Rattle.std.specs.Prelude.{◌≡◌, ℕ, ◌<◌, true, List, length, Option, Some, refl}
-use Rattle.std.proofs.Common.{sym, ◌∙◌, ap, subst}
+use Rattle.std.specs.Prelude.{◌≡◌, ℕ, ◌<◌, true, length, Some}
+use Rattle.std.proofs.Common.{subst}
 use Rattle.insn_set.specs.declared.form.Insn.{Insn}
-use Rattle.insn_set.specs.declared.form.Insn.TheVariants as insn
 use Rattle.insn_set.specs.declared.ops.Item.{Item}
 use Rattle.program_model.specs.OperandRules.{numbers_fit}
 use Rattle.program_model.specs.declared.pass.Outside.{Outside}

@@ -1,11 +1,8 @@
 -- A position that a bound reaches by number is one that its solution reaches by names.
-use Rattle.std.specs.Prelude.{◌≡◌, ℕ, true, List, [], Option, Some, None, refl, slice_get, option_and_then}
+use Rattle.std.specs.Prelude.{◌≡◌, ℕ, List, [], Option, Some, None, refl, option_and_then}
 use Rattle.std.specs.Option.{option_map}
-use Rattle.std.proofs.Common.{sym, ◌∙◌, ap, subst}
+use Rattle.std.proofs.Common.{sym, ◌∙◌, ap}
 use Rattle.lemmas.proofs.Lists.{get_map}
-use Rattle.program_model.specs.declared.body.Body.{Body}
-use Rattle.program_model.specs.declared.pass.Outside.{Outside}
-use Rattle.program_model.specs.declared.program.Class.{Class}
 use Rattle.program_model.specs.declared.program.Method.{Method}
 use Rattle.program_model.specs.declared.program.MethodAt.{MethodAt}
 use Rattle.program_model.specs.declared.program.Program.{Program}
@@ -14,9 +11,7 @@ use Rattle.class_defs.specs.ClassGraph.{IsTwice}
 use Rattle.class_defs.proofs.WellFormed.{Sound}
 use Rattle.dalvik_defs.specs.Face.{bodies_of}
 use Rattle.dalvik_defs.specs.Find.{method_in}
-use Rattle.dalvik_defs.specs.Naming.{body_of, form_of, method_at, named, named_class, named_method, type_at}
-use Rattle.dalvik_defs.specs.declared.names.MethodKey.{MethodKey}
-use Rattle.dalvik_defs.specs.declared.program.NamedClass.{NamedClass}
+use Rattle.dalvik_defs.specs.Naming.{body_of, form_of, method_at, named, named_method, type_at}
 use Rattle.dalvik_defs.specs.declared.program.NamedMethod.{NamedMethod}
 use Rattle.stuck_bridge.proofs.Members.{class_known, method_known}
 use Rattle.closed_bridge.proofs.Fits.{Owner, owner_of}

@@ -1,9 +1,8 @@
 -- A constants solution of a program, by number: what it says of the name of each number.
-use Rattle.std.specs.Prelude.{◌≡◌, ℕ, true, false, List, [], Option, Some, None, slice_get}
+use Rattle.std.specs.Prelude.{◌≡◌, ℕ, false, [], Some, None, slice_get}
 use Rattle.insn_set.specs.declared.form.Insn.{Insn}
 use Rattle.program_model.specs.declared.body.Body.{Body}
 use Rattle.program_model.specs.declared.pass.Outside.{Outside}
-use Rattle.program_model.specs.declared.program.Class.{Class}
 use Rattle.program_model.specs.declared.program.Method.{Method}
 use Rattle.program_model.specs.declared.program.MethodAt.{MethodAt}
 use Rattle.program_model.specs.declared.program.Program.{Program}
@@ -12,10 +11,9 @@ use Rattle.class_defs.specs.ClassGraph.{IsTwice}
 use Rattle.class_defs.proofs.WellFormed.{Sound}
 use Rattle.dalvik_defs.specs.Names.{Text, object_type}
 use Rattle.dalvik_defs.specs.Naming.{field_at, form_of, method_at, named, type_at}
-use Rattle.dalvik_defs.specs.Outer.{outer_of}
 use Rattle.dalvik_defs.specs.Under.{defines}
 use Rattle.pass_defs.specs.Facts.{call_result}
-use Rattle.pass_defs.specs.Constants.{flat, Solution, IsSolution}
+use Rattle.pass_defs.specs.Constants.{flat, Solution}
 use Rattle.flat_bounds.specs.Bounds.{FlatTable}
 use Rattle.flat_law.proofs.Steps.{HasSmall}
 

@@ -39,7 +39,7 @@ use Rattle.flat_bridge.proofs.Fits.{insn_fit}
 use Rattle.flat_bridge.proofs.Calling.{bound_found, call_low, found_named}
 use Rattle.flat_bridge.proofs.Answering.{leaving_any}
 
-any_of : {A : Type 0} (f : A → Bool) (xs : List A) (x : A) → Contains xs x → f x ≡ true → list_any f xs ≡ true
+pub any_of : {A : Type 0} (f : A → Bool) (xs : List A) (x : A) → Contains xs x → f x ≡ true → list_any f xs ≡ true
 any_of f [] x c e = let l : c.0 < 0 = c.1 in absurd (omega (arith, l))
 any_of f (y ∷ ys) x (zero, l, k) e = or_left (f y) (list_any f ys) (ap f k ∙ e)
 any_of f (y ∷ ys) x (suc n, l, k) e = or_right (f y) (list_any f ys) (any_of f ys x (n, omega (arith, l), k) e)

@@ -6,3 +6,4 @@ pub mod Calling
 pub mod Answering
 pub mod Leaving
 pub mod Putting
+pub mod Opened

@@ -46,13 +46,13 @@ any_of f (y ∷ ys) x (suc n, l, k) e = or_right (f y) (list_any f ys) (any_of f
 
 module _ (p : Program) (o : Outside) (asked : IsAsked p o) where
   -- why a call by names may leave
-  undefined_leaves : (text : Text) (method : ℕ) (kind : InvokeKind) → defines (named p) (method_at p method).class ≡ false → may_leave (named p) text kind (method_at p method) ≡ true
+  pub undefined_leaves : (text : Text) (method : ℕ) (kind : InvokeKind) → defines (named p) (method_at p method).class ≡ false → may_leave (named p) text kind (method_at p method) ≡ true
   undefined_leaves text method kind e =
       let k = method_at p method in
       or_left (not (defines (named p) k.class) || misses (named p) text kind k) (list_any (λ g. not g.coded) (may_find (named p) text kind k))
       (or_left (not (defines (named p) k.class)) (misses (named p) text kind k) (ap not e))
 
-  missed_leaves : (text : Text) (method : ℕ) (kind : InvokeKind) → misses (named p) text kind (method_at p method) ≡ true → may_leave (named p) text kind (method_at p method) ≡ true
+  pub missed_leaves : (text : Text) (method : ℕ) (kind : InvokeKind) → misses (named p) text kind (method_at p method) ≡ true → may_leave (named p) text kind (method_at p method) ≡ true
   missed_leaves text method kind e =
       let k = method_at p method in
       or_left (not (defines (named p) k.class) || misses (named p) text kind k) (list_any (λ g. not g.coded) (may_find (named p) text kind k))
@@ -84,7 +84,7 @@ module _ (p : Program) (o : Outside) (asked : IsAsked p o) where
   unfound_misses class method call.Interface owner caller e c low bound h = absurd bound
 
   -- a call that names a class of the framework
-  outer_undefined : (method : ℕ) → method < length p.methods → names_outer p method ≡ true → defines (named p) (method_at p method).class ≡ false
+  pub outer_undefined : (method : ℕ) → method < length p.methods → names_outer p method ≡ true → defines (named p) (method_at p method).class ≡ false
   outer_undefined method low h =
       let q = entry_at p.methods method low in
       let class : (method_at p method).class ≡ type_at p q.0.class = ap (λ k. k.class) (method_is p asked.sound method q.0 q.1) in

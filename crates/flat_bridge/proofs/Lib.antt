@@ -7,3 +7,4 @@ pub mod Answering
 pub mod Leaving
 pub mod Putting
 pub mod Opened
+pub mod Ways

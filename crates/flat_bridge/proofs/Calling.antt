@@ -63,10 +63,10 @@ module _ (p : Program) (s : Sound p) (once : (class : ℕ) → IsTwice p class �
         coded = coded_test p m.body;
       }
 
-  searched : (y : look_up.Search) (at : MethodAt) (g : Found) → y ≡ look_up.Finds at → names.found_at p at ≡ Some g → search_at p y ≡ find.Finds g
+  pub searched : (y : look_up.Search) (at : MethodAt) (g : Found) → y ≡ look_up.Finds at → names.found_at p at ≡ Some g → search_at p y ≡ find.Finds g
   searched y at g e h = ap (search_at p) e ∙ ap names.finds h
 
-  found_first : (z : find.Search) (g : Found) → z ≡ find.Finds g → Contains (found_by z) g
+  pub found_first : (z : find.Search) (g : Found) → z ≡ find.Finds g → Contains (found_by z) g
   found_first z g e = subst (λ (z : find.Search). Contains (found_by z) g) (sym e) (contains_here g [])
 
   -- what it finds by number is what it may find by names

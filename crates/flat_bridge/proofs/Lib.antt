@@ -8,3 +8,7 @@ pub mod Leaving
 pub mod Putting
 pub mod Opened
 pub mod Ways
+pub mod Receivers
+pub mod Linked
+pub mod Begun
+pub mod Bound

@@ -27,7 +27,7 @@ use Rattle.flat_bridge.specs.Numbered.{IsAsked}
 use Rattle.flat_bridge.proofs.Leaving.{missed_leaves, undefined_leaves, outer_undefined}
 
 -- the number of a call tells the method and the way
-call_same : (m n : ℕ) (b c : Bool) → call_at m b ≡ call_at n c → (m ≡ n) × (b ≡ c)
+pub call_same : (m n : ℕ) (b c : Bool) → call_at m b ≡ call_at n c → (m ≡ n) × (b ≡ c)
 call_same m n true true e = (omega (arith, e), refl)
 call_same m n false false e = (omega (arith, e), refl)
 call_same m n true false e = absurd (omega (arith, e))

@@ -1,5 +1,5 @@
 -- A constants solution of a program, by number: what it says of the name of each number.
-use Rattle.std.specs.Prelude.{◌≡◌, ℕ, false, [], Some, None, slice_get}
+use Rattle.std.specs.Prelude.{◌≡◌, ℕ, true, false, [], Some, None, slice_get}
 use Rattle.insn_set.specs.declared.form.Insn.{Insn}
 use Rattle.program_model.specs.declared.body.Body.{Body}
 use Rattle.program_model.specs.declared.pass.Outside.{Outside}
@@ -7,11 +7,18 @@ use Rattle.program_model.specs.declared.program.Method.{Method}
 use Rattle.program_model.specs.declared.program.MethodAt.{MethodAt}
 use Rattle.program_model.specs.declared.program.Program.{Program}
 use Rattle.program_model.specs.Lookups as look
-use Rattle.class_defs.specs.ClassGraph.{IsTwice}
+use Rattle.program_model.specs.ProgramRules.{is_well_formed}
+use Rattle.class_defs.specs.ClassGraph.{IsAncestor, IsTwice}
 use Rattle.class_defs.proofs.WellFormed.{Sound}
+use Rattle.dalvik_defs.specs.Face.{place_of}
+use Rattle.dalvik_defs.specs.Fields.{first_of}
+use Rattle.dalvik_defs.specs.Find.{defined_field}
 use Rattle.dalvik_defs.specs.Names.{Text, object_type}
 use Rattle.dalvik_defs.specs.Naming.{field_at, form_of, method_at, named, type_at}
 use Rattle.dalvik_defs.specs.Under.{defines}
+use Rattle.dalvik_defs.specs.declared.names.FieldKey.{FieldKey}
+use Rattle.dalvik_defs.specs.declared.program.NamedField.{NamedField}
+use Rattle.pass_defs.specs.Analysis.{IsRanged}
 use Rattle.pass_defs.specs.Facts.{call_result}
 use Rattle.pass_defs.specs.Constants.{flat, Solution}
 use Rattle.flat_bounds.specs.Bounds.{FlatTable}
@@ -36,10 +43,14 @@ AreSmall p = (at : MethodAt) (m : Method) (body : Body) (n : ℕ) (i : Insn) →
 
 -- what is asked of a program and of what its outside keeps
 pub record IsAsked (p : Program) (o : Outside) : Type 0 where
+  pub formed : is_well_formed p ≡ true
   pub sound : Sound p
   pub once : (class : ℕ) → IsTwice p class → ⊥
+  pub grounded : (class : ℕ) → IsAncestor p class class → ⊥
   pub no_object : defines (named p) object_type ≡ false
   pub small : AreSmall p
+  -- a word that a field begins with has 32 bits
+  pub firsts : (k : FieldKey) (d : NamedField) → defined_field (named p) k ≡ Some d → IsRanged (first_of k (place_of k.class d))
   pub no_classes : o.classes_if ≡ []
   pub no_methods : o.methods_if ≡ []
   pub no_fields : o.fields_if ≡ []

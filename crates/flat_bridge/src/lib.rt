@@ -3,3 +3,5 @@
 //!
 //! This crate declares no types of its own. Its functions have an empty body, and their contracts are the laws.
 #![tactic(auto)]
+
+pub mod laws;

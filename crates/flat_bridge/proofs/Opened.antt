@@ -91,7 +91,7 @@ module _ (p : Program) (o : Outside) (asked : IsAsked p o) where
       ap (names_field parts.entry.name parts.entry.kind) parts.is
       ∙ both (nat_eq parts.entry.name parts.entry.name) (nat_eq parts.entry.kind parts.entry.kind) (number_test parts.entry.name parts.entry.name refl) (number_test parts.entry.kind parts.entry.kind refl) in
       let one = find_alone (is_field p parts.entry.name parts.entry.kind) w.class.fields at.1 f w.is_field passes
-          (λ k x h t. alone at.0 at.1 k w.class f x parts.entry w.is_class w.is_field parts.is parts.owner h t) in
+      (λ k x h t. alone at.0 at.1 k w.class f x parts.entry w.is_class w.is_field parts.is parts.owner h t) in
       let place : class_place p parts.entry.class ≡ Some at.0 = ap (class_place p) parts.owner ∙ own_place p asked.once at.0 w.class w.is_class in
       field_defined_known p asked.sound f.name parts.entry parts.is
       ∙ ap (option_and_then (λ c. fields_of p parts.entry.name parts.entry.kind (slice_get p.classes c))) place

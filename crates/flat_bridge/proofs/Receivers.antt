@@ -1,5 +1,5 @@
 -- A type that stands under another by number is one of its receivers by names.
-use Rattle.std.specs.Prelude.{◌≡◌, ◌⊎◌, ◌&&◌, ◌||◌, not, cond, ℕ, suc, ◌<◌, Bool, true, false, List, [], ◌∷◌, length, filter, map, position, Option, Some, None, refl, slice_get, Contains, option_and_then}
+use Rattle.std.specs.Prelude.{◌≡◌, ◌&&◌, not, cond, ℕ, suc, ◌<◌, Bool, true, false, List, [], ◌∷◌, length, filter, map, position, Option, Some, None, refl, slice_get, Contains, option_and_then}
 use Rattle.std.specs.List.{list_any}
 use Rattle.std.specs.Option.{option_map}
 use Rattle.std.proofs.Common.{sym, ◌∙◌, arith, ap, subst, inl, inr, true≢false}

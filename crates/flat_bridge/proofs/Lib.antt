@@ -8,3 +8,4 @@ pub mod Leaving
 pub mod Putting
 pub mod Opened
 pub mod Ways
+pub mod Starting

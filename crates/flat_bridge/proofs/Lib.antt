@@ -9,3 +9,4 @@ pub mod Putting
 pub mod Opened
 pub mod Ways
 pub mod Starting
+pub mod Opening

@@ -10,3 +10,4 @@ pub mod Opened
 pub mod Ways
 pub mod Starting
 pub mod Opening
+pub mod StartingNeeds

@@ -11,3 +11,4 @@ pub mod Ways
 pub mod Starting
 pub mod Opening
 pub mod StartingNeeds
+pub mod Entered

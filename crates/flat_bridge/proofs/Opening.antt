@@ -123,7 +123,7 @@ module _ (p : Program) (s : Sound p) (once : (class : ℕ) → IsTwice p class �
         by (inl h) = h
         by (inr h) = absurd (true≢false (sym (sym (ap (list_any (nat_eq n)) none) ∙ h)))
 
-    kept_named : (k : MethodKey) (n : ℕ) → IsNumber p s k n → targeted.keeps_method o n ≡ true → (outer_of p o).methods k ≡ true
+    pub kept_named : (k : MethodKey) (n : ℕ) → IsNumber p s k n → targeted.keeps_method o n ≡ true → (outer_of p o).methods k ≡ true
     kept_named k n h e = listed_name p s k n o.methods h (kept_number n e)
 
     static_named : (at : MethodAt) (number : ℕ) (e : targeted.IsEnteredStatic p o at number) → pass.IsEnteredStatic (named p) (outer_of p o) (method_at p e.method.name)

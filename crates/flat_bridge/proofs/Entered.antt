@@ -1,7 +1,7 @@
 -- A type that stands under another by number does so by names, and a kept method that the framework may enter on an object of a made
 -- class by number it may enter by names, where the class is made by names.
-use Rattle.std.proofs.Common.{◌⊎◌, inl, inr, ◌≡◌, ℕ, zero, suc, ◌+◌, ◌<◌, ◌≤◌, Bool, true, false, List, [], ◌∷◌, length, map, Option, Some, None, refl, sym, ap, ◌∙◌, subst, arith}
-use Rattle.std.specs.Prelude.{◌||◌, is_some, slice_get, option_and_then, Contains}
+use Rattle.std.proofs.Common.{inl, inr, ◌≡◌, ℕ, zero, suc, ◌<◌, ◌≤◌, true, List, [], ◌∷◌, length, map, Option, Some, None, refl, sym, ap, ◌∙◌, subst, arith}
+use Rattle.std.specs.Prelude.{◌||◌, slice_get, option_and_then, Contains}
 use Rattle.std.specs.List.{list_any}
 use Rattle.std.specs.Option.{option_map}
 use Rattle.program_model.specs.Lookups.{class_place}
@@ -25,10 +25,8 @@ use Rattle.reach_bridge.proofs.Held.{stands}
 use Rattle.lemmas.proofs.Bools.{or_left}
 use Rattle.lemmas.proofs.Options.{some_same}
 use Rattle.call_graph.specs.Bases.{object_number}
-use Rattle.call_graph.specs.Follows.{class_of}
 use Rattle.call_graph.specs.declared.live_set.LiveSet.{LiveSet}
 use Rattle.call_targets.specs.Targeted as targeted
-use Rattle.dalvik_defs.specs.Flags as flags
 use Rattle.dalvik_defs.specs.Naming.{method_at, named_method}
 use Rattle.dalvik_defs.specs.Outer.{outer_of}
 use Rattle.name_bridge.proofs.Above.{defined}
@@ -37,7 +35,7 @@ use Rattle.name_bridge.proofs.Flags.{static_flag}
 use Rattle.pass_defs.specs.Facts as pass
 use Rattle.pass_defs.specs.Live.{IsMade, unconditional}
 use Rattle.pass_defs.specs.Flat.{Any}
-use Rattle.pass_defs.specs.Constants.{flat, IsSolution, Solution}
+use Rattle.pass_defs.specs.Constants.{IsSolution, Solution}
 use Rattle.flat_bounds.specs.Bounds.{IsReached}
 use Rattle.flat_bridge.specs.Numbered.{numbered, IsAsked}
 use Rattle.flat_bridge.proofs.Opening.{defined_there, kept_named, opened}

@@ -12,3 +12,4 @@ pub mod Starting
 pub mod Opening
 pub mod StartingNeeds
 pub mod Entered
+pub mod EnteredBack

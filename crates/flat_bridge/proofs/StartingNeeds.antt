@@ -1,5 +1,5 @@
 -- The classes that an instruction needs by number it needs by names, so a solution enters the initialisers of all that come before these.
-use Rattle.std.proofs.Common.{◌≡◌, ℕ, zero, suc, ◌<◌, Bool, true, false, List, [], ◌∷◌, ◌++◌, length, Option, Some, None, refl, sym, ap, ◌∙◌, subst}
+use Rattle.std.proofs.Common.{◌≡◌, ℕ, zero, suc, ◌<◌, true, false, List, [], ◌∷◌, ◌++◌, length, Option, Some, None, refl, sym, ap, ◌∙◌, subst}
 use Rattle.std.specs.Prelude.{position, slice_get, option_and_then, Contains}
 use Rattle.std.specs.Option.{option_map, option_or}
 use Rattle.lemmas.proofs.Lists.{contains_here}
@@ -20,31 +20,28 @@ use Rattle.program_model.specs.declared.program.Method.{Method}
 use Rattle.program_model.specs.declared.program.MethodAt.{MethodAt}
 use Rattle.program_model.specs.declared.program.Program.{Program}
 use Rattle.class_defs.specs.ClassGraph.{IsTwice}
-use Rattle.class_defs.specs.Finding as look_up
 use Rattle.class_defs.specs.Finding.{beside, field_by, field_from, first_among, finds_static, resolves_field, search_of}
 use Rattle.class_defs.specs.Members.{field_of_class, is_field, own_field}
 use Rattle.class_defs.specs.Places.{interface_places, super_place}
 use Rattle.class_defs.proofs.Positions.{place_entry}
 use Rattle.class_defs.proofs.WellFormed.{below, Sound}
 use Rattle.dalvik_defs.specs.Find.{finds_field, finds_statically}
-use Rattle.dalvik_defs.specs.Find as find
 use Rattle.dalvik_defs.specs.Names.{Text}
 use Rattle.dalvik_defs.specs.Naming.{field_at, form_of, method_at, named, named_field, type_at}
 use Rattle.dalvik_defs.specs.Outer.{outer_of}
-use Rattle.dalvik_defs.specs.declared.program.NamedField.{NamedField}
 use Rattle.name_bridge.specs.Named as names
 use Rattle.name_bridge.specs.Named.{field_at_place, field_of, field_there, search_at}
 use Rattle.name_bridge.proofs.Above.{defined}
 use Rattle.name_bridge.proofs.Fields.{field_resolves_by_number}
 use Rattle.name_bridge.proofs.Flags.{static_flag}
-use Rattle.name_bridge.proofs.Found.{IsThere, found_there_is, looked_up}
+use Rattle.name_bridge.proofs.Found.{found_there_is, looked_up}
 use Rattle.name_bridge.proofs.Resolved.{static_by_number}
 use Rattle.removal_law.proofs.Lists.{In, here, there}
 use Rattle.reach_bridge.proofs.Held.{stands}
 use Rattle.closed_facts.specs.Found as found
 use Rattle.closed_bridge.proofs.Standing.{bound_there}
 use Rattle.pass_defs.specs.Facts as pass
-use Rattle.pass_defs.specs.Constants.{flat, IsSolution, Solution}
+use Rattle.pass_defs.specs.Constants.{IsSolution, Solution}
 use Rattle.flat_bounds.specs.Bounds.{FlatAt, IsReadied}
 use Rattle.flat_bridge.specs.Numbered.{class_text, numbered, IsAsked}
 use Rattle.flat_bridge.proofs.Calling.{call_low}

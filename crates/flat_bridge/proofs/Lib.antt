@@ -12,3 +12,8 @@ pub mod Receivers
 pub mod Linked
 pub mod Begun
 pub mod Bound
+pub mod Starting
+pub mod Opening
+pub mod StartingNeeds
+pub mod Entered
+pub mod EnteredBack

@@ -64,10 +64,10 @@ module _ {X : Type 0} (Is : ℕ → X × ℕ → Type 0) (Ends : ℕ → ℕ →
 -- ---- where a value ends
 
 module _ (bytes : List ℕ) (sizes : TableSizes) where
-  abbrev Agree : (ℕ → EncValue × ℕ → Type 0) → (ℕ → ℕ → Type 0) → Type 0
+  abbrev pub Agree : (ℕ → EncValue × ℕ → Type 0) → (ℕ → ℕ → Type 0) → Type 0
   Agree Is Ends = (at : ℕ) (r : EncValue × ℕ) (stop : ℕ) → Is at r → Ends at stop → r.1 ≡ stop
 
-  element_agrees : (Is : ℕ → EncValue × ℕ → Type 0) (Ends : ℕ → ℕ → Type 0) → Agree Is Ends → (at : ℕ) (r : Element × ℕ) (stop : ℕ) → IsElement bytes sizes Is at r → ElementEnds bytes Ends at stop → r.1 ≡ stop
+  pub element_agrees : (Is : ℕ → EncValue × ℕ → Type 0) (Ends : ℕ → ℕ → Type 0) → Agree Is Ends → (at : ℕ) (r : Element × ℕ) (stop : ℕ) → IsElement bytes sizes Is at r → ElementEnds bytes Ends at stop → r.1 ≡ stop
   element_agrees Is Ends once at r stop h e =
       let n = uleb_parts bytes at at r.0.name e.name h.mid e.mid refl h.name e.is_name in
       once h.mid (r.0.value, r.1) stop h.value (subst (λ k. Ends k stop) (sym n.1) e.ends)
@@ -111,7 +111,7 @@ module _ (bytes : List ℕ) (sizes : TableSizes) where
   value_agrees (suc k) zero at r stop h e = absurd e
   value_agrees (suc k) (suc depth) at r stop h e = layer_agrees (IsValue bytes sizes k) (EndsIn bytes depth) (value_agrees k depth) at r stop h e
 
-  ends_agree : (k : ℕ) → Agree (IsValue bytes sizes k) (places.Ends bytes)
+  pub ends_agree : (k : ℕ) → Agree (IsValue bytes sizes k) (places.Ends bytes)
   ends_agree k at r stop h e = value_agrees k e.depth at r stop h e.ends
 
   -- ---- what stands in what

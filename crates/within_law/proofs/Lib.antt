@@ -4,4 +4,5 @@ mod Tables
 mod Rows
 mod CodeTables
 mod Cells
+mod Values
 pub mod Whole

@@ -5,4 +5,5 @@ mod Rows
 mod CodeTables
 mod Cells
 mod Values
+mod Sets
 pub mod Whole

@@ -129,3 +129,11 @@ not_past bytes fault h past =
     let many = past.many in
     let number = past.number in
     omega (arith, most, many, number)
+
+-- what holds where there is one
+pub if_any : (Is : List ℕ → Type 0) (n : ℕ) → ((w : List ℕ) → Is w → Most Is n) → Most Is n
+if_any Is n to = record { most = by_first }
+  where
+    by_first : (things : List (List ℕ)) → AllDiffer things → AllByRecursion Is things → length things ≤ n
+    by_first [] differ are = omega arith
+    by_first (x ∷ xs) differ are = (to x are.0).most (x ∷ xs) differ are

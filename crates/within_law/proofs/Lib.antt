@@ -1,9 +1,10 @@
 mod Most
+mod Rows
 mod Spending
 mod Tables
-mod Rows
 mod CodeTables
 mod Cells
 mod Values
 mod Sets
+mod Directories
 pub mod Whole

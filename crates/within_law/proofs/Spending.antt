@@ -1,5 +1,5 @@
 -- Readings that hand on what is left: what is counted there is no more than what they take.
-use Rattle.std.proofs.Common.{◌≡◌, ◌≤◌, ◌<◌, ◌⊎◌, inl, inr, ℕ, zero, suc, ◌+◌, ◌-◌, Bool, true, false, cond, leb, List, [], ◌∷◌, Result, Ok, Err, refl, subst, arith}
+use Rattle.std.proofs.Common.{◌≡◌, ◌≤◌, ◌<◌, ◌⊎◌, inl, inr, ℕ, zero, suc, ◌+◌, ◌-◌, Bool, true, false, cond, leb, List, [], ◌∷◌, Result, Ok, Err, refl, subst, arith, sym}
 use Rattle.std.proofs.lemmas.Bool.{leb-true}
 use Rattle.dex_base.specs.Reading.{◌>>=◌}
 use Rattle.dex_base.proofs.Decides.{ok_is, not_both}
@@ -8,6 +8,9 @@ use Rattle.dex_pools.specs.declared.fault.PoolFault.{PoolFault}
 use Rattle.dex_pools.specs.Items.{past, spend}
 use Rattle.dex_pools.specs.Run.{run}
 use Rattle.code_laws.specs.Founds.{Founds}
+use Rattle.dex_read.specs.Steps.{steps}
+use Rattle.within_law.proofs.Rows.{OneOf, no_more}
+use Rattle.within_law.proofs.Rows.{here_or_later as one_or_later}
 use Rattle.within_law.proofs.Most.{Most, fewer, none, together}
 
 pub took_next : {X Y F : Type 0} {Is : Y → Type 0} (read : Result X F) {f : X → Result Y F} → ((x : X) → read ≡ Ok x → Founds Is (f x)) → Founds Is (read >>= f)
@@ -79,3 +82,30 @@ module _ (Is : List ℕ → Type 0) (key : List ℕ → ℕ) where
         found = λ y e. subst (λ (r : List X × S). Spent (Between Is key from total) (left s) (left r.1)) (ok_is {F = F} (x.0 ∷ xs.0, xs.1) y e)
             (spent_both (Between Is key from total) (left s) (left x.1) (left xs.1) ((each from s (omega (arith, all))).found x h) ((spent_run f left total each (suc from) n x.1 (omega (arith, all))).found xs g) (here_or_later Is key from total));
       }))
+
+-- ---- readings one behind another
+
+pub made : {Y F : Type 0} {Is : Y → Type 0} (v : Y) → Is v → Founds {F = F} Is (Ok v)
+made {F = F} {Is = Is} v h = record { found = λ y e. subst Is (ok_is {F = F} v y e) h }
+
+pub costs_next : {X Y F : Type 0} {A B : List ℕ → Type 0} (Are : List ℕ → Type 0) (left : ℕ) (mid : X → ℕ) (behind : Y → ℕ) {read : Result X F} {f : X → Result Y F} → Founds (λ x. Spent A left (mid x)) read
+    → ((x : X) → read ≡ Ok x → Founds (λ y. Spent B (mid x) (behind y)) (f x)) → ((w : List ℕ) → Are w → A w ⊎ B w) → Founds (λ y. Spent Are left (behind y)) (read >>= f)
+costs_next Are left mid behind {read = Ok x} d g to = record { found = λ y h. spent_both Are left (mid x) (behind y) (d.found x refl) ((g x refl).found y h) to }
+costs_next Are left mid behind {read = Err e} d g to = record { found = λ y h. absurd (not_both e y h) }
+
+-- what is read behind takes nothing
+pub costs_then : {X Y F : Type 0} (Are : List ℕ → Type 0) (left : ℕ) (mid : X → ℕ) (behind : Y → ℕ) {read : Result X F} {f : X → Result Y F} → Founds (λ x. Spent Are left (mid x)) read
+    → ((x : X) → read ≡ Ok x → Founds (λ y. behind y ≡ mid x) (f x)) → Founds (λ y. Spent Are left (behind y)) (read >>= f)
+costs_then Are left mid behind {read = Ok x} d g = record { found = λ y h. subst (λ n. Spent Are left n) (sym ((g x refl).found y h)) (d.found x refl) }
+costs_then Are left mid behind {read = Err e} d g = record { found = λ y h. absurd (not_both e y h) }
+
+-- so many are taken at least
+pub counted : (Are : List ℕ → Type 0) (before behind n : ℕ) → Most Are n → n + behind ≤ before → Spent Are before behind
+counted Are before behind n most taken = record { count = n; most = most; taken = taken }
+
+pub costs_steps : {S F : Type 0} (In : ℕ → List ℕ → Type 0) (f : ℕ → S → Result S F) (left : S → ℕ) (total : ℕ) → ((i : ℕ) (s : S) → i < total → Founds (λ t. Spent (In i) (left s) (left t)) (f i s)) → (from n : ℕ) (s : S) → from + n ≡ total
+    → Founds (λ t. Spent (OneOf In from total) (left s) (left t)) (steps f from n s)
+costs_steps In f left total each from zero s all = made s (nothing_spent (OneOf In from total) (left s) (no_more In from total (omega (arith, all))))
+costs_steps In f left total each from (suc n) s all =
+    costs_next (OneOf In from total) (left s) left left (each from s (omega (arith, all))) (λ t _. costs_steps In f left total each (suc from) n t (omega (arith, all))) (one_or_later In from total)
+

@@ -7,4 +7,6 @@ mod Cells
 mod Values
 mod Sets
 mod Directories
+mod Firsts
+mod Plain
 pub mod Whole

@@ -109,3 +109,17 @@ costs_steps In f left total each from zero s all = made s (nothing_spent (OneOf 
 costs_steps In f left total each from (suc n) s all =
     costs_next (OneOf In from total) (left s) left left (each from s (omega (arith, all))) (λ t _. costs_steps In f left total each (suc from) n t (omega (arith, all))) (one_or_later In from total)
 
+-- with what is known of the state before each step
+pub costs_known : {S F : Type 0} (In : ℕ → List ℕ → Type 0) (f : ℕ → S → Result S F) (left : S → ℕ) (Good : ℕ → S → Type 0) → ((i : ℕ) (s t : S) → Good i s → f i s ≡ Ok t → Good (suc i) t) → (total : ℕ)
+    → ((i : ℕ) (s : S) → i < total → Good i s → Founds (λ t. Spent (In i) (left s) (left t)) (f i s)) → (from n : ℕ) (s : S) → from + n ≡ total → Good from s → Founds (λ t. Spent (OneOf In from total) (left s) (left t)) (steps f from n s)
+costs_known In f left Good more total each from zero s all good = made s (nothing_spent (OneOf In from total) (left s) (no_more In from total (omega (arith, all))))
+costs_known In f left Good more total each from (suc n) s all good =
+    costs_next (OneOf In from total) (left s) left left (each from s (omega (arith, all)) good) (λ t h. costs_known In f left Good more total each (suc from) n t (omega (arith, all)) (more from s t good h)) (one_or_later In from total)
+
+pub costs_run : {X S F : Type 0} (In : ℕ → List ℕ → Type 0) (f : ℕ → S → Result (X × S) F) (left : S → ℕ) (total : ℕ) → ((i : ℕ) (s : S) → i < total → Founds (λ (x : X × S). Spent (In i) (left s) (left x.1)) (f i s)) → (from n : ℕ) (s : S) → from + n ≡ total
+    → Founds (λ (r : List X × S). Spent (OneOf In from total) (left s) (left r.1)) (run f from n s)
+costs_run In f left total each from zero s all = made ([], s) (nothing_spent (OneOf In from total) (left s) (no_more In from total (omega (arith, all))))
+costs_run {X = X} {S = S} In f left total each from (suc n) s all =
+    costs_next (OneOf In from total) (left s) (λ (x : X × S). left x.1) (λ (r : List X × S). left r.1) (each from s (omega (arith, all)))
+    (λ x _. costs_then (OneOf In (suc from) total) (left x.1) (λ (r : List X × S). left r.1) (λ (r : List X × S). left r.1) (costs_run In f left total each (suc from) n x.1 (omega (arith, all))) (λ xs _. made (x.0 ∷ xs.0, xs.1) refl))
+    (one_or_later In from total)

@@ -145,35 +145,41 @@ module _ (bytes : List ℕ) (p : Program) (class : ℕ) (def : Def) (has_def : H
 
   -- the set of a pair
   costs_set : (i base k offset left : ℕ) → base + 8 * k ≡ at + 16 + 8 * i → Is32 bytes (base + 8 * k + 4) offset → Founds (λ (r : List Mark × ℕ). Spent (InMember bytes class i) left r.1) (set_at bytes p offset left)
-  costs_set i base k offset left here is = record { found = λ r h. (
-      let marks = (founds_set bytes p offset left).found r h in
-      counted (InMember bytes class i) left r.1 (marks_items r.0)
-      (if_any (InMember bytes class i) (marks_items r.0) (λ v f.
-      let own = offset_is f.which i f.at base k offset f.by here is in
-      fewer (InMember bytes class i) (marks_items r.0) (marks_items r.0) (of_set bytes (sizes_in p) (class ∷ i ∷ []) offset f.at r.0 (subst (λ n. Leads n f.at) own f.by.leads) marks)
-      (λ w g. subst (λ n. SetItems bytes (class ∷ i ∷ []) n w) (g.by.leads.1 ∙ offset_is g.which i g.at base k offset g.by here is ∙ sym own ∙ sym f.by.leads.1) g.is) (omega arith)))
-      ((set_spends bytes p offset left).found r h)) }
+  costs_set i base k offset left here is = record {
+    found = λ r h. (
+        let marks = (founds_set bytes p offset left).found r h in
+        counted (InMember bytes class i) left r.1 (marks_items r.0)
+        (if_any (InMember bytes class i) (marks_items r.0) (λ v f.
+        let own = offset_is f.which i f.at base k offset f.by here is in
+        fewer (InMember bytes class i) (marks_items r.0) (marks_items r.0) (of_set bytes (sizes_in p) (class ∷ i ∷ []) offset f.at r.0 (subst (λ n. Leads n f.at) own f.by.leads) marks)
+        (λ w g. subst (λ n. SetItems bytes (class ∷ i ∷ []) n w) (g.by.leads.1 ∙ offset_is g.which i g.at base k offset g.by here is ∙ sym own ∙ sym f.by.leads.1) g.is) (omega arith)))
+        ((set_spends bytes p offset left).found r h));
+  }
 
   costs_sets : (i base k offset left : ℕ) → base + 8 * k ≡ at + 16 + 8 * i → Is32 bytes (base + 8 * k + 4) offset → Founds (λ (r : List (List Mark) × ℕ). Spent (InParameters bytes class i) left r.1) (sets_at bytes p offset left)
-  costs_sets i base k offset left here is = record { found = λ r h. (
-      let sets = (founds_sets bytes p offset left).found r h in
-      let size = length r.0 + sum_by marks_items r.0 in
-      counted (InParameters bytes class i) left r.1 size
-      (if_any (InParameters bytes class i) size (λ v f.
-      let own = offset_is 2 i f.at base k offset f.by here is in
-      fewer (InParameters bytes class i) size size (of_refs bytes (sizes_in p) (class ∷ i ∷ []) offset f.at r.0 (subst (λ n. Leads n f.at) own f.by.leads) sets)
-      (λ w g. subst (λ n. RefsItems bytes (class ∷ i ∷ []) n w) (g.by.leads.1 ∙ offset_is 2 i g.at base k offset g.by here is ∙ sym own ∙ sym f.by.leads.1) g.is) (omega arith)))
-      ((sets_spend bytes p offset left).found r h)) }
+  costs_sets i base k offset left here is = record {
+    found = λ r h. (
+        let sets = (founds_sets bytes p offset left).found r h in
+        let size = length r.0 + sum_by marks_items r.0 in
+        counted (InParameters bytes class i) left r.1 size
+        (if_any (InParameters bytes class i) size (λ v f.
+        let own = offset_is 2 i f.at base k offset f.by here is in
+        fewer (InParameters bytes class i) size size (of_refs bytes (sizes_in p) (class ∷ i ∷ []) offset f.at r.0 (subst (λ n. Leads n f.at) own f.by.leads) sets)
+        (λ w g. subst (λ n. RefsItems bytes (class ∷ i ∷ []) n w) (g.by.leads.1 ∙ offset_is 2 i g.at base k offset g.by here is ∙ sym own ∙ sym f.by.leads.1) g.is) (omega arith)))
+        ((sets_spend bytes p offset left).found r h));
+  }
 
   costs_own : (offset left : ℕ) → Is32 bytes at offset → Founds (λ (r : List Mark × ℕ). Spent (OfClass bytes class) left r.1) (set_at bytes p offset left)
-  costs_own offset left is = record { found = λ r h. (
-      let marks = (founds_set bytes p offset left).found r h in
-      let own : (v : List ℕ) (f : OfClass bytes class v) → f.offset ≡ offset = λ v f. once_32 bytes at f.offset offset (subst (λ n. Is32 bytes n f.offset) (directory_is f.directory f.has) f.is_offset) is in
-      counted (OfClass bytes class) left r.1 (marks_items r.0)
-      (if_any (OfClass bytes class) (marks_items r.0) (λ v f.
-      fewer (OfClass bytes class) (marks_items r.0) (marks_items r.0) (of_set bytes (sizes_in p) (class ∷ []) offset f.at r.0 (subst (λ n. Leads n f.at) (own v f) f.leads) marks)
-      (λ w g. subst (λ n. SetItems bytes (class ∷ []) n w) (g.leads.1 ∙ own w g ∙ sym (own v f) ∙ sym f.leads.1) g.is) (omega arith)))
-      ((set_spends bytes p offset left).found r h)) }
+  costs_own offset left is = record {
+    found = λ r h. (
+        let marks = (founds_set bytes p offset left).found r h in
+        let own : (v : List ℕ) (f : OfClass bytes class v) → f.offset ≡ offset = λ v f. once_32 bytes at f.offset offset (subst (λ n. Is32 bytes n f.offset) (directory_is f.directory f.has) f.is_offset) is in
+        counted (OfClass bytes class) left r.1 (marks_items r.0)
+        (if_any (OfClass bytes class) (marks_items r.0) (λ v f.
+        fewer (OfClass bytes class) (marks_items r.0) (marks_items r.0) (of_set bytes (sizes_in p) (class ∷ []) offset f.at r.0 (subst (λ n. Leads n f.at) (own v f) f.leads) marks)
+        (λ w g. subst (λ n. SetItems bytes (class ∷ []) n w) (g.leads.1 ∙ own w g ∙ sym (own v f) ∙ sym f.leads.1) g.is) (omega arith)))
+        ((set_spends bytes p offset left).found r h));
+  }
 
   -- ---- one pair
 

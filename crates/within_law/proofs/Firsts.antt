@@ -69,12 +69,14 @@ module _ (bytes : List ℕ) (p : Program) (class : ℕ) (def : Def) (has_def : H
     unfolding give_first whole_value_at
     costs_give statics i s good =
         costs_then (InOne i) s.1.1 (λ (r : EncValue × (ℕ × ℕ)). r.1.1) (λ (t : List Field × (ℕ × ℕ)). t.1.1)
-        (lifted of_pool (record { found = λ r h. (
-        let is = (founds_value bytes (sizes_in p) 64 s.1).found r h in
-        counted (InOne i) s.1.1 r.1.1 (value_items 64 r.0)
-        (fewer (InOne i) (value_items 64 r.0) (value_items 64 r.0) (of_value bytes (sizes_in p) 64 (0 ∷ i ∷ class ∷ []) s.1.0 r.0 r.1.0 is)
-        (λ w g. subst (λ n. ItemsIn bytes (0 ∷ i ∷ class ∷ []) n w) (begins i g.place s good g.item) g.is) (omega arith))
-        ((value_spends 64 bytes (sizes_in p) s.1).found r h)) }))
+        (lifted of_pool (record {
+          found = λ r h. (
+              let is = (founds_value bytes (sizes_in p) 64 s.1).found r h in
+              counted (InOne i) s.1.1 r.1.1 (value_items 64 r.0)
+              (fewer (InOne i) (value_items 64 r.0) (value_items 64 r.0) (of_value bytes (sizes_in p) 64 (0 ∷ i ∷ class ∷ []) s.1.0 r.0 r.1.0 is)
+              (λ w g. subst (λ n. ItemsIn bytes (0 ∷ i ∷ class ∷ []) n w) (begins i g.place s good g.item) g.is) (omega arith))
+              ((value_spends 64 bytes (sizes_in p) s.1).found r h));
+        }))
         (λ v _. either (λ _. made (change_at (with_first v.0) i s.0, v.1) refl) (λ _. failed (dex.Pool (pool.BadValue s.1.0))))
 
     by_part : (w : List ℕ) → FirstItems bytes class w → IsNumbered (λ i. 4 ∷ i ∷ 0 ∷ class ∷ []) count w ⊎ OneOf InOne 0 count w

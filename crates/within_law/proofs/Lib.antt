@@ -9,4 +9,5 @@ mod Sets
 mod Directories
 mod Firsts
 mod Plain
+mod Handlers
 pub mod Whole

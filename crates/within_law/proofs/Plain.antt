@@ -30,12 +30,14 @@ pub record ListItems (bytes : List ℕ) (offset : ℕ) (name : ℕ → List ℕ)
   pub is : w ≡ name i
 
 pub costs_list : (bytes : List ℕ) (offset size : ℕ) (name : ℕ → List ℕ) (left : ℕ) → Founds (λ (r : List ℕ × ℕ). Spent (ListItems bytes offset name) left r.1) (type_list_at bytes offset size left)
-costs_list bytes offset size name left = record { found = λ r h. (
-    let is = (finds_type_list bytes offset size left).found r h in
-    counted (ListItems bytes offset name) left r.1 (length r.0)
-    (fewer (ListItems bytes offset name) (length r.0) (length r.0) (numbered name (length r.0))
-    (λ w g. (let same = once_32 bytes offset g.count (length r.0) (subst (λ n. Is32 bytes n g.count) g.leads.1 g.is_count) is.0.count in let less = g.less in record { i = g.i; less = omega (arith, less, same); is = g.is })) (omega arith))
-    ((types_spend bytes offset size left).found r h)) }
+costs_list bytes offset size name left = record {
+  found = λ r h. (
+      let is = (finds_type_list bytes offset size left).found r h in
+      counted (ListItems bytes offset name) left r.1 (length r.0)
+      (fewer (ListItems bytes offset name) (length r.0) (length r.0) (numbered name (length r.0))
+      (λ w g. (let same = once_32 bytes offset g.count (length r.0) (subst (λ n. Is32 bytes n g.count) g.leads.1 g.is_count) is.0.count in let less = g.less in record { i = g.i; less = omega (arith, less, same); is = g.is })) (omega arith))
+      ((types_spend bytes offset size left).found r h));
+}
 
 pub record InterfaceItems (bytes : List ℕ) (class : ℕ) (w : List ℕ) : Type 0 where
   pub def : Def
@@ -46,8 +48,10 @@ pub costs_interfaces : (bytes : List ℕ) (p : Program) (class : ℕ) (def : Def
 unfolding interfaces_at
 costs_interfaces bytes p class def has left = either
     (λ e. made ([], left) (nothing_spent (InterfaceItems bytes class) left (λ w h. (let leads = (own w h).leads.0 in let none = eqb-true def.interfaces 0 e in omega (arith, leads, none)))))
-    (λ e. lifted of_pool (record { found = λ r h. (let s = (costs_list bytes def.interfaces (sizes_in p).types (λ i. 1 ∷ class ∷ i ∷ []) left).found r h in
-    counted (InterfaceItems bytes class) left r.1 s.count (fewer (InterfaceItems bytes class) s.count s.count s.most own (omega arith)) s.taken) }))
+    (λ e. lifted of_pool (record {
+      found = λ r h. (let s = (costs_list bytes def.interfaces (sizes_in p).types (λ i. 1 ∷ class ∷ i ∷ []) left).found r h in
+          counted (InterfaceItems bytes class) left r.1 s.count (fewer (InterfaceItems bytes class) s.count s.count s.most own (omega arith)) s.taken);
+    }))
   where
     own : (w : List ℕ) → InterfaceItems bytes class w → ListItems bytes def.interfaces (λ i. 1 ∷ class ∷ i ∷ []) w
     own w h = subst (λ (d : Def). ListItems bytes d.interfaces (λ i. 1 ∷ class ∷ i ∷ []) w) (one_def bytes class h.def def h.has has) h.is

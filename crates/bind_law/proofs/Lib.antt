@@ -1,0 +1,7 @@
+mod Tables
+mod Naming
+mod Standing
+mod Finding
+mod Allowing
+mod Kinds
+mod Unbinding

@@ -4,4 +4,5 @@ mod Standing
 mod Finding
 mod Allowing
 mod Kinds
+mod Plain
 mod Unbinding

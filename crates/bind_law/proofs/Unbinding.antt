@@ -54,17 +54,20 @@ use Rattle.receivers.proofs.Walks.{under_self}
 use Rattle.rewrite_pass.specs.Plans.{word}
 use Rattle.type_bridge.proofs.Bodies.{code}
 use Rattle.type_bridge.proofs.Grounds.{invoke_fits}
-use Rattle.type_bridge.proofs.Programs.{index_map}
+use Rattle.type_bridge.proofs.Programs.{index_at, index_map}
 use Rattle.type_bridge.proofs.Refused.{refused_method}
 use Rattle.verify.specs.declared.kinds.Kind.TheVariants as kind
+use Rattle.verify.specs.declared.typed.Verifier.{Verifier}
+use Rattle.verify.specs.Methods.{HasTypings, Types, TypesAll, TypesFor}
 use Rattle.verify.specs.Typings.{Table, kind_before}
 use Rattle.devirt.specs.Left.{IsBindable, NoneLeft, NoneLeftAt}
 use Rattle.devirt.specs.Measure.{is_virtual_call}
 use Rattle.devirt.specs.Rebound.{IsJudged, is_any_open}
-use Rattle.bind_law.specs.Bound.{NoneBindable}
+use Rattle.bind_law.specs.Bound.{IsUpright, NoneBindable, NothingBindable}
 use Rattle.bind_law.proofs.Allowing.{access_numbered, rebinds_numbered}
 use Rattle.bind_law.proofs.Finding.{FindsNumber, found_numbered, one_place}
 use Rattle.bind_law.proofs.Kinds.{IsClassAt, receiver_class}
+use Rattle.bind_law.proofs.Plain.{plain_kind}
 use Rattle.bind_law.proofs.Naming.{HasName, IsCall, IsPlainly, call_of, interface_known, plain_there, under_named}
 use Rattle.bind_law.proofs.Tables.{before_with, table_with}
 
@@ -215,7 +218,7 @@ module _ (p : Program) (h : Hierarchy) (facts : Facts) (admitted : List Bool) (w
   whole_place k c g j m e = min-eq_left (let l = got_short c.methods j m e in let f = few_members p w k c g in omega (arith, l, f))
 
   module _ (k j : ℕ) (c : Class) (m : Method) (e : slice_get p.classes k ≡ Some c) (f : slice_get c.methods j ≡ Some m) (adm : slice_index_or admitted m.name false ≡ true)
-      (n : ℕ) (found : Found) (y : name.IsBindable (named p) (named_class p c) (named_method p m) n found) (plain : is_plain (named p) y.class ≡ true) where
+      (n : ℕ) (found : Found) (y : name.IsBindable (named p) (named_class p c) (named_method p m) n found) where
     abbrev code_here : Body
     code_here = b p w r.of.once r.of.ranked k j c m e f n found y
 
@@ -237,32 +240,73 @@ module _ (p : Program) (h : Hierarchy) (facts : Facts) (admitted : List Bool) (w
     least : typed.IsLeastTyping (named p) (named_class p c) (named_method p m) (body_of p code_here) y.table
     least = subst (λ (z : NamedBody). typed.IsLeastTyping (named p) (named_class p c) (named_method p m) z y.table) (sym (same_code p w r.of.once r.of.ranked k j c m e f n found y)) y.least
 
-    here : IsPlainly p y.class
-    here = plain_there p w r.of.once y.class plain
-
     -- not by a typing that gives the receiver the class's kind
     absent : (x : Table) → (is_any_open p code_here ≡ true → none.table ≡ Some x) → (z : IsClassAt p y.class (kind_before x n y.receiver)) → interface_at p z.has.place ≡ false → ⊥
     absent x asked z q = none.unbindable x asked n (i p w r.of.once r.of.ranked k j c m e f n found y) (there p w r.of.once r.of.ranked k j c m e f n found y)
         (subst (λ (v : ℕ). IsBindable p v x n (i p w r.of.once r.of.ranked k j c m e f n found y)) (sym (whole_class k c e)) (numbered p w r.of.once r.of.ranked k j c m e f n found y x z q))
 
-    -- classes of one name are plain together
-    plain_at : (a : HasName p y.class) → interface_at p a.place ≡ false
-    plain_at a = sym (interface_known p w r.of.once a.place a.class a.there)
-        ∙ (ap (λ (t : Text). is_some (find.interface_named (named p) t)) (a.name ∙ sym here.has.name) ∙ (interface_known p w r.of.once here.has.place here.has.class here.has.there ∙ here.plain))
+    -- a typing by number gives it
+    class_in : (g : Hierarchy) → IsResolved p g → (x : Table) → TypesFor p g at x → IsClassAt p y.class (kind_before x n y.receiver)
+    class_in g q x v = receiver_class p g w q at x v c m code_here at_class at_method has_here y.table least n y.kinds y.there y.receiver y.class y.typed
 
-    open_code : (t : Option Table) → none.table ≡ t → IsJudged p h at t → ⊥
-    open_code None g v = refused_method p h w r at v.0 v.1 v.2 v.3 c m code_here at_class at_method has_here y.table least.typing
-    open_code (Some x) g v =
-        let z : IsClassAt p y.class (kind_before x n y.receiver) = receiver_class p h w r at x v c m code_here at_class at_method has_here y.table least n y.kinds y.there y.receiver y.class y.typed in
-        absent x (λ a. g) z (plain_at z.has)
+    -- where a call is open the typing was asked for
+    open_code : ((x : Table) → TypesFor p h at x → (z : IsClassAt p y.class (kind_before x n y.receiver)) → interface_at p z.has.place ≡ false) → (t : Option Table) → none.table ≡ t → IsJudged p h at t → ⊥
+    open_code plain None g v = refused_method p h w r at v.0 v.1 v.2 v.3 c m code_here at_class at_method has_here y.table least.typing
+    open_code plain (Some x) g v = absent x (λ a. g) (class_in h r x v) (plain x v (class_in h r x v))
 
-    never : ⊥
-    never = by (is_any_open p code_here) refl
-      where
-        by : (v : Bool) → is_any_open p code_here ≡ v → ⊥
-        by true g = open_code none.table refl (none.judged g)
-        by false g = absent (table_with n y.receiver (kind.Program here.has.place)) (λ a. absurd (true≢false (sym a ∙ g)))
-            (record { has = here.has; is = before_with n y.receiver (kind.Program here.has.place) }) here.plain
+    closed : (x : Table) → is_any_open p code_here ≡ false → (z : IsClassAt p y.class (kind_before x n y.receiver)) → interface_at p z.has.place ≡ false → ⊥
+    closed x g z q = absent x (λ a. absurd (true≢false (sym a ∙ g))) z q
+
+    -- ---- by the kind of a class that is no interface
+
+    module _ (plain : is_plain (named p) y.class ≡ true) where
+      here : IsPlainly p y.class
+      here = plain_there p w r.of.once y.class plain
+
+      -- classes of one name are plain together
+      plain_at : (a : HasName p y.class) → interface_at p a.place ≡ false
+      plain_at a = sym (interface_known p w r.of.once a.place a.class a.there)
+          ∙ (ap (λ (t : Text). is_some (find.interface_named (named p) t)) (a.name ∙ sym here.has.name) ∙ (interface_known p w r.of.once here.has.place here.has.class here.has.there ∙ here.plain))
+
+      never_plain : ⊥
+      never_plain = by (is_any_open p code_here) refl
+        where
+          by : (v : Bool) → is_any_open p code_here ≡ v → ⊥
+          by true g = open_code (λ x v z. plain_at z.has) none.table refl (none.judged g)
+          by false g = closed (table_with n y.receiver (kind.Program here.has.place)) g (record { has = here.has; is = before_with n y.receiver (kind.Program here.has.place) }) here.plain
+
+    -- ---- where no class has an interface as its superclass
+
+    module _ (upright : IsUpright p) (g : Hierarchy) (q : IsResolved p g) (types : TypesAll p g) where
+      abbrev v : Verifier
+      v = types.verifier
+
+      answer : HasTypings v c k m
+      answer = subst (HasTypings v c k) (index_at c.methods j m m f)
+          (types.types k c (got_short p.classes k c e) (ap (λ (z : Program). slice_get z.classes k) types.is.program ∙ e) j m (got_short c.methods j m f))
+
+      typed_here : TypesFor p g at answer.table
+      typed_here = record {
+        verifier = v;
+        is = types.is;
+        types = λ d l is_class is_method.
+            subst (λ (z : Class). Types v z at.class l answer.table) (some_same c d (sym (ap (λ (z : Program). slice_get z.classes at.class) types.is.program ∙ at_class) ∙ is_class))
+            (subst (λ (z : Method). Types v c at.class z answer.table) (some_same m l (sym (ap (λ (z : Program). look.method_at z at) types.is.program ∙ at_method) ∙ is_method))
+            (subst (λ (z : ℕ). Types v c z m answer.table) (sym (whole_class k c e)) answer.types));
+      }
+
+      never_upright : ⊥
+      never_upright = by (is_any_open p code_here) refl
+        where
+          plain : (s : Hierarchy) → IsResolved p s → (x : Table) → TypesFor p s at x → (z : IsClassAt p y.class (kind_before x n y.receiver)) → interface_at p z.has.place ≡ false
+          plain s a x o z = plain_kind p s w a upright at x o c m code_here at_class at_method has_here n y.receiver z.has.place z.is
+
+          by : (v : Bool) → is_any_open p code_here ≡ v → ⊥
+          by true o = open_code (plain h r) none.table refl (none.judged o)
+          by false o = closed answer.table o (class_in g q answer.table typed_here) (plain g q answer.table typed_here (class_in g q answer.table typed_here))
 
 pub none_bindable : (p : Program) (h : Hierarchy) (facts : Facts) (admitted : List Bool) → is_well_formed p ≡ true → IsResolved p h → NoneLeft p h facts admitted → NoneBindable p admitted
-none_bindable p h facts admitted w r left k j c m e f adm n found y plain = never p h facts admitted w r left k j c m e f adm n found y plain
+none_bindable p h facts admitted w r left k j c m e f adm n found y plain = never_plain p h facts admitted w r left k j c m e f adm n found y plain
+
+pub nothing_bindable : (p : Program) (h g : Hierarchy) (facts : Facts) (admitted : List Bool) → is_well_formed p ≡ true → IsResolved p h → IsResolved p g → TypesAll p g → IsUpright p → NoneLeft p h facts admitted → NothingBindable p admitted
+nothing_bindable p h g facts admitted w r q types upright left k j c m e f adm n found y = never_upright p h facts admitted w r left k j c m e f adm n found y upright g q types

@@ -5,4 +5,4 @@ mod Finding
 mod Allowing
 mod Kinds
 mod Plain
-mod Unbinding
+pub mod Unbinding

@@ -3,8 +3,8 @@ use Rattle.std.specs.List.{list_any}
 use Rattle.std.proofs.lemmas.Bool.{or_left}
 use Rattle.program_model.specs.declared.body.Handler.{Handler}
 use Rattle.live_regs.specs.Live.{is_live}
-use Rattle.dead_code.proofs.Dying.{handled_rest, handled_alone}
-use Rattle.dead_code.proofs.dead.is_live_in.Goals as goal
+use Rattle.register_criteria.proofs.Handled.{handled_rest, handled_alone}
+use Rattle.register_criteria.proofs.live.is_live_in.Goals as goal
 
 pub returns-then-handled : goal.returns-then-handled
 returns-then-handled c =

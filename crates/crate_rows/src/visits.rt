@@ -1,27 +1,20 @@
-//! How often the solvers follow edges: graphs of four shapes, each solved by the worklist and along a weak order.
+//! How often the solvers follow edges: graphs of six shapes, each solved by the worklist and along a weak order.
 //!
-//! Without words it prints a line for each shape and solver at a thousand edges, and how many nodes a change of a map with
-//! 1,024 keys makes. With a shape, a solver and a number of
-//! edges it prints that line alone. bench/visits runs it at many more edges, with a clock.
-#![tactic(auto)]
+//! A row is a shape and a solver, at a thousand edges, or how many nodes a change of a map with so many keys makes.
 
 ghost use Rattle.std.specs.Prelude.{◌≡◌, IfOk};
 ghost use Rattle.flow_cfg.specs.Parts.{part_nodes, part_ends};
 
-mod counting;
-mod shapes;
-
-use counting::Counting;
+use crate::counting::Counting;
+use crate::shapes::{Shape, edges_of};
 use fixpoint::{solve, solve_along};
 use flow_cfg::{Part, weak_order};
 use lattice_core::Flat;
 use pat_map::PatMap;
-use shapes::{Shape, edges_of};
 use std::alloc::{AllocError, Global};
-use std::{env, io};
 
 /// How many edges a graph has about where no number is given.
-const FEW: u32 = 1_000;
+pub const FEW: u32 = 1_000;
 
 /// Which solver goes over a graph.
 #[derive(Clone, Copy, PartialEq, Eq)]
@@ -69,17 +62,17 @@ fn followed(
     Ok((flow.edges.len(), flow.followed.get()))
 }
 
-/// The line of one shape and one solver.
-fn say(rt: &HostRuntime, shape: Shape, solver: Solver, about: u32) -> io::Result<()> {
-    let (edges, count) = followed(rt.alloc(), shape, solver, about)?;
-    let name = shape.name();
-    let how = if solver == Solver::Worklist {
-        "worklist"
+/// The line of one shape and one solver, at about so many edges.
+pub fn line_of(alloc: Global, shape: &str, solver: &str, about: u32) -> Result<String, AllocError> {
+    let shape = Shape::named(shape);
+    let (solver, how) = if solver == "along" {
+        (Solver::Along, "along")
     } else {
-        "along"
+        (Solver::Worklist, "worklist")
     };
-    println!(rt; "{name} {how} {edges} {count}")?;
-    Ok(())
+    let (edges, count) = followed(alloc, shape, solver, about)?;
+    let name = shape.name();
+    format!(in alloc; "{name} {how} {edges} {count}")
 }
 
 /// How many nodes one change of a map with so many keys makes.
@@ -93,27 +86,14 @@ fn nodes_made(alloc: Global, keys: u32) -> Result<u32, AllocError> {
     Ok(made)
 }
 
-/// The lines that three words ask for, or all lines.
-fn main(rt: HostRuntime) -> io::Result<()> {
-    let words: Vec<String> = env::args(&rt)?.skip(1).collect(rt.alloc())?;
-    match words.as_slice() {
-        [shape, solver, about] => {
-            let about = about.parse::<u32>().unwrap_or(FEW);
-            let solver = if solver.as_str() == "along" {
-                Solver::Along
-            } else {
-                Solver::Worklist
-            };
-            say(&rt, Shape::named(shape.as_str()), solver, about)
-        }
-        _ => {
-            for shape in Shape::ALL {
-                say(&rt, shape, Solver::Worklist, FEW)?;
-                say(&rt, shape, Solver::Along, FEW)?;
-            }
-            let made = nodes_made(rt.alloc(), 1_024)?;
-            println!(rt; "map 1024 {made}")?;
-            Ok(())
-        }
+/// A row with what it asks for behind it.
+pub fn answer(alloc: Global, line: &str) -> Result<String, AllocError> {
+    let (first, second) = line.split_once(' ').unwrap_or((line, ""));
+    if first == "map" {
+        let keys = second.parse::<u32>().unwrap_or(0);
+        let made = nodes_made(alloc, keys)?;
+        format!(in alloc; "map {keys} {made}")
+    } else {
+        line_of(alloc, first, second, FEW)
     }
 }

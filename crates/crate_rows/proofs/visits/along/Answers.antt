@@ -1,8 +1,8 @@
 use Rattle.std.proofs.Common.{◌≡◌, arith}
 use Rattle.std.proofs.lemmas.Grind.{common_steps}
 use Rattle.flow_cfg.specs.Parts.{part_nodes, part_ends}
-use Rattle.visit_bench.proofs.Orders.{lists_nodes, ends_nodes}
-use Rattle.visit_bench.proofs.along.Goals as goal
+use Rattle.crate_rows.proofs.Orders.{lists_nodes, ends_nodes}
+use Rattle.crate_rows.proofs.visits.along.Goals as goal
 
 pub solve_along-requires-clause-nodes : goal.solve_along-requires-clause-nodes
 solve_along-requires-clause-nodes c =

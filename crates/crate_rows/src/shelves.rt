@@ -121,7 +121,7 @@ fn new_file(rt: &(impl Files + Env + AllocGlobal), answer: &mut Answer) -> Strin
         Ok(path) => answer.note(name.push_str(path.to_str().unwrap_or("")).is_err()),
         Err(_) => answer.refuse(),
     }
-    answer.note(name.push_str("/redex_base_rows").is_err());
+    answer.note(name.push_str("/redex_crate_rows").is_err());
     let _ = fs::remove_file(rt, name.as_str());
     name
 }

@@ -2,7 +2,7 @@
 
 ghost use Rattle.std.specs.Prelude.{◌≡◌, ◌<◌, ◌-◌, ◌+ℤ◌, pos, length, min, slice_index_or, if◌then◌else◌, int_lt};
 ghost use Rattle.domains.specs.Ranges.{last_word};
-ghost use Rattle.visit_bench.specs.Steps.{next_word, one_more};
+ghost use Rattle.crate_rows.specs.Steps.{next_word, one_more};
 
 use domains::Interval;
 use fixpoint::Flow;
@@ -63,7 +63,7 @@ impl Flow for Counting {
     ghost use Rattle.std.specs.Prelude.{⊤, slice_index_or, length, min, nat_le, ◌-◌, ◌<◌, pos, ◌==◌, if◌then◌else◌};
     ghost use Rattle.std.proofs.Common.{arith};
     ghost use Rattle.domains.specs.Ranges.{no_words, only_word};
-    ghost use Rattle.visit_bench.specs.Steps.{one_more};
+    ghost use Rattle.crate_rows.specs.Steps.{one_more};
 
     type State = Interval;
 

@@ -1,6 +1,6 @@
 -- Bodies whose registers have the least numbers that they can have (Dalvik bytecode, "Instruction formats"; this project's
 -- profile). `w` are the widths of the arguments of all methods.
-use Rattle.std.specs.Prelude.{◌≡◌, ℕ, suc, ◌-◌, ◌<◌, Bool, true, false, ◌&&◌, ◌||◌, not, nat_eq, List, [], ◌++◌, Some, Contains}
+use Rattle.std.specs.Prelude.{◌≡◌, ℕ, suc, ◌<◌, Bool, true, false, ◌&&◌, ◌||◌, not, nat_eq, List, [], ◌++◌, Some, Contains}
 use Rattle.std.specs.List.{list_any}
 use Rattle.insn_set.specs.Registers.{in_operand, reads_of, writes_of}
 use Rattle.insn_set.specs.Widths.{is_wide_slot, is_wide_item, unary_writes_wide, binary_is_wide}

@@ -1,6 +1,6 @@
 //! Which reads are stale, and by which Moves.
 
-ghost use Rattle.std.specs.Prelude.{◌≡◌, ◌↔◌, ◌+◌, ◌<◌, ◌^◌, ℕ, true, false, ◌&&◌, not, replicate, [], ◌∷◌, ◌++◌, length, nat_eq, slice_get, slice_index_or, IfOk, OnOk, IsTrue};
+ghost use Rattle.std.specs.Prelude.{◌≡◌, ◌↔◌, ◌+◌, ◌<◌, ◌^◌, ℕ, true, false, ◌&&◌, replicate, [], ◌∷◌, ◌++◌, length, nat_eq, slice_get, slice_index_or, IfOk, OnOk, IsTrue};
 ghost use Rattle.std.specs.List.{list_any};
 ghost use Rattle.walk_marks.specs.Walks.{is_on, row_of};
 ghost use Rattle.copy_prop.specs.Stale.{IsCopy};

@@ -29,7 +29,7 @@ module _ (quiet : ℕ → Bool) (b : Body) (ws : List Fate) (s : AreCleaned quie
   none n d = by (keeps b.insns ws stay n d.form d.has_form)
     where
       on : is_on s.dead n ≡ true
-      on = (s.are_dead.each n (get_inside b.insns n d.form d.has_form)).1 d
+      on = s.are_dead.complete n (get_inside b.insns n d.form d.has_form) d
 
       wish : wish_at ws n ≡ wish_for true (is_on s.firsts n)
       wish = s.are.each n d.form d.has_form ∙ ap (λ x. wish_for x (is_on s.firsts n)) on

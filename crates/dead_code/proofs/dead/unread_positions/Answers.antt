@@ -2,7 +2,7 @@ use Rattle.std.proofs.Common.{◌≡◌, slice_index, ◌∙◌, arith}
 use Rattle.std.proofs.lemmas.List.{get_or_read}
 use Rattle.walk_marks.specs.Walks.{is_on}
 use Rattle.dead_code.proofs.Dying.{upto_none, upto_more, upto_all}
-use Rattle.dead_code.proofs.dead.dead_positions.Goals as goal
+use Rattle.dead_code.proofs.dead.unread_positions.Goals as goal
 
 pub loop-position-init : goal.loop-position-init
 loop-position-init c = upto_none (is_on c.args.quiet.now) c.args.body.now c.in_ok-live.live c.in_ok-dead.dead.items c.in_ok-dead.ensures.items

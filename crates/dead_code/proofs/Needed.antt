@@ -277,7 +277,7 @@ module _ (quiet : ℕ → Bool) (b : Body) (back : List (List ℕ)) (turned : Is
 
   -- ---- the marks
 
-  is_needed : ℕ → ℕ → Bool
+  abbrev is_needed : ℕ → ℕ → Bool
   is_needed n r = nat_lt n (length b.insns) && is_on table (place_of b r n)
 
   needed_is : (n r : ℕ) → r < R → (is_needed n r ≡ true) ↔ IsNeeded b marks n r

@@ -38,7 +38,7 @@ fn quiet_if(holds: bool) -> Demand
 }
 
 /// Whether a value holds of nothing.
-fn is_nothing(value: &Value) -> bool
+pub(crate) fn is_nothing(value: &Value) -> bool
     ensures { result ≡ is_nothing value.now }
 {
     matches!(value.nullness(), Nullness::Bottom)
@@ -87,21 +87,19 @@ fn is_wide_other_than_zero(number: Option<u64>) -> bool
 }
 
 /// Whether a value holds of one number alone, other than 0, or of nothing.
-fn is_no_zero(wide: bool, value: &Value) -> bool
-    ensures { result ≡ is_no_zero wide value.now }
+fn is_no_zero(value: &Value) -> bool
+    ensures { result ≡ is_no_zero value.now }
 {
-    if wide {
-        is_nothing(value) || is_wide_other_than_zero(known_wide_of(value))
-    } else {
-        is_nothing(value) || is_word_other_than_zero(known_of(value))
-    }
+    is_nothing(value)
+        || (is_word_other_than_zero(known_of(value))
+            || is_wide_other_than_zero(known_wide_of(value)))
 }
 
 /// Whether an operation never throws whose second operand has a value.
 fn never_throws(op: BinaryOp, divisor: &Value) -> bool
     ensures { result ≡ never_throws op divisor.now }
 {
-    !op.divides() || is_no_zero(op.second_is_wide(), divisor)
+    !op.divides() || is_no_zero(divisor)
 }
 
 /// Whether a form does nothing but write a register, go on elsewhere or return, whatever its operands.

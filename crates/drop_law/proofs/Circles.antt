@@ -39,17 +39,17 @@ below_same s n (suc k) l =
 
 count_more : (s : ℕ → Bool) (n k : ℕ) → n < k → s n ≡ false → count (marked s n) k ≡ suc (count s k)
 count_more s n zero l e = absurd (omega (arith, l))
-count_more s n (suc k) l e = by (cases_eq n k)
+count_more s n (suc k) l e = by (cases_eq n k) (λ j. count_more s n k j e)
   where
-    by : (n ≡ k) ⊎ (n ≡ k → ⊥) → one (nat_eq k n || s k) + count (marked s n) k ≡ suc (one (s k) + count s k)
-    by (inl i) =
+    by : (n ≡ k) ⊎ (n ≡ k → ⊥) → (n < k → count (marked s n) k ≡ suc (count s k)) → one (nat_eq k n || s k) + count (marked s n) k ≡ suc (one (s k) + count s k)
+    by (inl i) more =
         let a : one (nat_eq k n || s k) ≡ 1 = ap (λ b. one (b || s k)) (eq-eqb k n (sym i)) in
         let z : one (s k) ≡ 0 = ap one (subst (λ j. s j ≡ false) i e) in
         let c : count (marked s n) k ≡ count s k = below_same s n k (omega (arith, i)) in
         omega (arith, a, z, c)
-    by (inr d) =
+    by (inr d) more =
         let a : one (nat_eq k n || s k) ≡ one (s k) = ap (λ b. one (b || s k)) (apart k n (λ i. d (sym i))) in
-        let c : count (marked s n) k ≡ suc (count s k) = count_more s n k (omega (arith, l, d)) e in
+        let c : count (marked s n) k ≡ suc (count s k) = more (omega (arith, l, d)) in
         omega (arith, a, c)
 
 -- ---- walks
@@ -64,35 +64,29 @@ module _ (next : ℕ → List ℕ) (acyclic : (n m : ℕ) → Contains (next n) 
   abbrev Comes : (ℕ → Bool) → ℕ → Type 0
   Comes s n = (m : ℕ) → s m ≡ true → (k : ℕ) × (Contains (next m) k × Walk next k n)
 
+  back : (s : ℕ → Bool) (n m : ℕ) → Contains (next n) m → Comes s n → (nat_eq m n ≡ true) ⊎ (s m ≡ true) → ⊥
+  back s n m step comes (inl e) = acyclic n m step (subst (λ (j : ℕ). Walk next j n) (sym (eqb-true m n e)) (Stays n))
+  back s n m step comes (inr e) = let w = comes m e in acyclic n m step (Goes m w.0 n w.1.0 w.1.1)
+
+  still : (s : ℕ → Bool) (n m : ℕ) → Contains (next n) m → Comes s n → Comes (marked s n) m
+  still s n m step comes j e = from (or_cases (nat_eq j n) (s j) e)
+    where
+      from : (nat_eq j n ≡ true) ⊎ (s j ≡ true) → (k : ℕ) × (Contains (next j) k × Walk next k m)
+      from (inl i) = (m, (subst (λ (z : ℕ). Contains (next z) m) (sym (eqb-true j n i)) step, Stays m))
+      from (inr i) = let w = comes j i in (w.0, (w.1.0, extended next w.0 n m w.1.1 step))
+
   never : (fuel : ℕ) (s : ℕ → Bool) (n : ℕ) → most ≤ count s most + fuel → n < most → stuck n ≡ true → s n ≡ false → Comes s n → ⊥
   never zero s n l low st off comes =
       let more : count (marked s n) most ≡ suc (count s most) = count_more s n most low off in
       let short : count (marked s n) most ≤ most = count_short (marked s n) most in
       omega (arith, l, more, short)
   never (suc fuel) s n l low st off comes = by (marked s n (goes n low st).0) refl
+      (λ e. let more : count (marked s n) most ≡ suc (count s most) = count_more s n most low off in
+      never fuel (marked s n) (goes n low st).0 (omega (arith, l, more)) (goes n low st).1.0 (goes n low st).1.1.0 e (still s n (goes n low st).0 (goes n low st).1.1.1 comes))
     where
-      m : ℕ
-      m = (goes n low st).0
-
-      step : Contains (next n) m
-      step = (goes n low st).1.1.1
-
-      back : (nat_eq m n ≡ true) ⊎ (s m ≡ true) → ⊥
-      back (inl e) = acyclic n m step (subst (λ (j : ℕ). Walk next j n) (sym (eqb-true m n e)) (Stays n))
-      back (inr e) = let w = comes m e in acyclic n m step (Goes m w.0 n w.1.0 w.1.1)
-
-      still : Comes (marked s n) m
-      still j e = from (or_cases (nat_eq j n) (s j) e)
-        where
-          from : (nat_eq j n ≡ true) ⊎ (s j ≡ true) → (k : ℕ) × (Contains (next j) k × Walk next k m)
-          from (inl i) = (m, (subst (λ (z : ℕ). Contains (next z) m) (sym (eqb-true j n i)) step, Stays m))
-          from (inr i) = let w = comes j i in (w.0, (w.1.0, extended next w.0 n m w.1.1 step))
-
-      by : (b : Bool) → marked s n m ≡ b → ⊥
-      by true e = back (or_cases (nat_eq m n) (s m) e)
-      by false e =
-          let more : count (marked s n) most ≡ suc (count s most) = count_more s n most low off in
-          never fuel (marked s n) m (omega (arith, l, more)) (goes n low st).1.0 (goes n low st).1.1.0 e still
+      by : (b : Bool) → marked s n (goes n low st).0 ≡ b → (marked s n (goes n low st).0 ≡ false → ⊥) → ⊥
+      by true e rest = back s n (goes n low st).0 (goes n low st).1.1.1 comes (or_cases (nat_eq (goes n low st).0 n) (s (goes n low st).0) e)
+      by false e rest = rest e
 
   pub no_circle : (first : ℕ) → first < most → stuck first ≡ true → ⊥
   no_circle first low st = never most (λ m. false) first (omega arith) low st refl (λ m e. absurd (true≢false (sym e)))

@@ -56,7 +56,7 @@ number_under v (KnownWide m) (inl h) e some = clashes v h some
 number_under v (KnownWide m) (inr h) e some = (m, (ap (λ (w : Parts). number_in w.word) h, not_true (nat_eq m 0) e))
 
 same_number : (v : Parts) (k : ℕ) → number_in v.word ≡ Some k → HasNumber v → nat_eq k 0 ≡ false
-same_number v k e (m, i, z) = ap (λ j. nat_eq j 0) (some_same k m (sym e ∙ i)) ∙ z
+same_number v k e h = ap (λ j. nat_eq j 0) (some_same k h.0 (sym e ∙ h.1.0)) ∙ h.1.1
 
 not_zero : (v : Parts) (f : Flat) → IsUnder v f → is_nothing v ≡ false → HasNumber v → flat_zero f ≡ false
 not_zero v Bottom h some number = refl

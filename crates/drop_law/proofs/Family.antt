@@ -33,7 +33,7 @@ use Rattle.facts.specs.declared.facts.Facts.{Facts}
 use Rattle.pass_defs.specs.Flat.{Flat}
 use Rattle.pass_defs.specs.Facts as name
 use Rattle.pass_defs.specs.Constants.{flat, Solution, IsSolution}
-use Rattle.pass_defs.specs.Walks.{form_at}
+use Rattle.pass_defs.specs.Walks.{caught, form_at}
 use Rattle.pass_defs.specs.Quiet.{IsQuietBody, IsQuietFamily, edges_at}
 use Rattle.thin_laws.proofs.Rules.{next_there, target_there}
 use Rattle.thin_laws.proofs.Tidied.{code_rules}
@@ -162,7 +162,7 @@ module _ (p : Program) (o : Outside) (asked : IsAsked p o) (t : Facts) (marks : 
     -- ---- ways
 
     edge_there : (n j : ℕ) (f : Form) (a : ℕ → Flat) → q.table.registers key n ≡ Some a → form_at q.body n ≡ Some f → Contains (name.nexts flat f n a) j → Contains (edges_at q.body q.table key n) j
-    edge_there n j f a r e c = subst (λ (l : List ℕ). Contains l j) (sym taken) (Contains-append_left (name.nexts flat f n a) (name.caught q.body f n) j c)
+    edge_there n j f a r e c = subst (λ (l : List ℕ). Contains l j) (sym taken) (Contains-append_left (name.nexts flat f n a) (caught q.body f n) j c)
       where
         taken : edges_at q.body q.table key n ≡ name.taken flat q.body f n a
         taken = rw (r, e) refl

@@ -25,7 +25,7 @@ use Rattle.quiet_methods.specs.Forms.{one_if, cases_upto, switch_ways, branch_wa
 
 -- ---- lists of ways
 
-nowhere : {A P : Type 0} (q : A) → Contains {X = A} [] q → P
+pub nowhere : {A P : Type 0} (q : A) → Contains {X = A} [] q → P
 nowhere q c = let l : c.0 < 0 = c.1 in absurd (omega (arith, l))
 
 in_one_if : (b : Bool) (k j : ℕ) → Contains (one_if b k) j → (b ≡ true) × (j ≡ k)

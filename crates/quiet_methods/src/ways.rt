@@ -138,9 +138,7 @@ pub(crate) fn add_ways(
         Insn::PackedSwitch { targets, .. } | Insn::SparseSwitch { targets, .. } => {
             add_switch(alloc, registers, insn, targets.as_slice(), next, out)
         }
-        Insn::Binary { op, b, .. } => {
-            add_division(*op, frame.get(u32::from(*b)), position, out)
-        }
+        Insn::Binary { op, b, .. } => { add_division(*op, frame.get(u32::from(*b)), position, out) }
         _ => add_if(insn.continues(), next, out),
     }
 }

@@ -1,5 +1,5 @@
 -- A value under a flat one that is known other than 0 holds of nothing, or of such a number alone.
-use Rattle.std.specs.Prelude.{◌≡◌, ◌⊎◌, ◌<◌, ◌%◌, ◌^◌, ◌||◌, not, nat_eq, ℕ, Bool, true, false, Some, refl}
+use Rattle.std.specs.Prelude.{◌≡◌, ◌%◌, ◌^◌, ◌||◌, not, nat_eq, ℕ, true, false, Some, refl}
 use Rattle.std.proofs.Common.{sym, ◌∙◌, arith, inl, inr, subst, ap, true≢false}
 use Rattle.std.proofs.lemmas.Bool.{eqb-true, eq-eqb}
 use Rattle.lemmas.proofs.Bools.{not_of_false, not_true, or_left, or_right, untrue}

@@ -1,9 +1,8 @@
 -- A call that could be dropped by names is one that does nothing by number.
-use Rattle.std.specs.Prelude.{◌≡◌, ◌<◌, ◌+◌, ◌&&◌, not, nat_eq, ℕ, Bool, true, false, List, [], length, Option, Some, None, codes, is_some, refl, slice_get, slice_index_or}
-use Rattle.std.specs.Cmp.Lexicographic.{pointwise}
+use Rattle.std.specs.Prelude.{◌≡◌, ◌<◌, ◌+◌, ◌&&◌, ℕ, Bool, true, false, List, length, Option, Some, None, is_some, refl, slice_get, slice_index_or}
 use Rattle.std.specs.Option.{option_map}
-use Rattle.std.proofs.Common.{sym, ◌∙◌, ap, subst}
-use Rattle.lemmas.proofs.Bools.{and_both, not_of_false}
+use Rattle.std.proofs.Common.{sym, ◌∙◌, ap}
+use Rattle.lemmas.proofs.Bools.{and_both}
 use Rattle.lemmas.proofs.Lists.{get_map, get_there}
 use Rattle.lemmas.proofs.Options.{before_map}
 use Rattle.insn_set.specs.declared.form.Insn.{Insn}
@@ -12,7 +11,6 @@ use Rattle.insn_set.specs.declared.ops.InvokeKind.TheVariants as call
 use Rattle.program_model.specs.BodyRules.{body_fits}
 use Rattle.program_model.specs.Lookups as look
 use Rattle.program_model.specs.MemberRules.{is_static}
-use Rattle.program_model.specs.OperandRules.{numbers_fit}
 use Rattle.program_model.specs.declared.body.Body.{Body}
 use Rattle.program_model.specs.declared.pass.Outside.{Outside}
 use Rattle.program_model.specs.declared.pools.MethodName.{MethodName}
@@ -20,21 +18,15 @@ use Rattle.program_model.specs.declared.program.Class.{Class}
 use Rattle.program_model.specs.declared.program.Method.{Method}
 use Rattle.program_model.specs.declared.program.MethodAt.{MethodAt}
 use Rattle.program_model.specs.declared.program.Program.{Program}
-use Rattle.class_defs.specs.Finding.{finds_static}
 use Rattle.dalvik_defs.specs.Find.{Found, Finds, finds_statically}
 use Rattle.dalvik_defs.specs.Initialised as initialised
-use Rattle.dalvik_defs.specs.Names.{Text}
-use Rattle.dalvik_defs.specs.Naming.{body_of, form_of, method_at, named, text_at}
+use Rattle.dalvik_defs.specs.Naming.{body_of, form_of, method_at, named}
 use Rattle.dalvik_defs.specs.Outer.{outer_of}
-use Rattle.dalvik_defs.specs.declared.forms.Form.{Form}
 use Rattle.dalvik_defs.specs.declared.names.MethodKey.{MethodKey}
 use Rattle.dalvik_defs.specs.declared.program.NamedBody.{NamedBody}
 use Rattle.name_bridge.proofs.Found.{looked_up}
-use Rattle.name_bridge.proofs.Tables.{method_is, method_name}
-use Rattle.facts.specs.Lent.{frame_at}
 use Rattle.facts.specs.declared.facts.Facts.{Facts}
 use Rattle.pass_defs.specs.Constants.{Solution, IsSolution}
-use Rattle.pass_defs.specs.Demands.{is_constructor_name}
 use Rattle.pass_defs.specs.Walks.{form_at}
 use Rattle.pass_defs.specs.Quiet as quiet
 use Rattle.pass_defs.specs.Quiet.{IsDroppable, IsPlainlyQuiet}
@@ -47,7 +39,7 @@ use Rattle.flat_bridge.proofs.Fits.{insn_fit}
 use Rattle.flat_bridge.proofs.Standing.{owned}
 use Rattle.quiet_methods.specs.Forms.{starts_quietly}
 use Rattle.quiet_methods.specs.Quiet.{AreQuiet, is_on}
-use Rattle.quiet_code.specs.Calls.{is_constructor, is_idle_call, is_init, is_quiet_found, is_quiet_named, is_quiet_target}
+use Rattle.quiet_code.specs.Calls.{is_quiet_found, is_quiet_named, is_quiet_target}
 use Rattle.quiet_code.specs.Idle.{takes_result}
 use Rattle.quiet_code.specs.Quieted.{NoneIdle}
 use Rattle.drop_law.proofs.Family.{family, family_quiet, marked_of, static_in}
@@ -64,17 +56,9 @@ module _ (p : Program) (o : Outside) (asked : IsAsked p o) (t : Facts) (marks : 
     (low : (c : Solution) → IsSolution (named p) (outer_of p o) c → AreFactsUnder p (numbered p c) t) where
   -- ---- what a call finds
 
-  plain_name : (method : ℕ) (q : MethodName) → slice_get p.methods method ≡ Some q → is_constructor_name (method_at p method).name ≡ false → is_constructor p q ≡ false
-  plain_name method q e h = by (slice_get p.strings q.name) refl (get_there p.strings q.name (method_name p asked.sound method q e)) (sym (ap (λ (k : MethodKey). is_constructor_name k.name) (method_is p asked.sound method q e)) ∙ h)
-    where
-      by : (x : Option (List ℕ)) → slice_get p.strings q.name ≡ x → (y : List ℕ) × (slice_get p.strings q.name ≡ Some y) → is_constructor_name (text_at p q.name) ≡ false
-          → (elim x as (λ x. Bool) [ Some units ↦ is_init units | None ↦ true ]) ≡ false
-      by x e y h = subst (λ (z : Option (List ℕ)). (elim z as (λ x. Bool) [ Some units ↦ is_init units | None ↦ true ]) ≡ false) (sym y.1 ∙ e)
-          (sym (ap (λ (z : Option (List ℕ)). is_constructor_name (elim z as (λ z. Text) [ Some t ↦ t | None ↦ [] ])) y.1) ∙ h)
-
   named_quiet : (method : ℕ) → method < length p.methods → (key : MethodKey) (found : Found) → method_at p method ≡ key → finds_statically (named p) key ≡ Finds found → initialised.is_trivial (named p) found.key.class ≡ true
-      → IsPlainlyQuiet (named p) (outer_of p o) found.key → is_constructor_name key.name ≡ false → is_quiet_named p marks true method (slice_get p.methods method) ≡ true
-  named_quiet method less key found same finds trivial is_quiet plain = by (get_there p.methods method less)
+      → IsPlainlyQuiet (named p) (outer_of p o) found.key → is_quiet_named p marks true method (slice_get p.methods method) ≡ true
+  named_quiet method less key found same finds trivial is_quiet = by (get_there p.methods method less)
     where
       f : FoundBy p asked.sound asked.once method found
       f = found_static p asked.sound asked.once method less found (ap (finds_statically (named p)) same ∙ finds)
@@ -94,9 +78,7 @@ module _ (p : Program) (o : Outside) (asked : IsAsked p o) (t : Facts) (marks : 
           (and_both (is_some f.method.body && is_on marks f.method.name) (starts_quietly p f.at.class) (and_both (is_some f.method.body) (is_on marks f.method.name) marked.1 marked.0) starts)
 
       by : (q : MethodName) × (slice_get p.methods method ≡ Some q) → is_quiet_named p marks true method (slice_get p.methods method) ≡ true
-      by (q, e) = ap (is_quiet_named p marks true method) e ∙ (ap (is_quiet_found p marks true q) f.is
-          ∙ and_both (not (is_constructor p q)) (is_quiet_target p marks true f.at.class (look.method_at p f.at))
-          (not_of_false (is_constructor p q) (plain_name method q e (ap (λ (k : MethodKey). is_constructor_name k.name) same ∙ plain))) target)
+      by (q, e) = ap (is_quiet_named p marks true method) e ∙ (ap (is_quiet_found p marks true q) f.is ∙ target)
 
   -- ---- a call that could be dropped
 
@@ -111,7 +93,7 @@ module _ (p : Program) (o : Outside) (asked : IsAsked p o) (t : Facts) (marks : 
     fits : body_fits p b ≡ true
     fits = (code_rules p c m b asked.formed (get_contains p.classes k c is_class) (get_contains c.methods j m is_method) coded).0
 
-    module _ (d : IsDroppable (named p) (outer_of p o) (method_at p m.name) n) (plain : is_constructor_name d.calls.key.name ≡ false) where
+    module _ (d : IsDroppable (named p) (outer_of p o) (method_at p m.name) n) where
       body_is : d.body ≡ body_of p b
       body_is = body_same (sym d.has_body ∙ ((owned p asked.sound asked.once at m there).bodies_are ∙ ap (option_map (body_of p)) coded))
         where
@@ -130,11 +112,11 @@ module _ (p : Program) (o : Outside) (asked : IsAsked p o) (t : Facts) (marks : 
           let fit = insn_fit p asked.sound at m b n (insn.Invoke call.Static s.method s.args) there coded is in
           let less = call_low p call.Static s.method s.args fit.1 in
           left k j c m b is_class is_method may coded n (insn.Invoke call.Static s.method s.args) is
-          (record { small = body_small p asked.formed k j c m b is_class is_method coded fits; nothing = (unused, named_quiet s.method less d.calls.key d.calls.found s.named d.calls.finds d.calls.trivial d.calls.is_quiet plain) })
+          (record { small = body_small p asked.formed k j c m b is_class is_method coded fits; nothing = (unused, named_quiet s.method less d.calls.key d.calls.found s.named d.calls.finds d.calls.trivial d.calls.is_quiet) })
 
       never : ⊥
       never = by_call found.0 found.1.0 found.1.1 (static_of p found.0 d.calls.key d.calls.args (found.1.1 ∙ d.calls.form))
 
   pub none_droppable : (admitted : List Bool) → NoneIdle p marks t.frames.items admitted → (k j : ℕ) (c : Class) (m : Method) (b : Body) → slice_get p.classes k ≡ Some c → slice_get c.methods j ≡ Some m
-      → slice_index_or admitted m.name false ≡ true → m.body ≡ Some b → (n : ℕ) (d : IsDroppable (named p) (outer_of p o) (method_at p m.name) n) → is_constructor_name d.calls.key.name ≡ false → ⊥
-  none_droppable admitted left k j c m b is_class is_method may coded n d plain = never admitted left k j c m b is_class is_method may coded n d plain
+      → slice_index_or admitted m.name false ≡ true → m.body ≡ Some b → (n : ℕ) → IsDroppable (named p) (outer_of p o) (method_at p m.name) n → ⊥
+  none_droppable admitted left k j c m b is_class is_method may coded n d = never admitted left k j c m b is_class is_method may coded n d

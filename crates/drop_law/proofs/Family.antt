@@ -1,5 +1,5 @@
 -- The methods that are marked are a family of quiet methods by names: a static method whose code is quiet by them is marked.
-use Rattle.std.specs.Prelude.{◌≡◌, ◌⊎◌, ◌<◌, ◌≤◌, ◌+◌, ◌&&◌, ◌++◌, if◌then◌else◌, nat_lt, ℕ, suc, Bool, true, false, List, [], length, Option, Some, None, is_some, refl, slice_get, Contains}
+use Rattle.std.specs.Prelude.{◌≡◌, ◌<◌, ◌≤◌, ◌+◌, ◌&&◌, if◌then◌else◌, nat_lt, ℕ, suc, Bool, true, false, List, [], length, Option, Some, None, is_some, refl, slice_get, Contains}
 use Rattle.std.specs.Option.{option_map}
 use Rattle.std.proofs.Common.{sym, ◌∙◌, arith, ap, subst, inl, inr}
 use Rattle.std.proofs.lemmas.List.Elements.{Contains-append_left}
@@ -50,7 +50,6 @@ use Rattle.flat_bridge.proofs.Fits.{insn_fit}
 use Rattle.flat_bridge.proofs.Standing.{Owned, owned, there as stands}
 use Rattle.calls_kept.proofs.InlinedBodies.{few_positions}
 use Rattle.calls_kept.proofs.Standing.{alone}
-use Rattle.quiet_methods.specs.declared.forms.Demand.TheVariants.{Call, Loud}
 use Rattle.quiet_methods.specs.Forms.{ways}
 use Rattle.quiet_methods.specs.Bodies.{frame_in, demand_in, ways_in, IsCircling, IsLoudSelf, LoudAt, Circles, TooLong}
 use Rattle.quiet_methods.specs.Quiet.{is_on, frames_of, AreQuiet, IsCode, IsLoudBody, LoudSelf, CallsLoud}

@@ -1,12 +1,11 @@
 -- A form that is quiet by names asks for nothing that isn't marked, by number.
-use Rattle.std.specs.Prelude.{◌≡◌, ◌⊎◌, ◌<◌, ◌&&◌, ◌||◌, not, cond, if◌then◌else◌, nat_lt, ℕ, pos, Bool, true, false, List, length, Option, Some, None, is_some, refl}
+use Rattle.std.specs.Prelude.{◌≡◌, ◌⊎◌, ◌<◌, ◌&&◌, ◌||◌, not, cond, if◌then◌else◌, ℕ, pos, Bool, true, false, List, length, Some, is_some, refl}
 use Rattle.std.specs.Ordering.{int_eq}
 use Rattle.std.proofs.Common.{sym, ◌∙◌, ap, subst, inl, inr, true≢false}
 use Rattle.lemmas.proofs.Bools.{and_both, clash, not_true, or_left, or_right}
-use Rattle.insn_set.specs.Flow.{divides, divides_by_literal, targets_of}
+use Rattle.insn_set.specs.Flow.{divides, divides_by_literal}
 use Rattle.insn_set.specs.Spelling.{is_encodable}
 use Rattle.insn_set.specs.declared.ops.BinaryOp.{BinaryOp}
-use Rattle.insn_set.specs.declared.ops.InvokeKind.{InvokeKind}
 use Rattle.insn_set.specs.declared.ops.InvokeKind.TheVariants as call
 use Rattle.insn_set.specs.declared.form.Insn.{Insn}
 use Rattle.insn_set.specs.declared.form.Insn.TheVariants as insn
@@ -20,7 +19,7 @@ use Rattle.class_defs.specs.Finding.{finds_static}
 use Rattle.class_defs.proofs.WellFormed.{below, Sound}
 use Rattle.dalvik_defs.specs.Find.{finds_statically}
 use Rattle.dalvik_defs.specs.Initialised as initialised
-use Rattle.dalvik_defs.specs.Naming.{field_at, form_of, method_at, named}
+use Rattle.dalvik_defs.specs.Naming.{form_of, method_at, named}
 use Rattle.dalvik_defs.specs.Outer.{Outer}
 use Rattle.dalvik_defs.specs.declared.forms.Form.{Form}
 use Rattle.dalvik_defs.specs.declared.forms.Form.TheVariants as form

@@ -1,5 +1,5 @@
 -- What static calls and gets of static fields find by names, by number.
-use Rattle.std.specs.Prelude.{◌≡◌, ◌<◌, ◌&&◌, nat_lt, ℕ, Bool, true, false, List, length, Option, Some, None, refl, slice_get, option_and_then}
+use Rattle.std.specs.Prelude.{◌≡◌, ◌<◌, nat_lt, ℕ, Bool, true, false, List, length, Option, Some, None, refl, slice_get, option_and_then}
 use Rattle.std.proofs.Common.{sym, ◌∙◌, ap, true≢false, lt-ltb}
 use Rattle.lemmas.proofs.Bools.{and_both}
 use Rattle.lemmas.proofs.Lists.{got_short}
@@ -17,7 +17,7 @@ use Rattle.class_defs.specs.Finding.{finds_static, resolves_field, search_of}
 use Rattle.class_defs.specs.Starts.{is_trivial}
 use Rattle.class_defs.proofs.WellFormed.{Sound, class_parts}
 use Rattle.dalvik_defs.specs.Find as name
-use Rattle.dalvik_defs.specs.Find.{Found, defined_method, finds_field, method_in}
+use Rattle.dalvik_defs.specs.Find.{Found, defined_method, method_in}
 use Rattle.dalvik_defs.specs.Initialised as initialised
 use Rattle.dalvik_defs.specs.Names.{Text}
 use Rattle.dalvik_defs.specs.Naming.{field_at, form_of, method_at, named, named_method, type_at}

@@ -1,7 +1,7 @@
 -- Positions and regions of the bodies of a well-formed program are few.
-use Rattle.std.specs.Prelude.{◌≡◌, ◌⊎◌, ◌<◌, ◌≤◌, ◌+◌, ◌&&◌, ◌||◌, not, nat_eq, nat_le, nat_lt, ℕ, zero, suc, Bool, true, false, List, [], ◌∷◌, length, sum_by, Option, Some, None, is_some, refl, slice_get, Contains}
+use Rattle.std.specs.Prelude.{◌≡◌, ◌⊎◌, ◌<◌, ◌≤◌, ◌+◌, ◌&&◌, not, nat_eq, nat_le, nat_lt, ℕ, zero, suc, true, false, List, [], ◌∷◌, length, sum_by, Option, Some, None, is_some, refl, slice_get, Contains}
 use Rattle.std.specs.List.{list_all}
-use Rattle.std.proofs.Common.{sym, ◌∙◌, arith, inl, inr, ap, true≢false, lt-ltb, ltb-true}
+use Rattle.std.proofs.Common.{sym, arith, inl, inr, ap, true≢false, lt-ltb, ltb-true}
 use Rattle.std.proofs.lemmas.Bool.{leb-true}
 use Rattle.std.proofs.lemmas.List.Sums.{sum_by-cons}
 use Rattle.lemmas.proofs.Bools.{and_left, and_right, or_cases}
@@ -11,9 +11,9 @@ use Rattle.insn_set.specs.Flow.{targets_of}
 use Rattle.insn_set.specs.Spelling.{is_encodable, keys_ascend}
 use Rattle.insn_set.specs.declared.form.Insn.{Insn}
 use Rattle.insn_set.specs.declared.form.Insn.TheVariants as insn
-use Rattle.program_model.specs.Items.{body_items, class_items, items_of, marks_items, method_items, region_items, rest_items}
+use Rattle.program_model.specs.Items.{body_items, class_items, items_of, method_items, region_items, rest_items}
 use Rattle.program_model.specs.ProgramRules.{is_well_formed}
-use Rattle.program_model.specs.RegionRules.{catches, handler_fits, region_fits, rest_fits}
+use Rattle.program_model.specs.RegionRules.{catches, handler_fits, rest_fits}
 use Rattle.program_model.specs.BodyRules.{body_fits}
 use Rattle.program_model.specs.declared.body.Body.{Body}
 use Rattle.program_model.specs.declared.body.Region.{Region}

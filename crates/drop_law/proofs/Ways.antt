@@ -11,7 +11,7 @@ use Rattle.program_model.specs.declared.program.Program.{Program}
 use Rattle.dalvik_defs.specs.Names.{Text}
 use Rattle.dalvik_defs.specs.Naming.{form_of}
 use Rattle.dalvik_defs.specs.declared.forms.Form.{Form}
-use Rattle.domains.specs.Values.{Parts, least_value}
+use Rattle.domains.specs.Values.{least_value}
 use Rattle.value_ops.specs.Left.{is_nothing}
 use Rattle.dom_frame.specs.Registers.{Registers, value_at}
 use Rattle.dom_frame.specs.Steps.{branched, unswitched, switched}
@@ -21,7 +21,7 @@ use Rattle.pass_defs.specs.Facts as name
 use Rattle.pass_defs.specs.Constants.{flat, Solution}
 use Rattle.flat_bounds.specs.Under.{AreUnder}
 use Rattle.flat_law.proofs.Edges.{IsFit, edges_under}
-use Rattle.quiet_methods.specs.Forms.{one_if, cases_upto, switch_ways, branch_ways, division_ways, ways}
+use Rattle.quiet_methods.specs.Forms.{one_if, cases_upto, switch_ways, branch_ways, ways}
 
 -- ---- lists of ways
 

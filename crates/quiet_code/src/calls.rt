@@ -106,7 +106,7 @@ impl Search<'_> {
     {
         match found {
             Some(at) => {
-                !self.is_constructor(name)
+                (to_static || !self.is_constructor(name))
                     && self.is_quiet_target(to_static, at.class, method_in(self.program, at))
             }
             None => false,

@@ -41,7 +41,7 @@ use Rattle.drop_law.proofs.Places.{called_key, calls_statically, found_static, g
 use Rattle.drop_law.proofs.Small.{few_targets}
 use Rattle.drop_law.proofs.Ways.{GoesOn}
 
-abbrev divides_registers : Form → Bool
+abbrev pub divides_registers : Form → Bool
 divides_registers (form.Binary op to x y) = true
 divides_registers f = false
 

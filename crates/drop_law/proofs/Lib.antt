@@ -6,3 +6,4 @@ pub mod Places
 pub mod Forms
 pub mod Family
 pub mod Dropped
+pub mod Spare

@@ -51,10 +51,10 @@ use Rattle.flat_bridge.proofs.Standing.{Owned, owned, there as stands}
 use Rattle.calls_kept.proofs.InlinedBodies.{few_positions}
 use Rattle.calls_kept.proofs.Standing.{alone}
 use Rattle.quiet_methods.specs.Forms.{ways}
-use Rattle.quiet_methods.specs.Bodies.{frame_in, demand_in, ways_in, IsCircling, IsLoudSelf, LoudAt, Circles, TooLong}
+use Rattle.quiet_methods.specs.Bodies.{frame_in, demand_in, ways_in, with_demand, IsCircling, IsLoudSelf, LoudAt, Circles, TooLong}
 use Rattle.quiet_methods.specs.Quiet.{is_on, frames_of, AreQuiet, IsCode, IsLoudBody, LoudSelf, CallsLoud}
 use Rattle.drop_law.proofs.Circles.{no_circle}
-use Rattle.drop_law.proofs.Forms.{Fine, IsDivided, Quiet, demand_fine, goes_named}
+use Rattle.drop_law.proofs.Forms.{AreMarked, IsDivided, Quiet, demand_fine, goes_named}
 use Rattle.drop_law.proofs.Places.{defined_here}
 use Rattle.drop_law.proofs.Small.{few_targets}
 use Rattle.drop_law.proofs.Ways.{next_under, nowhere, way_leads}
@@ -149,10 +149,10 @@ module _ (p : Program) (o : Outside) (asked : IsAsked p o) (t : Facts) (marks : 
         by None r h = absurd h
         by (Some a) r h = record { registers = a; reached = r; under = h; form = q.forms n (stands p asked.sound asked.once q.table at n (here a r)) }
 
-    fine : (n : ℕ) (i : Insn) → slice_get b.insns n ≡ Some i → Fine p asked.sound asked.once (outer_of p o) F marks marked_of (demand_in p (frame_in fs n) i)
+    fine : (n : ℕ) (i : Insn) → slice_get b.insns n ≡ Some i → AreMarked marks (with_demand (Some []) (demand_in p (frame_in fs n) i))
     fine n i e = by (frame_in fs n) refl
       where
-        by : (x : Option Frame) → frame_in fs n ≡ x → Fine p asked.sound asked.once (outer_of p o) F marks marked_of (demand_in p x i)
+        by : (x : Option Frame) → frame_in fs n ≡ x → AreMarked marks (with_demand (Some []) (demand_in p x i))
         by None is = tt
         by (Some f) is =
             let fit = insn_fit p asked.sound at m b n i there coded e in
@@ -210,7 +210,7 @@ module _ (p : Program) (o : Outside) (asked : IsAsked p o) (t : Facts) (marks : 
             (w.0, (g.inside, (w.2, g.edge)))
 
     never_self : IsLoudSelf p b.insns fs → ⊥
-    never_self (LoudAt l) = subst (Fine p asked.sound asked.once (outer_of p o) F marks marked_of) l.loud (fine l.n l.form l.there)
+    never_self (LoudAt l) = subst (λ d. AreMarked marks (with_demand (Some []) d)) l.loud (fine l.n l.form l.there)
     never_self (Circles c) = never_circles c
     never_self (TooLong l) =
         let f : length b.insns ≤ 67108864 = few_positions p asked.formed at.class at.place o_of.class m b o_of.is_class o_of.is_method coded in
@@ -218,7 +218,7 @@ module _ (p : Program) (o : Outside) (asked : IsAsked p o) (t : Facts) (marks : 
 
     never_loud : IsLoudBody p b fs marks → ⊥
     never_loud (LoudSelf l) = never_self l
-    never_loud (CallsLoud k c off) = clash (is_on marks k) (subst (Fine p asked.sound asked.once (outer_of p o) F marks marked_of) c.called (fine c.n c.form c.there)) off
+    never_loud (CallsLoud k c off) = clash (is_on marks k) (subst (λ d. AreMarked marks (with_demand (Some []) d)) c.called (fine c.n c.form c.there)) off
 
     pub quiet_marked : is_on marks m.name ≡ true
     quiet_marked = by (is_on marks m.name) refl

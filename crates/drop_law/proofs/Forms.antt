@@ -1,8 +1,8 @@
 -- A form that is quiet by names asks for nothing that isn't marked, by number.
-use Rattle.std.specs.Prelude.{◌≡◌, ◌⊎◌, ◌<◌, ◌&&◌, ◌||◌, not, cond, if◌then◌else◌, ℕ, pos, Bool, true, false, List, length, Some, is_some, refl}
+use Rattle.std.specs.Prelude.{◌≡◌, ◌⊎◌, ◌<◌, ◌&&◌, ◌||◌, not, if◌then◌else◌, ℕ, pos, Bool, true, false, List, [], ◌∷◌, length, Option, None, Some, is_some, refl}
 use Rattle.std.specs.Ordering.{int_eq}
 use Rattle.std.proofs.Common.{sym, ◌∙◌, ap, subst, inl, inr, true≢false}
-use Rattle.lemmas.proofs.Bools.{and_both, clash, not_true, or_left, or_right}
+use Rattle.lemmas.proofs.Bools.{clash, not_true, or_left, or_right}
 use Rattle.insn_set.specs.Flow.{divides, divides_by_literal}
 use Rattle.insn_set.specs.Spelling.{is_encodable}
 use Rattle.insn_set.specs.declared.ops.BinaryOp.{BinaryOp}
@@ -11,6 +11,7 @@ use Rattle.insn_set.specs.declared.form.Insn.{Insn}
 use Rattle.insn_set.specs.declared.form.Insn.TheVariants as insn
 use Rattle.program_model.specs.Lookups as look
 use Rattle.program_model.specs.OperandRules.{numbers_fit}
+use Rattle.program_model.specs.declared.body.Body.{Body}
 use Rattle.program_model.specs.declared.program.Method.{Method}
 use Rattle.program_model.specs.declared.program.MethodAt.{MethodAt}
 use Rattle.program_model.specs.declared.program.Program.{Program}
@@ -32,8 +33,7 @@ use Rattle.pass_defs.specs.Constants.{DividesKnown, Divides, IsPure, Itself, Kno
 use Rattle.pass_defs.specs.Quiet.{Branch, Calls, CallsQuietly, IsQuietForm, Pure, Return, is_return}
 use Rattle.value_ops.specs.Left.{is_nothing}
 use Rattle.flat_bounds.specs.Under.{AreUnder, IsUnder}
-use Rattle.quiet_methods.specs.declared.forms.Demand.{Demand}
-use Rattle.quiet_methods.specs.declared.forms.Demand.TheVariants.{Nothing, Call, Loud}
+use Rattle.quiet_methods.specs.Bodies.{with_demand}
 use Rattle.quiet_methods.specs.Forms.{demand, form_demand, found_demand, gets_quietly, is_no_zero, method_demand, quiet_if, starts_quietly}
 use Rattle.quiet_methods.specs.Quiet.{is_on}
 use Rattle.drop_law.proofs.Divisors.{no_zero_under, zero_nowhere}
@@ -107,28 +107,36 @@ module _ (p : NamedProgram) (o : Outer) (F : MethodKey → Type 0) (k : MethodKe
 
 -- ---- by number
 
+-- The methods that a form asks for are marked, by what it adds to a list of them. (The type of what a form asks for is quiet_methods'
+-- own.)
+abbrev pub AreMarked : List Bool → Option (List ℕ) → Type 0
+AreMarked marks None = ⊥
+AreMarked marks (Some []) = Unit {0}
+AreMarked marks (Some (m ∷ ms)) = is_on marks m ≡ true
+
 module _ (p : Program) (s : Sound p) (once : (class : ℕ) → IsTwice p class → ⊥) (o : Outer) (F : MethodKey → Type 0) (marks : List Bool)
     (marked : (at : MethodAt) (m : Method) → look.method_at p at ≡ Some m → F (method_at p m.name) → (is_on marks m.name ≡ true) × (is_some m.body ≡ true)) where
-  -- what a form asks for is marked
-  abbrev pub Fine : Demand → Type 0
-  Fine Nothing = Unit {0}
-  Fine (Call m) = is_on marks m ≡ true
-  Fine Loud = ⊥
-
-  quiet_fine : (c : Bool) → c ≡ true → Fine (quiet_if c)
+  quiet_fine : (c : Bool) → c ≡ true → AreMarked marks (with_demand (Some []) (quiet_if c))
   quiet_fine true e = tt
   quiet_fine false e = absurd (true≢false (sym e))
 
-  call_fine : (method : ℕ) (args : List ℕ) → method < length p.methods → CallsQuietly (named p) F (form.Invoke call.Static (method_at p method) args) → Fine (found_demand p (finds_static p method))
+  method_fine : (starts : Bool) (m : Method) → starts ≡ true → is_some m.body ≡ true → is_on marks m.name ≡ true → AreMarked marks (with_demand (Some []) (method_demand starts (Some m)))
+  method_fine false m e coded on = absurd (true≢false (sym e))
+  method_fine true m e coded on = by m.body coded
+    where
+      by : (x : Option Body) → is_some x ≡ true → AreMarked marks (with_demand (Some []) (method_demand true (Some (record m { body = x }))))
+      by None i = absurd (true≢false (sym i))
+      by (Some b) i = on
+
+  call_fine : (method : ℕ) (args : List ℕ) → method < length p.methods → CallsQuietly (named p) F (form.Invoke call.Static (method_at p method) args)
+      → AreMarked marks (with_demand (Some []) (found_demand p (finds_static p method)))
   call_fine method args low c =
       let key : method_at p method ≡ c.key = ap (called_key c.key) c.form in
       let f = found_static p s once method low c.found (ap (finds_statically (named p)) key ∙ c.finds) in
       let m = marked f.at f.method f.there (subst F f.key c.is_quiet) in
       let starts : starts_quietly p f.at.class ≡ true = starts_there p s once f.at.class f.class f.is_class (ap (initialised.is_trivial (named p)) (sym f.class_is) ∙ c.trivial) in
-      let asks : found_demand p (finds_static p method) ≡ Call f.method.name =
-      ap (found_demand p) f.is ∙ (ap (method_demand (starts_quietly p f.at.class)) f.there
-      ∙ ap (λ b. cond b (Call f.method.name) Loud) (and_both (starts_quietly p f.at.class) (is_some f.method.body) starts m.1)) in
-      subst Fine (sym asks) m.0
+      subst (λ (x : Option MethodAt). AreMarked marks (with_demand (Some []) (found_demand p x))) (sym f.is)
+      (subst (λ (x : Option Method). AreMarked marks (with_demand (Some []) (method_demand (starts_quietly p f.at.class) x))) (sym f.there) (method_fine (starts_quietly p f.at.class) f.method starts m.1 m.0))
 
   module _ (k : MethodKey) (n : ℕ) (x : Registers) (under : (y : ℕ) (d : IsDivided (named p) o F k n y) → IsUnder (value_at x y) (d.registers y)) where
     abbrev Named : Insn → Type 0
@@ -142,7 +150,7 @@ module _ (p : Program) (s : Sound p) (once : (class : ℕ) → IsTwice p class �
         → calls_statically (form_of p i) ≡ false → ⊥
     refused i q pure branch return divided called = clash (is_pure (named p) (form_of p i)) (pure_only (named p) o F k n (form_of p i) q branch return divided called) pure
 
-    form_fine : (i : Insn) → numbers_fit i p ≡ true → Named i → Fine (form_demand p x i)
+    form_fine : (i : Insn) → numbers_fit i p ≡ true → Named i → AreMarked marks (with_demand (Some []) (form_demand p x i))
     unfolding numbers_fit
     form_fine (insn.Binary op to r y) e q = quiet_fine (not (divides op) || is_no_zero (value_at x y)) (division_fine op y (division_only (named p) o F k n op to r y q))
     form_fine (insn.Literal op to r value) e q = quiet_fine (not (divides_by_literal op) || not (int_eq value (pos 0))) (pure_only (named p) o F k n (form_of p (insn.Literal op to r value)) q refl refl refl refl)
@@ -170,8 +178,8 @@ module _ (p : Program) (s : Sound p) (once : (class : ℕ) → IsTwice p class �
     form_fine (insn.SparseSwitch on keys targets) e q = tt
     form_fine i e q = refused i q refl refl refl refl refl
 
-    pub demand_fine : (i : Insn) → is_encodable i ≡ true → numbers_fit i p ≡ true → Named i → Fine (demand p x i)
-    demand_fine i fit e q = subst (λ (b : Bool). Fine (if b then form_demand p x i else Loud)) (sym (few_targets i fit)) (form_fine i e q)
+    pub demand_fine : (i : Insn) → is_encodable i ≡ true → numbers_fit i p ≡ true → Named i → AreMarked marks (with_demand (Some []) (demand p x i))
+    demand_fine i fit e q = subst (λ (b : Bool). AreMarked marks (with_demand (Some []) (if b then form_demand p x i else quiet_if false))) (sym (few_targets i fit)) (form_fine i e q)
 
     -- a division that goes on by number goes on by names
     pub goes_named : (a : ℕ → Flat) → AreUnder x a → (i : Insn) → Named i → GoesOn x a i

@@ -5,5 +5,6 @@ pub mod Small
 pub mod Places
 pub mod Forms
 pub mod Family
+pub mod Within
 pub mod Dropped
 pub mod Spare

@@ -1,3 +1,1 @@
-pub mod Wishing
 pub mod Weights
-pub mod Plans

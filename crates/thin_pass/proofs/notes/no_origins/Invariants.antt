@@ -1,5 +1,0 @@
-use Rattle.std.proofs.Common.{◌≡◌, [], replicate}
-use Rattle.thin_pass.proofs.notes.no_origins.Given as goal
-
-abbrev pub invariant-loop : goal.invariant-loop
-invariant-loop l = l.origins.items ≡ replicate l.counter []

@@ -28,11 +28,9 @@ use Rattle.const_prop.specs.Folds.{folds_of, is_asked, NoneLeftAt}
 abbrev pub FindsPlainly : Program → Type 0
 FindsPlainly p = (name proto class : ℕ) → is_interface (slice_get p.classes class) ≡ false → finds_virtual p name proto class ≡ None → finds_at p class name proto ≡ Nothing
 
--- places and positions are numbers of 32 bits
-pub record IsNarrow (p : Program) : Type 0 where
-  pub classes : length p.classes ≤ 4294967295
-  pub methods : (k : ℕ) (c : Class) → slice_get p.classes k ≡ Some c → length c.methods ≤ 4294967295
-  pub insns : (k j : ℕ) (c : Class) (m : Method) (b : Body) → slice_get p.classes k ≡ Some c → slice_get c.methods j ≡ Some m → m.body ≡ Some b → length b.insns ≤ 4294967295
+-- positions are numbers of 32 bits
+abbrev pub AreShort : Program → Type 0
+AreShort p = (k j : ℕ) (c : Class) (m : Method) (b : Body) → slice_get p.classes k ≡ Some c → slice_get c.methods j ≡ Some m → m.body ≡ Some b → length b.insns ≤ 4294967295
 
 -- Facts that are at or below every flat table which bounds an analysis; and each constants solution gives such a table by number.
 pub record AreLow (p : Program) (o : Outside) (t : Facts) : Type 0 where
@@ -45,7 +43,7 @@ pub record IsSettled (p : Program) (h : Hierarchy) (o : Outside) (t : Facts) : T
   pub resolved : IsResolved p h
   pub typed : IsTyped (named p)
   pub plain : FindsPlainly p
-  pub narrow : IsNarrow p
+  pub short : AreShort p
   pub low : AreLow p o t
 
 -- Nothing that facts and kinds allow is left in the bodies of admitted methods, where a method has a typing that had to be asked.

@@ -12,13 +12,13 @@ use Rattle.program_model.specs.declared.program.Method.{Method}
 use Rattle.program_model.specs.declared.program.MethodAt.{MethodAt}
 use Rattle.program_model.specs.declared.program.Program.{Program}
 use Rattle.hierarchy.specs.declared.build.Hierarchy.{Hierarchy}
-use Rattle.verify.specs.Methods.{TypesFor}
 use Rattle.verify.specs.Typings.{Table}
 use Rattle.facts.specs.declared.facts.Facts.{Facts}
 use Rattle.rewrite_pass.specs.declared.edit.Edit.{Edit}
 use Rattle.const_prop.specs.declared.folding.Fold.{Fold}
 use Rattle.const_prop.specs.Folds.{edit_of, edits_of, fold_at, folds_from, folds_of, is_asked, is_typed, IsJudged, NoneLeftAt, one_or_none}
 use Rattle.fold_law.specs.Asked.{LeavesNone}
+use Rattle.fold_law.specs.Kinds.{IsTypedBy}
 
 -- ---- lists
 
@@ -49,10 +49,6 @@ none_typed : (t : Option Table) (b : Body) (xs : List Fold) → edits_of t b xs 
 none_typed t b [] h x c = let l : c.0 < 0 = c.1 in absurd (omega (arith, l))
 none_typed t b (y ∷ ys) h x (zero, l, k) = subst (λ (z : Fold). is_typed t b z ≡ false) k (first_not (is_typed t b y) (edit_of y) (edits_of t b ys) h).0
 none_typed t b (y ∷ ys) h x (suc n, l, k) = none_typed t b ys (first_not (is_typed t b y) (edit_of y) (edits_of t b ys) h).1 x (n, omega (arith, l), k)
-
--- a table that a method has, where it had to be asked
-abbrev pub IsTypedBy : Program → Hierarchy → MethodAt → Option Table → Type 0
-IsTypedBy p h at o = (x : Table) × (o ≡ Some x) × TypesFor p h at x
 
 module _ (p : Program) (h : Hierarchy) (facts : Facts) (at : MethodAt) (m : Method) (b : Body) (none : LeavesNone p h facts at m b) (short : length b.insns ≤ 4294967295) where
   all : List Fold

@@ -51,7 +51,7 @@ none_typed t b (y ∷ ys) h x (zero, l, k) = subst (λ (z : Fold). is_typed t b 
 none_typed t b (y ∷ ys) h x (suc n, l, k) = none_typed t b ys (first_not (is_typed t b y) (edit_of y) (edits_of t b ys) h).1 x (n, omega (arith, l), k)
 
 module _ (p : Program) (h : Hierarchy) (facts : Facts) (at : MethodAt) (m : Method) (b : Body) (none : LeavesNone p h facts at m b) (short : length b.insns ≤ 4294967295) where
-  all : List Fold
+  abbrev all : List Fold
   all = folds_from (fold_at p facts at.class m.name b.insns) 0 b.insns
 
   all_are : folds_of p facts at.class m.name b ≡ all

@@ -2,3 +2,5 @@ pub mod Left
 pub mod Numbers
 pub mod Ways
 pub mod Given
+pub mod Pure
+pub mod Folded

@@ -10,7 +10,7 @@ use Rattle.lemmas.proofs.Options.{before_map, none_some, some_same}
 use Rattle.insn_set.specs.declared.ops.BinaryOp.{BinaryOp}
 use Rattle.insn_set.specs.declared.ops.InvokeKind.{InvokeKind}
 use Rattle.insn_set.specs.declared.ops.Item.{Item}
-use Rattle.insn_set.specs.Widths.{binary_is_wide}
+use Rattle.insn_set.specs.Widths.{binary_is_wide, is_wide_item, is_wide_slot, unary_writes_wide}
 use Rattle.insn_set.specs.declared.form.Insn.{Insn}
 use Rattle.insn_set.specs.declared.form.Insn.TheVariants as insn
 use Rattle.program_model.specs.Lookups as look
@@ -75,17 +75,17 @@ use Rattle.fold_law.proofs.Ways.{has_way}
 -- ---- forms with a result
 
 register_is : (p : Program) (i : Insn) (to : ℕ) → result_register (form_of p i) ≡ Some to → (wide : Bool) × (result_of i ≡ Some (to, wide))
-register_is p (insn.Move slot r from) to e = (_, ap (λ (q : ℕ). Some (q, _)) (some_same r to e))
-register_is p (insn.MoveResult slot r) to e = (_, ap (λ (q : ℕ). Some (q, _)) (some_same r to e))
-register_is p (insn.MoveException r) to e = (_, ap (λ (q : ℕ). Some (q, _)) (some_same r to e))
-register_is p (insn.ConstString r string) to e = (_, ap (λ (q : ℕ). Some (q, _)) (some_same r to e))
-register_is p (insn.ConstClass r kind) to e = (_, ap (λ (q : ℕ). Some (q, _)) (some_same r to e))
-register_is p (insn.InstanceOf r from kind) to e = (_, ap (λ (q : ℕ). Some (q, _)) (some_same r to e))
-register_is p (insn.Cmp op r a b) to e = (_, ap (λ (q : ℕ). Some (q, _)) (some_same r to e))
-register_is p (insn.StaticGet item r field) to e = (_, ap (λ (q : ℕ). Some (q, _)) (some_same r to e))
-register_is p (insn.Unary op r from) to e = (_, ap (λ (q : ℕ). Some (q, _)) (some_same r to e))
-register_is p (insn.Binary op r a b) to e = (_, ap (λ (q : ℕ). Some (q, _)) (some_same r to e))
-register_is p (insn.Literal op r a value) to e = (_, ap (λ (q : ℕ). Some (q, _)) (some_same r to e))
+register_is p (insn.Move slot r from) to e = (is_wide_slot slot, ap (λ (q : ℕ). Some (q, is_wide_slot slot)) (some_same r to e))
+register_is p (insn.MoveResult slot r) to e = (is_wide_slot slot, ap (λ (q : ℕ). Some (q, is_wide_slot slot)) (some_same r to e))
+register_is p (insn.MoveException r) to e = (false, ap (λ (q : ℕ). Some (q, false)) (some_same r to e))
+register_is p (insn.ConstString r string) to e = (false, ap (λ (q : ℕ). Some (q, false)) (some_same r to e))
+register_is p (insn.ConstClass r kind) to e = (false, ap (λ (q : ℕ). Some (q, false)) (some_same r to e))
+register_is p (insn.InstanceOf r from kind) to e = (false, ap (λ (q : ℕ). Some (q, false)) (some_same r to e))
+register_is p (insn.Cmp op r a b) to e = (false, ap (λ (q : ℕ). Some (q, false)) (some_same r to e))
+register_is p (insn.StaticGet item r field) to e = (is_wide_item item, ap (λ (q : ℕ). Some (q, is_wide_item item)) (some_same r to e))
+register_is p (insn.Unary op r from) to e = (unary_writes_wide op, ap (λ (q : ℕ). Some (q, unary_writes_wide op)) (some_same r to e))
+register_is p (insn.Binary op r a b) to e = (binary_is_wide op, ap (λ (q : ℕ). Some (q, binary_is_wide op)) (some_same r to e))
+register_is p (insn.Literal op r a value) to e = (false, ap (λ (q : ℕ). Some (q, false)) (some_same r to e))
 register_is p i to e = none_some to e
 
 no_choice : (i : Insn) (r : ℕ × Bool) → result_of i ≡ Some r → is_choice i ≡ false
@@ -107,9 +107,12 @@ before_same p b zero = refl
 before_same p b (suc n) = get_map (form_of p) b.insns n
 
 -- what is written stands in its register
+put_itself : (a : ℕ → Flat) (to : ℕ) (g : Flat) → name.put flat a to g to ≡ g
+put_itself a to g = ap (λ (b : Bool). if b then g else a to) (same_number to)
+
 put_there : (wide : Bool) (a : ℕ → Flat) (to : ℕ) (g : Flat) → name.put_sized flat wide a to g to ≡ g
-put_there false a to g = ap (λ (b : Bool). if b then g else a to) (same_number to)
-put_there true a to g = ap (λ (b : Bool). if b then Any else name.put flat a to g to) (apart to) ∙ put_there false a to g
+put_there false a to g = put_itself a to g
+put_there true a to g = ap (λ (b : Bool). if b then Any else name.put flat a to g to) (apart to) ∙ put_itself a to g
   where
     apart : (n : ℕ) → nat_eq n (n + 1) ≡ false
     apart n = by (nat_eq n (n + 1)) refl

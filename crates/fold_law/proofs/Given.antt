@@ -164,13 +164,13 @@ module _ (p : Program) (o : Outside) (asked : IsAsked p o) (plain : FindsPlainly
 
     -- what a method returns that it may find
     one_under : (at : MethodAt) → IsThere p at → ((g : Found) → names.found_at p at ≡ Some g → Contains (may_find (named p) text kind key) g) → IsUnder (found_value p t (Some at)) (answer text method kind args)
-    one_under at there among = by there.method.body refl
+    one_under at stands among = by stands.method.body refl
       where
         m : Method
-        m = there.method
+        m = stands.method
 
         is : look.method_at p at ≡ Some m
-        is = looked_up p at there
+        is = looked_up p at stands
 
         g : FoundNamed p s asked.once at m
         g = found_named p s asked.once at m is
@@ -187,8 +187,8 @@ module _ (p : Program) (o : Outside) (asked : IsAsked p o) (plain : FindsPlainly
     -- what a look-up finds of which the call knows by names
     search_under : (x : Option MethodAt) (z : find.Search) → z ≡ search_at p (search_of x) → ((at : MethodAt) → x ≡ Some at → IsThere p at) → (is_nothing z ≡ true → misses (named p) text kind key ≡ true)
         → ((g : Found) → z ≡ find.Finds g → Contains (may_find (named p) text kind key) g) → IsUnder (found_value p t x) (answer text method kind args)
-    search_under None z e there missed finds = any_way (missed_leaves p o asked text method kind (missed (ap is_nothing e))) any_value
-    search_under (Some at) z e there missed finds = one_under at (there at refl) (λ g is. finds g (e ∙ ap names.finds is))
+    search_under None z e stands missed finds = any_way (missed_leaves p o asked text method kind (missed (ap is_nothing e))) any_value
+    search_under (Some at) z e stands missed finds = one_under at (stands at refl) (λ g is. finds g (e ∙ ap names.finds is))
 
   -- ---- a call that names a class of the program
 

@@ -145,7 +145,7 @@ nonzero_word b Bottom l e h = absurd (true≢false (sym e))
 nonzero_word b (KnownWord n) l e (inl h) = no_word b h
 nonzero_word b (KnownWord n) l e (inr h) =
     let same : n ≡ b = sym (same_word b n h.0) in
-    ap (λ (k : ℕ). not (nat_eq k 0)) (sym (mod-eq_of_lt b (2 ^ 32) l)) ∙ ap (λ (k : ℕ). not (nat_eq (k % 2 ^ 32) 0)) (sym same) ∙ e
+    ap (λ (k : ℕ). not (nat_eq k 0)) (sym (mod-eq_of_lt l)) ∙ ap (λ (k : ℕ). not (nat_eq (k % 2 ^ 32) 0)) (sym same) ∙ e
 nonzero_word b (KnownWide n) l e (inl h) = no_word b h
 nonzero_word b (KnownWide n) l e (inr h) = apart b n h
 nonzero_word b Any l e h = absurd (true≢false (sym e))

@@ -4,3 +4,4 @@ pub mod Ways
 pub mod Given
 pub mod Pure
 pub mod Folded
+pub mod Suits

@@ -5,3 +5,4 @@ pub mod Given
 pub mod Pure
 pub mod Folded
 pub mod Suits
+pub mod Entries

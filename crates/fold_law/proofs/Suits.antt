@@ -35,37 +35,12 @@ use Rattle.pass_defs.specs.Kinds.{Kind, Undefined, Zero, Word, Low, High, Null, 
 use Rattle.pass_defs.specs.Registers.{cleared, forgotten, Kinds, kind_at, replaced, split, written_kinds, written_one, written_pair}
 use Rattle.pass_defs.specs.Typed.{after, called, constant_kind, constructed, got, is_static_call, number_kind, receiver_register}
 use Rattle.facts_kept.proofs.Beneath.{initialised_under}
+use Rattle.fold_law.specs.Typings.{is_any, null_fits, suits, word_fits}
 use Rattle.run_laws.proofs.Orders.{kind_sound}
 
 -- ---- values and kinds
 
-abbrev pub is_any : Flat → Bool
-is_any Any = true
-is_any v = false
-
-abbrev pub null_fits : Flat → Bool
-null_fits (KnownWord n) = nat_eq n 0
-null_fits (KnownWide n) = false
-null_fits v = true
-
-abbrev pub word_fits : Flat → Bool
-word_fits (KnownWide n) = false
-word_fits v = true
-
--- Of an object that no constructor was called on anything may be known alone, so that nothing is known. Where numbers are asked
--- about, too, a reference is null as a number, and a word is no wide number.
-abbrev pub suits : Kind → Bool → Flat → Bool
-suits (Fresh t n) b v = is_any v
-suits FreshThis b v = is_any v
-suits Word true v = word_fits v
-suits Zero true v = null_fits v
-suits Null true v = null_fits v
-suits (Class t) true v = null_fits v
-suits (Array t) true v = null_fits v
-suits Reference true v = null_fits v
-suits k b v = true
-
-any_is : (v : Flat) → is_any v ≡ true → v ≡ Any
+pub any_is : (v : Flat) → is_any v ≡ true → v ≡ Any
 any_is Any e = refl
 any_is Bottom e = absurd (true≢false (sym e))
 any_is (KnownWord n) e = absurd (true≢false (sym e))

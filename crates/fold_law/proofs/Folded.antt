@@ -218,13 +218,7 @@ module _ (p : Program) (h : Hierarchy) (o : Outside) (t : Facts) (settled : IsSe
 
     -- ---- a form with a known result
 
-    module _ (f : FoldsToNumber (named p) (outer_of p o) key (body_of p b) n (form_of p i)) where
-      wide : Bool
-      wide = (register_is p i f.to f.result).0
-
-      result : result_of i ≡ Some (f.to, wide)
-      result = (register_is p i f.to f.result).1
-
+    module _ (f : FoldsToNumber (named p) (outer_of p o) key (body_of p b) n (form_of p i)) (wide : Bool) (result : result_of i ≡ Some (f.to, wide)) where
       abbrev result_flat : Flat
       result_flat = left_of p f.table key.class (option_map (form_of p) before) i f.registers f.to
 
@@ -332,5 +326,5 @@ module _ (p : Program) (h : Hierarchy) (o : Outside) (t : Facts) (settled : IsSe
       by j.0 j.1.0 (subst (λ (d : NamedBody). Folds (named p) (outer_of p o) key d n (form_of p j.0)) (sym body) (subst (Folds (named p) (outer_of p o) key f.body n) (sym j.1.1) f.folds)) f.reached
     where
       by : (i : Insn) → slice_get b.insns n ≡ Some i → Folds (named p) (outer_of p o) key (body_of p b) n (form_of p i) → IsAlwaysReached (named p) (outer_of p o) key n → ⊥
-      by i e (ToNumber z) r = number_folds n i e r z
+      by i e (ToNumber z) r = let w = register_is p i z.to z.result in number_folds n i e r z w.0 w.1
       by i e (ToOutcome z) r = outcome_folds n i e r z

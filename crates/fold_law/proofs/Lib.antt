@@ -6,3 +6,5 @@ pub mod Pure
 pub mod Folded
 pub mod Suits
 pub mod Entries
+pub mod Methods
+pub mod Whole

@@ -1,16 +1,16 @@
 -- Which method a name with a body names, and what a call may find, by the name that it has.
-use Rattle.std.proofs.Common.{◌≡◌, ◌⊎◌, inl, inr, ℕ, zero, suc, Bool, true, false, true≢false, List, [], ◌∷◌, ◌++◌, length, Option, Some, None, refl, sym, ap, ◌∙◌, subst}
-use Rattle.std.specs.Prelude.{◌&&◌, not, is_some, flat_map, Contains, option_and_then, codes}
+use Rattle.std.proofs.Common.{◌≡◌, ◌⊎◌, inl, inr, Bool, true, false, true≢false, List, [], ◌∷◌, ◌++◌, length, Option, Some, None, refl, sym, ap, ◌∙◌, subst}
+use Rattle.std.specs.Prelude.{◌&&◌, not, cond, filter, is_some, flat_map, Contains, option_and_then, codes}
 use Rattle.std.specs.Option.{option_or}
-use Rattle.lemmas.proofs.Bools.{and_left, and_right}
+use Rattle.lemmas.proofs.Bools.{and_right}
 use Rattle.lemmas.proofs.Options.{none_some, some_same}
 use Rattle.insn_set.specs.declared.ops.InvokeKind.{InvokeKind}
 use Rattle.insn_set.specs.declared.ops.InvokeKind.TheVariants as call
 use Rattle.dalvik_defs.proofs.Calm.{text_sound}
 use Rattle.dalvik_defs.specs.Face.{bodies_of}
-use Rattle.dalvik_defs.specs.Find.{candidates, chain_from, chain_of, finds_at, finds_statically, finds_super, first_method, Found, found_in, Finds, interfaces_from, is_virtual_method, method_in, resolves_method, Search, search_of}
-use Rattle.dalvik_defs.specs.Flags.{is_special, is_static, is_virtual}
-use Rattle.dalvik_defs.specs.Names.{Text, text_eq}
+use Rattle.dalvik_defs.specs.Find.{candidates, chain_of, Clash, finds_above, finds_among, finds_at, finds_statically, finds_super, finds_super_037, first_method, Found, found_in, Finds, interface_named, interfaces_from, is_037, is_lowest, is_virtual_method, lists_interface, method_in, Nothing, passing, resolves_method, Search, search_of, superclass_of, verdict}
+use Rattle.dalvik_defs.specs.Flags.{is_interface, is_private, is_special, is_static}
+use Rattle.dalvik_defs.specs.Names.{Text}
 use Rattle.dalvik_defs.specs.Silence.{key_in}
 use Rattle.dalvik_defs.specs.Under.{class_named}
 use Rattle.dalvik_defs.specs.declared.names.MethodKey.{MethodKey}
@@ -21,10 +21,13 @@ use Rattle.dalvik_defs.specs.declared.program.NamedMethod.{NamedMethod}
 use Rattle.dalvik_defs.specs.declared.program.NamedProgram.{NamedProgram}
 use Rattle.pass_defs.specs.Calls.{candidates_of, found_by, may_find, receivers, super_candidates}
 use Rattle.pass_defs.specs.Demands.{is_constructor_name}
-use Rattle.pass_defs.specs.Live.{everything, Family}
-use Rattle.removal_law.proofs.Finds.{first_where, passed, Where, where_key}
-use Rattle.removal_law.proofs.Lists.{In, here, there}
-use Rattle.removal_law.proofs.Trees.{class_in}
+use Rattle.pass_defs.specs.Live.{everything, KeepsAbove}
+use Rattle.reach_bridge.proofs.Held.{stands}
+use Rattle.removal_law.specs.Reach.{IsRegular}
+use Rattle.removal_law.proofs.Finds.{chain_named, first_where, out_of_flat, where_key}
+use Rattle.removal_law.proofs.Lists.{In, here, in_either, there}
+use Rattle.removal_law.proofs.Searches.{at_in, finds_same, nothing_finds}
+use Rattle.removal_law.proofs.Virtuals.{answer, candidate, IsMethodOf}
 use Rattle.fold_law.specs.Typings.{BodyOf}
 
 -- ---- the method with a body
@@ -41,9 +44,154 @@ body_of_key p k b e = by (class_named p k.class) refl e
     by (Some c) i a = at c i (method_in c k.name k.signature) refl a
 
 -- it has this name
-any_method : NamedMethod → Bool
-any_method m = true
-
 pub method_key : (p : NamedProgram) (k : MethodKey) (b : NamedBody) (x : BodyOf p k b) → x.method.name ≡ k.name
 method_key p k b x = ap (λ (k : MethodKey). k.name) (where_key everything (λ m. true) k.name k.signature (x.class ∷ []) (found_in x.class x.method)
     (record { class = x.class; method = x.method; stands = here []; found = x.is_method; passes = refl; is = refl }))
+
+pub key_is : (p : NamedProgram) (k : MethodKey) (b : NamedBody) (x : BodyOf p k b) → key_in x.class x.method ≡ record { class = x.class.name; name = k.name; signature = k.signature }
+key_is p k b x = where_key everything (λ m. true) k.name k.signature (x.class ∷ []) (found_in x.class x.method)
+    (record { class = x.class; method = x.method; stands = here []; found = x.is_method; passes = refl; is = refl })
+
+-- ---- what a call may find that has the name of constructors
+
+module _ (p : NamedProgram) (regular : IsRegular p) where
+  keeps : KeepsAbove p everything
+  keeps = record { above = λ t c is live u i d. refl; initialisers = λ t k live e. refl; defaults = λ t c m new is live flag starts i h. refl }
+
+  -- no virtual method has it
+  virtual_ordinary : (m : NamedMethod) → is_virtual_method m ≡ true → is_constructor_name m.name ≡ true → ⊥
+  virtual_ordinary m v e =
+      true≢false (sym (and_right (not (is_static m.flags) && not (is_private m.flags)) (not (is_special m.name)) v) ∙ ap (λ (n : Text). not (is_special n)) (text_sound m.name (codes "<init>") e))
+
+  method_of_ordinary : (n : Text) (g : Signature) (f : Found) → IsMethodOf p n g f → is_constructor_name f.key.name ≡ true → ⊥
+  method_of_ordinary n g f x e = virtual_ordinary x.method x.virtual (ap (λ (h : Found). is_constructor_name h.key.name) x.is ∙ e)
+
+  -- where a static or direct call finds a method
+  pub record StaticFound (k : MethodKey) (g : Found) : Type 0 where
+    pub class : NamedClass
+    pub method : NamedMethod
+    pub named : class_named p class.name ≡ Some class
+    pub found : method_in class k.name k.signature ≡ Some method
+    pub is : found_in class method ≡ g
+    pub key : g.key ≡ record { class = class.name; name = k.name; signature = k.signature }
+    pub resolved : resolves_method p k ≡ Some g
+
+  searched : (o : Option Found) (g : Found) → search_of o ≡ Finds g → o ≡ Some g
+  searched None g e = nothing_finds g e
+  searched (Some f) g e = ap Some (finds_same f g e)
+
+  first_more : (k : MethodKey) (cs ds : List NamedClass) (g : Found) → first_method (λ m. true) k.name k.signature cs ≡ Some g → first_method (λ m. true) k.name k.signature (cs ++ ds) ≡ Some g
+  first_more k [] ds g e = none_some g e
+  first_more k (c ∷ cs) ds g e = by (passing (λ m. true) c (method_in c k.name k.signature)) e (first_more k cs ds g)
+    where
+      by : (o : Option Found) → option_or o (first_method (λ m. true) k.name k.signature cs) ≡ Some g → (first_method (λ m. true) k.name k.signature cs ≡ Some g → first_method (λ m. true) k.name k.signature (cs ++ ds) ≡ Some g)
+          → option_or o (first_method (λ m. true) k.name k.signature (cs ++ ds)) ≡ Some g
+      by None i more = more i
+      by (Some f) i more = i
+
+  pub static_found : (k : MethodKey) (g : Found) → finds_statically p k ≡ Finds g → StaticFound k g
+  static_found k g e =
+      let i = searched (first_method (λ m. true) k.name k.signature (chain_of p k.class)) g e in
+      let w = first_where (λ m. true) k.name k.signature (chain_of p k.class) g i in
+      record {
+        class = w.class;
+        method = w.method;
+        named = chain_named p everything keeps (length p.classes) k.class w.class w.stands;
+        found = w.found;
+        is = w.is;
+        key = where_key everything (λ m. true) k.name k.signature (chain_of p k.class) g w;
+        resolved = first_more k (chain_of p k.class) (interfaces_from (length p.classes) p (flat_map (λ c. c.interfaces) (chain_of p k.class))) g i;
+      }
+
+  -- such a call is direct, or a static one, or a super call that names one
+  pub data Constructs (class : Text) (k : MethodKey) (g : Found) : InvokeKind → Type 0 where
+    ByDirect : is_constructor_name k.name ≡ true → Constructs class k g call.Direct
+    ByStatic : StaticFound k g → Constructs class k g call.Static
+    BySuper : is_constructor_name k.name ≡ true → Constructs class k g call.Super
+
+  found_one : (z : Search) (g : Found) → In g (found_by z) → z ≡ Finds g
+  found_one (Finds f) g (here xs) = refl
+  found_one (Finds f) g (there y xs i) = elim i [ ]
+  found_one Nothing g i = elim i [ ]
+  found_one Clash g i = elim i [ ]
+
+  super_name : (class : Text) (k : MethodKey) (g : Found) → finds_super p class k ≡ Finds g → is_constructor_name g.key.name ≡ true → is_constructor_name k.name ≡ true
+  super_name class k g e c = by (is_037 p.version) e
+    where
+      above : finds_above p class k ≡ Finds g → is_constructor_name k.name ≡ true
+      above i =
+          let z = searched (first_method (λ m. true) k.name k.signature (chain_of p (superclass_of p class))) g i in
+          let w = first_where (λ m. true) k.name k.signature (chain_of p (superclass_of p class)) g z in
+          ap (λ (j : MethodKey). is_constructor_name j.name) (sym (where_key everything (λ m. true) k.name k.signature (chain_of p (superclass_of p class)) g w)) ∙ c
+
+      among : (ts : List Text) → finds_among p ts k.name k.signature ≡ Finds g → is_constructor_name k.name ≡ true
+      among ts i = absurd (method_of_ordinary k.name k.signature g (candidate p everything keeps regular k.name k.signature ts g (lowest_in (candidates p ts k.name k.signature) (λ f. f.coded && is_lowest p (candidates p ts k.name k.signature) f) (candidates p ts k.name k.signature) i)) c)
+        where
+          kept : (keep : Found → Bool) (xs : List Found) → In g (filter keep xs) → In g xs
+          kept keep [] i = elim i [ ]
+          kept keep (x ∷ xs) i = by (keep x) i (kept keep xs)
+            where
+              by : (b : Bool) → In g (cond b (x ∷ filter keep xs) (filter keep xs)) → (In g (filter keep xs) → In g xs) → In g (x ∷ xs)
+              by true (here zs) more = here xs
+              by true (there y zs j) more = there x xs (more j)
+              by false j more = there x xs (more j)
+
+          verdict_in : (xs : List Found) → verdict xs ≡ Finds g → In g xs
+          verdict_in [] i = nothing_finds g i
+          verdict_in (x ∷ []) i = subst (λ (y : Found). In y (x ∷ [])) (finds_same x g i) (here [])
+          verdict_in (x ∷ y ∷ xs) i = absurd (cc)
+
+          lowest_in : (all : List Found) (keep : Found → Bool) (xs : List Found) → verdict (filter keep xs) ≡ Finds g → In g xs
+          lowest_in all keep xs i = kept keep xs (verdict_in (filter keep xs) i)
+
+      named : (x : Option NamedClass) → finds_super_037 p class k x ≡ Finds g → is_constructor_name k.name ≡ true
+      named (Some d) i = one (is_interface d.flags) i
+        where
+          one : (b : Bool) → (elim b as (λ b. Search) [ true ↦ finds_among p (d.name ∷ []) k.name k.signature | false ↦ finds_above p class k ]) ≡ Finds g → is_constructor_name k.name ≡ true
+          one true j = among (d.name ∷ []) j
+          one false j = above j
+      named None i = one (lists_interface p class k.class) i
+        where
+          one : (b : Bool) → (elim b as (λ b. Search) [ true ↦ Nothing | false ↦ finds_above p class k ]) ≡ Finds g → is_constructor_name k.name ≡ true
+          one true j = nothing_finds g j
+          one false j = above j
+
+      by : (b : Bool) → (elim b as (λ b. Search) [ true ↦ finds_super_037 p class k (class_named p k.class) | false ↦ finds_above p class k ]) ≡ Finds g → is_constructor_name k.name ≡ true
+      by true i = named (class_named p k.class) i
+      by false i = above i
+
+  super_candidate : (k : MethodKey) (g : Found) → In g (super_candidates p k) → is_constructor_name g.key.name ≡ true → ⊥
+  super_candidate k g i c = by (is_037 p.version && is_some (interface_named p k.class)) i
+    where
+      by : (b : Bool) → In g (elim b as (λ b. List Found) [ true ↦ candidates p (k.class ∷ []) k.name k.signature | false ↦ [] ]) → ⊥
+      by true j = method_of_ordinary k.name k.signature g (candidate p everything keeps regular k.name k.signature (k.class ∷ []) g j) c
+      by false j = elim j [ ]
+
+  receiver_ordinary : (k : MethodKey) (g : Found) → In g (flat_map (λ t. found_by (finds_at p t k) ++ candidates_of p t k.name k.signature) (receivers p k.class)) → is_constructor_name g.key.name ≡ true → ⊥
+  receiver_ordinary k g i c =
+      let w = out_of_flat (λ t. found_by (finds_at p t k) ++ candidates_of p t k.name k.signature) g (receivers p k.class) i in
+      by w.0 (in_either g (found_by (finds_at p w.0 k)) (candidates_of p w.0 k.name k.signature) w.1.1)
+    where
+      by : (t : Text) → In g (found_by (finds_at p t k)) ⊎ In g (candidates_of p t k.name k.signature) → ⊥
+      by t (inl j) = method_of_ordinary k.name k.signature g (answer p everything keeps regular k.name k.signature t g (at_in p everything keeps regular t k g (found_one (finds_at p t k) g j))) c
+      by t (inr j) = method_of_ordinary k.name k.signature g (candidate p everything keeps regular k.name k.signature (flat_map (λ c. c.interfaces) (chain_of p t)) g j) c
+
+  pub constructs : (class : Text) (kind : InvokeKind) (k : MethodKey) (g : Found) → Contains (may_find p class kind k) g → is_constructor_name g.key.name ≡ true → Constructs class k g kind
+  constructs class call.Static k g i c = ByStatic (static_found k g (found_one (finds_statically p k) g (stands (found_by (finds_statically p k)) g i)))
+  constructs class call.Direct k g i c =
+      let w = static_found k g (found_one (finds_statically p k) g (stands (found_by (finds_statically p k)) g i)) in
+      ByDirect (ap (λ (j : MethodKey). is_constructor_name j.name) (sym w.key) ∙ c)
+  constructs class call.Super k g i c = by (in_either g (found_by (finds_super p class k)) (super_candidates p k) (stands (found_by (finds_super p class k) ++ super_candidates p k) g i))
+    where
+      by : In g (found_by (finds_super p class k)) ⊎ In g (super_candidates p k) → Constructs class k g call.Super
+      by (inl j) = BySuper (super_name class k g (found_one (finds_super p class k) g j) c)
+      by (inr j) = absurd (super_candidate k g j c)
+  constructs class call.Virtual k g i c = absurd (receiver_ordinary k g (stands (may_find p class call.Virtual k) g i) c)
+  constructs class call.Interface k g i c = absurd (receiver_ordinary k g (stands (may_find p class call.Interface k) g i) c)
+
+  -- the method that a static or direct call finds is the one with its name
+  pub static_same : (k : MethodKey) (g : Found) (w : StaticFound k g) (b : NamedBody) (x : BodyOf p g.key b) → is_static x.method.flags ≡ is_static g.flags
+  static_same k g w b x =
+      let class : x.class ≡ w.class = some_same x.class w.class (sym x.is_class ∙ ap (λ (j : MethodKey). class_named p j.class) w.key ∙ w.named) in
+      let method : x.method ≡ w.method = some_same x.method w.method (sym x.is_method ∙ ap (λ (j : MethodKey). method_in x.class j.name j.signature) w.key ∙ ap (λ (c : NamedClass). method_in c k.name k.signature) class ∙ w.found) in
+      ap (λ (m : NamedMethod). is_static m.flags) method ∙ ap (λ (h : Found). is_static h.flags) w.is

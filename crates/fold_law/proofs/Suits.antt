@@ -1,10 +1,10 @@
 -- Which flat values suit a kind, and that what a form leaves suits the kinds that it leaves.
-use Rattle.std.proofs.Common.{◌≡◌, ℕ, zero, suc, ◌+◌, ◌-◌, Bool, true, false, true≢false, List, [], ◌∷◌, Option, Some, None, refl, sym, ap, ◌∙◌, subst, eqb-true}
+use Rattle.std.proofs.Common.{◌≡◌, ℕ, zero, suc, ◌+◌, ◌-◌, Bool, true, false, true≢false, List, [], ◌∷◌, Option, Some, None, refl, sym, ap, ◌∙◌, subst, arith, eqb-true}
 use Rattle.std.specs.Prelude.{◌&&◌, ◌||◌, ◌%◌, ◌^◌, not, nat_eq, if◌then◌else◌, map, slice_set, pos, ℤ}
 use Rattle.std.specs.Int.{w32, cast_unsigned}
 use Rattle.std.specs.Ordering.{int_eq}
 use Rattle.std.proofs.lemmas.Bool.Decides.{Decides-int_eq}
-use Rattle.lemmas.proofs.Bools.{and_left, clash}
+use Rattle.lemmas.proofs.Bools.{and_left, clash, untrue}
 use Rattle.lemmas.proofs.Numbers.{same_number}
 use Rattle.insn_set.specs.Widths.{binary_is_wide, is_wide_item, unary_writes_wide}
 use Rattle.insn_set.specs.declared.ops.BinaryOp.{BinaryOp}
@@ -140,12 +140,15 @@ module _ (p : NamedProgram) where
 
 -- ---- registers that are written
 
-set_keeps : (P : ℕ → Kind → Type 0) → ((s : ℕ) → P s Undefined) → (ks : List Kind) (r : ℕ) (k : Kind) → ((s : ℕ) → nat_eq s r ≡ false → P s (kind_at ks s)) → P r k → (s : ℕ) → P s (kind_at (slice_set ks r k) s)
+set_keeps : (P : ℕ → Kind → Type 0) → ((s : ℕ) → P s Undefined) → (ks : List Kind) (r : ℕ) (k : Kind) → ((s : ℕ) → (s ≡ r → ⊥) → P s (kind_at ks s)) → P r k → (s : ℕ) → P s (kind_at (slice_set ks r k) s)
 set_keeps P u [] r k h q s = u s
 set_keeps P u (x ∷ ks) zero k h q zero = q
-set_keeps P u (x ∷ ks) zero k h q (suc s) = h (suc s) refl
-set_keeps P u (x ∷ ks) (suc r) k h q zero = h zero refl
-set_keeps P u (x ∷ ks) (suc r) k h q (suc s) = set_keeps (λ s. P (suc s)) (λ s. u (suc s)) ks r k (λ s e. h (suc s) e) q s
+set_keeps P u (x ∷ ks) zero k h q (suc s) = h (suc s) (λ e. omega (arith, e))
+set_keeps P u (x ∷ ks) (suc r) k h q zero = h zero (λ e. omega (arith, e))
+set_keeps P u (x ∷ ks) (suc r) k h q (suc s) = set_keeps (λ s. P (suc s)) (λ s. u (suc s)) ks r k (λ s e. h (suc s) (λ d. e (omega (arith, d)))) q s
+
+other : (s r : ℕ) → (s ≡ r → ⊥) → nat_eq s r ≡ false
+other s r e = untrue (nat_eq s r) (λ h. e (eqb-true s r h))
 
 map_at : (f : Kind → Kind) → f Undefined ≡ Undefined → (ks : List Kind) (r : ℕ) → kind_at (map f ks) r ≡ f (kind_at ks r)
 map_at f e [] r = sym e
@@ -173,14 +176,14 @@ module _ (b : Bool) where
 
   one_suits : (ks : List Kind) (x y : ℕ → Flat) (r : ℕ) (k : Kind) → kind_eq k Low ≡ false → All ks x → ((s : ℕ) → nat_eq s r ≡ false → y s ≡ x s) → suits k b (y r) ≡ true → All (written_kinds r k ks) y
   one_suits ks x y r k narrow h same q = subst (λ (ls : List Kind). All ls y) (sym (narrow_written r k ks narrow))
-      (set_keeps (λ s k. suits k b (y s) ≡ true) (λ s. refl) (split r ks) r k (λ s e. subst (λ (v : Flat). suits (kind_at (split r ks) s) b v ≡ true) (sym (same s e)) (split_suits ks x r h s)) q)
+      (set_keeps (λ s k. suits k b (y s) ≡ true) (λ s. refl) (split r ks) r k (λ s e. subst (λ (v : Flat). suits (kind_at (split r ks) s) b v ≡ true) (sym (same s (other s r e))) (split_suits ks x r h s)) q)
 
   pair_suits : (ks : List Kind) (x y : ℕ → Flat) (r : ℕ) → All ks x → ((s : ℕ) → nat_eq s r ≡ false → nat_eq s (r + 1) ≡ false → y s ≡ x s) → All (written_pair r ks) y
   pair_suits ks x y r h same =
       let base = split (r + 1) (split r ks) in
       set_keeps (λ s k. suits k b (y s) ≡ true) (λ s. refl) (slice_set base r Low) (r + 1) High
-      (λ s e. set_keeps (λ s k. nat_eq s (r + 1) ≡ false → suits k b (y s) ≡ true) (λ s e. refl) base r Low
-      (λ s d e. subst (λ (v : Flat). suits (kind_at base s) b v ≡ true) (sym (same s d e)) (split_suits (split r ks) x (r + 1) (split_suits ks x r h) s)) (λ e. refl) s e) refl
+      (λ s e. set_keeps (λ s k. (s ≡ r + 1 → ⊥) → suits k b (y s) ≡ true) (λ s e. refl) base r Low
+      (λ s d e. subst (λ (v : Flat). suits (kind_at base s) b v ≡ true) (sym (same s (other s r d) (other s (r + 1) e))) (split_suits (split r ks) x (r + 1) (split_suits ks x r h) s)) (λ e. refl) s e) refl
 
   put_away : (x : ℕ → Flat) (to : ℕ) (v : Flat) (s : ℕ) → nat_eq s to ≡ false → name.put flat x to v s ≡ x s
   put_away x to v s e = ap (λ (c : Bool). if c then v else x s) e

@@ -7,4 +7,5 @@ pub mod Folded
 pub mod Suits
 pub mod Entries
 pub mod Methods
+pub mod Restricted
 pub mod Whole

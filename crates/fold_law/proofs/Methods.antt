@@ -24,7 +24,8 @@ use Rattle.pass_defs.specs.Demands.{is_constructor_name}
 use Rattle.pass_defs.specs.Live.{everything, KeepsAbove}
 use Rattle.reach_bridge.proofs.Held.{stands}
 use Rattle.removal_law.specs.Reach.{IsRegular}
-use Rattle.removal_law.proofs.Finds.{chain_named, first_where, out_of_flat, where_key}
+use Rattle.removal_law.proofs.Finds.{first_where, out_of_flat, where_key}
+use Rattle.removal_law.proofs.Trees.{chain_named}
 use Rattle.removal_law.proofs.Lists.{In, here, in_either, there}
 use Rattle.removal_law.proofs.Searches.{at_in, finds_same, nothing_finds}
 use Rattle.removal_law.proofs.Virtuals.{answer, candidate, IsMethodOf}

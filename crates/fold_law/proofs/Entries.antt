@@ -1,6 +1,6 @@
 -- What suits the kinds with which a method begins.
-use Rattle.std.proofs.Common.{◌≡◌, ℕ, zero, suc, ◌+◌, ◌-◌, Bool, true, false, true≢false, List, [], ◌∷◌, ◌++◌, refl, sym, ap, ◌∙◌, subst, arith}
-use Rattle.std.specs.Prelude.{◌&&◌, not, if◌then◌else◌, replicate}
+use Rattle.std.proofs.Common.{◌≡◌, ℕ, zero, suc, ◌+◌, ◌-◌, Bool, true, false, List, [], ◌∷◌, ◌++◌, refl, sym, ap, ◌∙◌, subst, arith}
+use Rattle.std.specs.Prelude.{if◌then◌else◌, replicate}
 use Rattle.dalvik_defs.specs.Flags.{is_interface, is_static}
 use Rattle.dalvik_defs.specs.Names.{Text, is_array, is_reference, is_wide, is_word}
 use Rattle.dalvik_defs.specs.declared.program.NamedBody.{NamedBody}

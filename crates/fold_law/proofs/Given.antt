@@ -1,13 +1,12 @@
 -- What calls and fields bring by facts under a solution is under what they bring by the solution.
-use Rattle.std.specs.Prelude.{◌≡◌, ◌⊎◌, ◌+◌, ◌++◌, ◌<◌, ◌&&◌, not, cond, ℕ, zero, suc, is_some, is_none, if◌then◌else◌, nat_eq, Bool, true, false, List, [], ◌∷◌, length, filter, flat_map, fold, map, Option, Some, None, refl, slice_get, slice_index_or, Contains, option_and_then, position}
-use Rattle.std.specs.List.{list_any, list_all, range_with_len}
+use Rattle.std.specs.Prelude.{◌≡◌, ◌+◌, ◌++◌, ◌<◌, ◌&&◌, not, cond, ℕ, zero, suc, is_some, is_none, if◌then◌else◌, nat_eq, Bool, true, false, List, [], ◌∷◌, length, filter, flat_map, fold, map, Option, Some, None, refl, slice_get, slice_index_or, Contains, option_and_then, position}
+use Rattle.std.specs.List.{list_any, list_all}
 use Rattle.std.specs.Option.{option_map, option_or}
 use Rattle.std.proofs.Common.{sym, ◌∙◌, arith, ap, subst, true≢false, lt-ltb}
 use Rattle.std.proofs.lemmas.List.Elements.{Contains-append_left, Contains-append_right}
 use Rattle.lemmas.proofs.Bools.{and_both, or_left, or_right}
 use Rattle.lemmas.proofs.Lists.{contains_here, contains_there, got_short}
 use Rattle.lemmas.proofs.Options.{none_some, some_same}
-use Rattle.insn_set.specs.declared.form.Insn.{Insn}
 use Rattle.insn_set.specs.declared.form.Insn.TheVariants as insn
 use Rattle.insn_set.specs.declared.ops.InvokeKind.{InvokeKind}
 use Rattle.insn_set.specs.declared.ops.InvokeKind.TheVariants as call
@@ -23,7 +22,7 @@ use Rattle.program_model.specs.declared.program.Method.{Method}
 use Rattle.program_model.specs.declared.program.MethodAt.{MethodAt}
 use Rattle.program_model.specs.declared.program.Program.{Program}
 use Rattle.class_defs.specs.Finding as look_up
-use Rattle.class_defs.specs.Finding.{by_entry, candidates, finds_above, finds_among, finds_at, finds_from, finds_static, finds_super, finds_super_037, finds_virtual, first_among, found_or, is_037, resolves_field, search_of}
+use Rattle.class_defs.specs.Finding.{by_entry, candidates, finds_above, finds_among, finds_at, finds_from, finds_super, finds_super_037, finds_virtual, first_among, found_or, is_037, resolves_field, search_of}
 use Rattle.class_defs.specs.Members as member
 use Rattle.class_defs.specs.Members.{method_of_class, own_method, own_virtual, virtual_only}
 use Rattle.class_defs.specs.Places.{chain_from, chain_of, interface_places, is_under, placed, super_place}
@@ -53,10 +52,10 @@ use Rattle.closed_facts.specs.Found as found
 use Rattle.closed_facts.specs.Tables.{result_at}
 use Rattle.pass_defs.specs.Calls.{candidates_of, found_by, is_nothing, is_within, may_find, receivers, super_candidates}
 use Rattle.pass_defs.specs.Leaves.{may_leave, misses}
-use Rattle.pass_defs.specs.Flat.{Flat, Any}
+use Rattle.pass_defs.specs.Flat.{Flat}
 use Rattle.pass_defs.specs.Facts as name
 use Rattle.pass_defs.specs.Constants.{flat, Solution}
-use Rattle.flat_bounds.specs.Bounds.{field_flat, FlatTable, names_outer}
+use Rattle.flat_bounds.specs.Bounds.{field_flat, FlatTable}
 use Rattle.flat_bounds.specs.Facts.{AreFactsUnder}
 use Rattle.flat_bounds.specs.Under.{IsUnder}
 use Rattle.flat_bounds.proofs.Under.{under_below, under_joined, under_least}
@@ -67,8 +66,7 @@ use Rattle.flat_bridge.proofs.Fielding.{field_same}
 use Rattle.flat_bridge.proofs.Leaving.{any_of, bare_leaves, missed_leaves, outer_undefined, undefined_leaves}
 use Rattle.removal_law.proofs.Lists.{In, contained, here, in_map, there}
 use Rattle.reach_bridge.proofs.Held.{at_stands}
-use Rattle.removal_law.proofs.Walks as walk
-use Rattle.const_prop.specs.Given.{above_value, among_value, behind, call_value, found_value, given, kind_value, method_value, named_value, receiver_value, super_value, virtual_value, with_definer, with_found, with_maybe}
+use Rattle.const_prop.specs.Given.{above_value, among_value, call_value, found_value, kind_value, method_value, named_value, receiver_value, super_value, virtual_value, with_definer, with_found, with_maybe}
 use Rattle.const_prop.specs.Known as known
 use Rattle.const_prop.specs.Known.{field_value}
 use Rattle.fold_law.specs.Asked.{FindsPlainly}

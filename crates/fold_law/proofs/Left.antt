@@ -1,6 +1,6 @@
 -- What the facts and the kinds allow at a position isn't left there.
 use Rattle.std.proofs.Common.{◌≡◌, ℕ, zero, suc, ◌+◌, ◌<◌, ◌≤◌, Bool, true, false, List, [], ◌∷◌, ◌++◌, length, Option, Some, None, refl, sym, ap, ◌∙◌, subst, arith}
-use Rattle.std.specs.Prelude.{if◌then◌else◌, is_some, nat_le, slice_get, Contains}
+use Rattle.std.specs.Prelude.{if◌then◌else◌, is_some, slice_get, Contains}
 use Rattle.std.specs.List.{list_any}
 use Rattle.std.proofs.lemmas.Bool.{le-leb}
 use Rattle.lemmas.proofs.Lists.{contains_here, contains_there}
@@ -16,7 +16,7 @@ use Rattle.verify.specs.Typings.{Table}
 use Rattle.facts.specs.declared.facts.Facts.{Facts}
 use Rattle.rewrite_pass.specs.declared.edit.Edit.{Edit}
 use Rattle.const_prop.specs.declared.folding.Fold.{Fold}
-use Rattle.const_prop.specs.Folds.{edit_of, edits_of, fold_at, folds_from, folds_of, is_asked, is_typed, IsJudged, NoneLeftAt, one_or_none}
+use Rattle.const_prop.specs.Folds.{edit_of, edits_of, fold_at, folds_from, folds_of, is_asked, is_typed, IsJudged, one_or_none}
 use Rattle.fold_law.specs.Asked.{LeavesNone}
 use Rattle.fold_law.specs.Kinds.{IsTypedBy}
 

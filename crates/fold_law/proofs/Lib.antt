@@ -3,9 +3,11 @@ pub mod Numbers
 pub mod Ways
 pub mod Given
 pub mod Pure
+pub mod Known
 pub mod Folded
 pub mod Suits
 pub mod Entries
 pub mod Methods
 pub mod Restricted
+pub mod Tables
 pub mod Whole

@@ -1,13 +1,13 @@
 -- The number that a value gives which is under a known flat one, and the constant of it in place of a form.
-use Rattle.std.proofs.Common.{◌≡◌, ◌⊎◌, inl, inr, ℕ, ◌+◌, ◌<◌, ◌≤◌, ℤ, Bool, true, false, true≢false, Option, Some, None, refl, sym, ap, ◌∙◌, subst, arith}
-use Rattle.std.specs.Prelude.{◌&&◌, ◌||◌, ◌^◌, pos, nat_eq, nat_le, nat_lt, if◌then◌else◌}
+use Rattle.std.proofs.Common.{◌≡◌, ◌⊎◌, inl, inr, ℕ, ◌+◌, ◌≤◌, ℤ, Bool, true, false, Option, Some, None, refl, sym, ap, ◌∙◌, subst, arith}
+use Rattle.std.specs.Prelude.{◌&&◌, pos, nat_eq, nat_le, nat_lt, if◌then◌else◌}
 use Rattle.std.specs.Int.{w32, w64, cast_signed}
 use Rattle.std.proofs.lemmas.Bool.{eqb-true, le-leb}
 use Rattle.lemmas.proofs.Bools.{and_both, clash, or_right}
 use Rattle.lemmas.proofs.Numbers.{itself, same_number}
 use Rattle.lemmas.proofs.Options.{none_some, some_same}
 use Rattle.insn_set.specs.Formats.{format_units}
-use Rattle.insn_set.specs.Registers.{in_operand, writes_of}
+use Rattle.insn_set.specs.Registers.{in_operand}
 use Rattle.insn_set.specs.Spelling.{fits_int, fits_nibble, fits_short, is_encodable, is_multiple, units_of}
 use Rattle.insn_set.specs.declared.format.Format.TheVariants.{F11n, F21c, F21h, F21s, F31c, F31i, F51l}
 use Rattle.insn_set.specs.declared.form.Insn.{Insn}
@@ -22,7 +22,6 @@ use Rattle.pass_defs.specs.Foldable.{constant_of, units}
 use Rattle.domains.specs.Values.{Parts, constant_value, least_value, wide_value}
 use Rattle.flat_bounds.specs.Under.{IsUnder}
 use Rattle.flat_law.proofs.Operands.{word_something}
-use Rattle.value_ops.specs.Left.{is_nothing}
 use Rattle.const_prop.specs.declared.numbers.Number.{Number}
 use Rattle.const_prop.specs.declared.numbers.Number.TheVariants.{Word, Wide}
 use Rattle.const_prop.specs.Constants.{constant_for, constant_into, number_into, result_of, worth}

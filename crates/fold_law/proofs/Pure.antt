@@ -1,5 +1,5 @@
 -- A form that is pure by names is so by number, with registers that are under what solutions know.
-use Rattle.std.proofs.Common.{◌≡◌, ◌⊎◌, inl, inr, ℕ, ◌+◌, ◌<◌, Bool, true, false, true≢false, Option, Some, None, refl, sym, ap, ◌∙◌, subst, arith}
+use Rattle.std.proofs.Common.{◌≡◌, inl, inr, ℕ, ◌<◌, Bool, true, false, true≢false, Option, Some, None, refl, sym, ap, ◌∙◌, subst}
 use Rattle.std.specs.Prelude.{◌||◌, ◌%◌, ◌^◌, length, not, nat_eq, if◌then◌else◌, slice_get, option_and_then}
 use Rattle.std.proofs.Math.Nat.{mod-eq_of_lt}
 use Rattle.lemmas.proofs.Bools.{or_right}
@@ -35,8 +35,7 @@ use Rattle.value_ops.specs.Left.{is_nothing}
 use Rattle.dom_frame.specs.Registers.{Registers, value_at}
 use Rattle.flat_bounds.specs.Under.{IsUnder}
 use Rattle.flat_law.proofs.Operands.{word_something}
-use Rattle.const_prop.specs.declared.numbers.Number.{Number}
-use Rattle.const_prop.specs.declared.numbers.Number.TheVariants.{Word, Wide}
+use Rattle.const_prop.specs.declared.numbers.Number.TheVariants.{Word}
 use Rattle.const_prop.specs.Constants.{result_of}
 use Rattle.const_prop.specs.Known.{is_always_pure, is_other_than_zero, is_pure, is_quiet_field, never_throws, number_of}
 

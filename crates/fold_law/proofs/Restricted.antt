@@ -1,6 +1,6 @@
 -- A constants solution stays one where it reaches only positions that have a state in some typing, and at which nothing is known of
 -- objects that no constructor was called on.
-use Rattle.std.proofs.Common.{◌≡◌, ◌⊎◌, inl, inr, ℕ, zero, suc, ◌+◌, ◌-◌, ◌<◌, Bool, true, false, true≢false, List, [], ◌∷◌, ◌++◌, length, Option, Some, None, refl, sym, ap, ◌∙◌, subst, arith, eqb-true}
+use Rattle.std.proofs.Common.{◌≡◌, ℕ, zero, suc, ◌+◌, ◌-◌, ◌<◌, Bool, true, false, true≢false, List, [], ◌∷◌, length, Option, Some, None, refl, sym, ap, ◌∙◌, subst, arith, eqb-true}
 use Rattle.std.specs.Prelude.{◌&&◌, ◌||◌, not, nat_eq, if◌then◌else◌, is_some, pos, ℤ, Contains}
 use Rattle.std.specs.List.{list_all}
 use Rattle.lemmas.proofs.Bools.{and_both, and_left, and_right, clash, not_false, not_true, or_false_left, or_false_right, or_left}
@@ -8,10 +8,8 @@ use Rattle.lemmas.proofs.Options.{none_some, some_same}
 use Rattle.insn_set.specs.Flow.{divides, divides_by_literal}
 use Rattle.insn_set.specs.declared.ops.InvokeKind.{InvokeKind}
 use Rattle.insn_set.specs.declared.ops.InvokeKind.TheVariants as call
-use Rattle.insn_set.specs.declared.ops.Item.{Item}
 use Rattle.insn_set.specs.declared.ops.Slot.{Slot}
 use Rattle.insn_set.specs.declared.ops.Slot.TheVariants as slot
-use Rattle.dalvik_defs.proofs.Calm.{text_sound}
 use Rattle.std.specs.Int.Signed.{int_lt}
 use Rattle.std.specs.Ordering.{int_eq}
 use Rattle.dalvik_defs.specs.ActPlain.{packed_target, switch_target}
@@ -29,19 +27,18 @@ use Rattle.dalvik_defs.specs.declared.names.FieldKey.{FieldKey}
 use Rattle.dalvik_defs.specs.declared.names.MethodKey.{MethodKey}
 use Rattle.dalvik_defs.specs.declared.program.NamedBody.{NamedBody}
 use Rattle.dalvik_defs.specs.declared.program.NamedClass.{NamedClass}
-use Rattle.dalvik_defs.specs.declared.program.NamedField.{NamedField}
 use Rattle.dalvik_defs.specs.declared.program.NamedMethod.{NamedMethod}
 use Rattle.dalvik_defs.specs.declared.program.NamedProgram.{NamedProgram}
 use Rattle.pass_defs.specs.Calls.{may_find}
 use Rattle.pass_defs.specs.Constants.{flat, IsSolution, Solution}
 use Rattle.pass_defs.specs.Demands.{Constructed, Fits, is_allowed, is_constructed, is_constructor_name, meets, passed, result_fits}
-use Rattle.pass_defs.specs.Facts.{AtPosition, Enters, Initialises, IsEnteredOn, IsEnteredStatic, IsNeeded, Makes}
+use Rattle.pass_defs.specs.Facts.{AtPosition, Enters, IsNeeded, Makes}
 use Rattle.pass_defs.specs.Facts as name
 use Rattle.pass_defs.specs.Flat.{Flat, Any, Bottom, FlatBelow, KnownWide, KnownWord}
 use Rattle.pass_defs.specs.Kinds.{Kind, Fresh, FreshThis, Low, is_initialised, is_number, kind_eq, kind_of}
-use Rattle.pass_defs.specs.Registers.{Kinds, kind_at, kinds_below, state_below}
+use Rattle.pass_defs.specs.Registers.{Kinds, kind_at, state_below}
 use Rattle.pass_defs.specs.Typed.{after, begun, differ, finds_static, is_constructor, is_wrong, passed_words, state_at, IsTyping, Table, words_of, wrong_method, wrong_super}
-use Rattle.pass_defs.specs.Walks.{caught, form_at, onward}
+use Rattle.pass_defs.specs.Walks.{caught, onward}
 use Rattle.form_laws.proofs.Arriving.{catch_arrives, caught_catches, first_below, onward_arrives}
 use Rattle.form_laws.proofs.Selecting.{each_below}
 use Rattle.form_laws.proofs.Typings.{allowed_at, right_at}

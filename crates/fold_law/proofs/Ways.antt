@@ -17,16 +17,15 @@ use Rattle.pass_defs.specs.Flat.{Flat, Bottom, KnownWord, KnownWide, Any}
 use Rattle.pass_defs.specs.Constants.{is_known}
 use Rattle.pass_defs.specs.Foldable.{operands}
 use Rattle.pass_defs.specs.Foldable as fold
-use Rattle.domains.specs.Values.{Parts, least_value, wide_value}
+use Rattle.domains.specs.Values.{Parts, wide_value}
 use Rattle.dom_frame.specs.Registers.{Registers, value_at}
 use Rattle.dom_frame.specs.declared.frames.Frame.{Frame}
 use Rattle.flat_bounds.specs.Under.{IsUnder, AreUnder}
 use Rattle.const_prop.specs.declared.choices.Way.{Way}
 use Rattle.const_prop.specs.declared.choices.Way.TheVariants.{Open, Next, To}
-use Rattle.const_prop.specs.declared.numbers.Number.{Number}
-use Rattle.const_prop.specs.declared.numbers.Number.TheVariants.{Word, Wide}
-use Rattle.const_prop.specs.Choices.{chosen, goto_or_nop, has_target, is_choice, place_of, target_at, way_at, way_if, way_of}
-use Rattle.const_prop.specs.Known.{is_impossible, known_way, number_of, refined_way, target_of, way_by, way_from, way_in, way_on, way_or, word_in, word_of, zero_number}
+use Rattle.const_prop.specs.declared.numbers.Number.TheVariants.{Word}
+use Rattle.const_prop.specs.Choices.{chosen, goto_or_nop, has_target, is_choice, place_of, target_at, way_at, way_if}
+use Rattle.const_prop.specs.Known.{is_impossible, known_way, refined_way, target_of, way_by, way_from, way_in, way_on, way_or, word_in, word_of, zero_number}
 use Rattle.fold_law.proofs.Numbers.{HasNumber, word_number}
 
 -- ---- operands

@@ -1,5 +1,5 @@
 -- A typing for each body of a program, and solutions that are restricted by them (this project's profile).
-use Rattle.std.specs.Prelude.{◌≡◌, ◌&&◌, ◌+◌, ◌-◌, ℕ, zero, suc, Bool, true, false, if◌then◌else◌, nat_eq, List, [], ◌∷◌, Option, Some, None, is_some}
+use Rattle.std.specs.Prelude.{◌≡◌, ◌&&◌, ◌+◌, ◌-◌, ℕ, suc, Bool, true, false, if◌then◌else◌, nat_eq, List, [], ◌∷◌, Option, Some, None}
 use Rattle.dalvik_defs.specs.Face.{bodies_of}
 use Rattle.dalvik_defs.specs.Find.{method_in}
 use Rattle.dalvik_defs.specs.Under.{class_named}
@@ -10,12 +10,9 @@ use Rattle.dalvik_defs.specs.declared.program.NamedMethod.{NamedMethod}
 use Rattle.dalvik_defs.specs.declared.program.NamedProgram.{NamedProgram}
 use Rattle.pass_defs.specs.Constants.{Solution}
 use Rattle.pass_defs.specs.Flat.{Flat, Bottom, KnownWord, KnownWide, Any}
-use Rattle.pass_defs.specs.Kinds.{Kind, Undefined, Zero, Word, Low, High, Null, Class, Array, Reference, Fresh, FreshThis, kind_of}
-use Rattle.pass_defs.specs.Quiet.{takes_result}
+use Rattle.pass_defs.specs.Kinds.{Kind, Undefined, Zero, Word, Null, Class, Array, Reference, Fresh, FreshThis, kind_of}
 use Rattle.pass_defs.specs.Registers.{kind_at}
 use Rattle.pass_defs.specs.Typed.{state_at, IsTyping, Table}
-use Rattle.pass_defs.specs.Walks.{form_at}
-use Rattle.form_laws.specs.Typed.{has_front}
 
 -- the method of a name that has a body
 pub record BodyOf (p : NamedProgram) (k : MethodKey) (b : NamedBody) : Type 0 where
@@ -25,10 +22,9 @@ pub record BodyOf (p : NamedProgram) (k : MethodKey) (b : NamedBody) : Type 0 wh
   pub is_method : method_in class k.name k.signature ≡ Some method
   pub has_body : method.body ≡ Some b
 
--- Each body has a typing in a table, in which no position that takes a result has a state unless there is one in front of it.
+-- each body has a typing in a table
 pub record AreTypings (p : NamedProgram) (tables : MethodKey → Table) : Type 0 where
   pub typed : (k : MethodKey) (b : NamedBody) (x : BodyOf p k b) → IsTyping p x.class x.method b (tables k)
-  pub fronted : (k : MethodKey) (b : NamedBody) (n : ℕ) → bodies_of p k ≡ Some b → takes_result (form_at b n) ≡ true → is_some (state_at (tables k) n) ≡ true → has_front true (tables k) n ≡ true
 
 -- ---- which flat values suit a kind
 

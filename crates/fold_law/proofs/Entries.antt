@@ -63,7 +63,7 @@ module _ (p : NamedProgram) where
 
   parameters_loose : (ts : List Text) (i : ℕ) → (v : Flat) → suits (kind_at (parameter_kinds p ts) i) false v ≡ true
   parameters_loose [] i v = refl
-  parameters_loose (t ∷ ts) i = halves_each (λ k. (v : Flat) → suits k false v ≡ true) (λ v. refl) (kind_of p t) (parameter_kinds p ts) (type_loose t) (parameters_loose ts) i
+  parameters_loose (t ∷ ts) i v = halves_each (λ k. (v : Flat) → suits k false v ≡ true) (λ v. refl) (kind_of p t) (parameter_kinds p ts) (type_loose t) (parameters_loose ts) i v
 
   receiver_loose : (c : NamedClass) (m : NamedMethod) (v : Flat) → (is_constructor m ≡ true → v ≡ Any) → suits (receiver_kind c m) false v ≡ true
   receiver_loose c m v h = by (is_constructor m) (is_interface c.flags) refl

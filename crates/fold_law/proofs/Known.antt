@@ -91,7 +91,7 @@ before_same p b zero = refl
 before_same p b (suc n) = get_map (form_of p) b.insns n
 
 -- what is written stands in its register
-put_itself : (a : ℕ → Flat) (to : ℕ) (g : Flat) → name.put flat a to g to ≡ g
+pub put_itself : (a : ℕ → Flat) (to : ℕ) (g : Flat) → name.put flat a to g to ≡ g
 put_itself a to g = ap (λ (b : Bool). if b then g else a to) (same_number to)
 
 put_there : (wide : Bool) (a : ℕ → Flat) (to : ℕ) (g : Flat) → name.put_sized flat wide a to g to ≡ g
@@ -259,7 +259,7 @@ module _ (p : Program) (o : Outside) (t : Facts) (asked : IsAsked p o) (plain : 
                 constant = c.constant;
                 value = value_at (unwrap_or (step.after p i brought x.registers) finite.empty) f.to;
                 about = c.about;
-                from = inr (x, (e, refl));
+                from = inr (x, e, refl);
                 is = ap (λ (z : Option Frame). number_by p brought z i) e ∙ ap (number_in p brought x.registers i) result
                     ∙ ap (λ (v : Bool). if v then number_of (value_at (unwrap_or (step.after p i brought x.registers) finite.empty) f.to) wide else None) (pure_here x e) ∙ c.is;
                 made = c.made;

@@ -10,4 +10,5 @@ pub mod Entries
 pub mod Methods
 pub mod Restricted
 pub mod Tables
+pub mod Agreeing
 pub mod Whole

@@ -31,6 +31,23 @@ use Rattle.removal_law.proofs.Searches.{at_in, finds_same, nothing_finds}
 use Rattle.removal_law.proofs.Virtuals.{answer, candidate, IsMethodOf}
 use Rattle.fold_law.specs.Typings.{BodyOf}
 
+-- ---- lists
+
+in_first : {A : Type 0} (g x : A) (zs : List A) → In g (x ∷ zs) → (x ≡ g) ⊎ In g zs
+in_first g _ zs (here _) = inl refl
+in_first g x zs (there _ _ j) = inr j
+
+filter_in : {A : Type 0} (keep : A → Bool) (g : A) (xs : List A) → In g (filter keep xs) → In g xs
+filter_in keep g [] i = elim i [ ]
+filter_in {A} keep g (x ∷ xs) i = by (keep x) i (filter_in keep g xs)
+  where
+    by : (b : Bool) → In g (cond b (x ∷ filter keep xs) (filter keep xs)) → (In g (filter keep xs) → In g xs) → In g (x ∷ xs)
+    by true j more = elim (in_first g x (filter keep xs) j) [
+      | inl e ↦ subst (λ (u : A). In u (x ∷ xs)) e (here xs)
+      | inr k ↦ there x xs (more k)
+    ]
+    by false j more = there x xs (more j)
+
 -- ---- the method with a body
 
 pub body_of_key : (p : NamedProgram) (k : MethodKey) (b : NamedBody) → bodies_of p k ≡ Some b → BodyOf p k b
@@ -111,8 +128,10 @@ module _ (p : NamedProgram) (regular : IsRegular p) where
     BySuper : is_constructor_name k.name ≡ true → Constructs class k g call.Super
 
   found_one : (z : Search) (g : Found) → In g (found_by z) → z ≡ Finds g
-  found_one (Finds f) g (here xs) = refl
-  found_one (Finds f) g (there y xs i) = elim i [ ]
+  found_one (Finds f) g i = elim (in_first g f [] i) [
+    | inl e ↦ ap Finds e
+    | inr k ↦ elim k [ ]
+  ]
   found_one Nothing g i = elim i [ ]
   found_one Clash g i = elim i [ ]
 
@@ -126,24 +145,15 @@ module _ (p : NamedProgram) (regular : IsRegular p) where
           ap (λ (j : MethodKey). is_constructor_name j.name) (sym (where_key everything (λ m. true) k.name k.signature (chain_of p (superclass_of p class)) g w)) ∙ c
 
       among : (ts : List Text) → finds_among p ts k.name k.signature ≡ Finds g → is_constructor_name k.name ≡ true
-      among ts i = absurd (method_of_ordinary k.name k.signature g (candidate p everything keeps regular k.name k.signature ts g (lowest_in (candidates p ts k.name k.signature) (λ f. f.coded && is_lowest p (candidates p ts k.name k.signature) f) (candidates p ts k.name k.signature) i)) c)
+      among ts i = absurd (method_of_ordinary k.name k.signature g (candidate p everything keeps regular k.name k.signature ts g (lowest_in (λ f. f.coded && is_lowest p (candidates p ts k.name k.signature) f) (candidates p ts k.name k.signature) i)) c)
         where
-          kept : (keep : Found → Bool) (xs : List Found) → In g (filter keep xs) → In g xs
-          kept keep [] i = elim i [ ]
-          kept keep (x ∷ xs) i = by (keep x) i (kept keep xs)
-            where
-              by : (b : Bool) → In g (cond b (x ∷ filter keep xs) (filter keep xs)) → (In g (filter keep xs) → In g xs) → In g (x ∷ xs)
-              by true (here zs) more = here xs
-              by true (there y zs j) more = there x xs (more j)
-              by false j more = there x xs (more j)
-
           verdict_in : (xs : List Found) → verdict xs ≡ Finds g → In g xs
           verdict_in [] i = nothing_finds g i
           verdict_in (x ∷ []) i = subst (λ (y : Found). In y (x ∷ [])) (finds_same x g i) (here [])
           verdict_in (x ∷ y ∷ xs) i = absurd (cc)
 
-          lowest_in : (all : List Found) (keep : Found → Bool) (xs : List Found) → verdict (filter keep xs) ≡ Finds g → In g xs
-          lowest_in all keep xs i = kept keep xs (verdict_in (filter keep xs) i)
+          lowest_in : (keep : Found → Bool) (xs : List Found) → verdict (filter keep xs) ≡ Finds g → In g xs
+          lowest_in keep xs i = filter_in keep g xs (verdict_in (filter keep xs) i)
 
       named : (x : Option NamedClass) → finds_super_037 p class k x ≡ Finds g → is_constructor_name k.name ≡ true
       named (Some d) i = one (is_interface d.flags) i

@@ -123,19 +123,19 @@ second_known binary.RemLong d x y e = wides_second _ x y e
 second_known op d x y e = absurd (true≢false (sym d))
 
 -- a word is no wide number, and one word
-apart : {P : Type 0} (n d : ℕ) → constant_value n ≡ wide_value d → P
+pub apart : {P : Type 0} (n d : ℕ) → constant_value n ≡ wide_value d → P
 apart n d e = none_some d (ap (λ (v : Parts). word_known_wide v.word) e)
 
-same_word : (n d : ℕ) → constant_value n ≡ constant_value d → n ≡ d
+pub same_word : (n d : ℕ) → constant_value n ≡ constant_value d → n ≡ d
 same_word n d e = some_same n d (ap (λ (v : Parts). word_known v.word) e)
 
-same_wide : (n d : ℕ) → wide_value n ≡ wide_value d → n ≡ d
+pub same_wide : (n d : ℕ) → wide_value n ≡ wide_value d → n ≡ d
 same_wide n d e = some_same n d (ap (λ (v : Parts). word_known_wide v.word) e)
 
-no_word : {P : Type 0} (n : ℕ) → constant_value n ≡ least_value → P
+pub no_word : {P : Type 0} (n : ℕ) → constant_value n ≡ least_value → P
 no_word n e = none_some n (sym (ap (λ (v : Parts). word_known v.word) e))
 
-no_wide : {P : Type 0} (n : ℕ) → wide_value n ≡ least_value → P
+pub no_wide : {P : Type 0} (n : ℕ) → wide_value n ≡ least_value → P
 no_wide n e = none_some n (sym (ap (λ (v : Parts). word_known_wide v.word) e))
 
 -- a word that some solution knows as other than 0 is other than 0

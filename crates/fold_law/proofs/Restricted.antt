@@ -1,7 +1,7 @@
 -- A constants solution stays one where it reaches only positions that have a state in some typing, and at which nothing is known of
 -- objects that no constructor was called on.
 use Rattle.std.proofs.Common.{◌≡◌, ℕ, zero, suc, ◌+◌, ◌-◌, ◌<◌, Bool, true, false, true≢false, List, [], ◌∷◌, length, Option, Some, None, refl, sym, ap, ◌∙◌, subst, arith, eqb-true}
-use Rattle.std.specs.Prelude.{◌&&◌, ◌||◌, not, nat_eq, if◌then◌else◌, is_some, pos, ℤ, Contains}
+use Rattle.std.specs.Prelude.{◌&&◌, ◌||◌, not, nat_eq, if◌then◌else◌, int_lt, is_some, pos, ℤ, Contains}
 use Rattle.std.specs.List.{list_all}
 use Rattle.lemmas.proofs.Bools.{and_both, and_left, and_right, clash, not_false, not_true, or_false_left, or_false_right, or_left}
 use Rattle.lemmas.proofs.Options.{none_some, some_same}
@@ -10,7 +10,6 @@ use Rattle.insn_set.specs.declared.ops.InvokeKind.{InvokeKind}
 use Rattle.insn_set.specs.declared.ops.InvokeKind.TheVariants as call
 use Rattle.insn_set.specs.declared.ops.Slot.{Slot}
 use Rattle.insn_set.specs.declared.ops.Slot.TheVariants as slot
-use Rattle.std.specs.Int.Signed.{int_lt}
 use Rattle.std.specs.Ordering.{int_eq}
 use Rattle.dalvik_defs.specs.ActPlain.{packed_target, switch_target}
 use Rattle.dalvik_defs.specs.Arith.{signed}

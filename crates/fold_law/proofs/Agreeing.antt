@@ -1,0 +1,496 @@
+-- Kinds agree with what facts know, which are under a solution also where it says no more than kinds let be there.
+use Rattle.std.proofs.Common.{◌≡◌, ◌⊎◌, inl, inr, ℕ, zero, suc, ◌+◌, ◌-◌, ◌<◌, Bool, true, false, true≢false, Option, Some, None, refl, sym, ap, ◌∙◌, subst, arith, eqb-true}
+use Rattle.std.specs.Prelude.{◌||◌, ◌==◌, not, if◌then◌else◌, is_some, slice_get}
+use Rattle.std.specs.Option.{option_map, unwrap_or}
+use Rattle.std.specs.FinMap as finite
+use Rattle.lemmas.proofs.Bools.{and_left, clash, not_false, or_false_left, untrue}
+use Rattle.lemmas.proofs.Lists.{got_map}
+use Rattle.lemmas.proofs.Options.{before_map, none_some, some_same}
+use Rattle.insn_set.specs.Widths.{is_wide_slot}
+use Rattle.insn_set.specs.declared.ops.Item.TheVariants as item
+use Rattle.insn_set.specs.declared.ops.Slot.{Slot}
+use Rattle.insn_set.specs.declared.ops.Slot.TheVariants as slot
+use Rattle.insn_set.specs.declared.form.Insn.{Insn}
+use Rattle.insn_set.specs.declared.form.Insn.TheVariants as insn
+use Rattle.program_model.specs.Lookups as look
+use Rattle.program_model.specs.declared.body.Body.{Body}
+use Rattle.program_model.specs.declared.pass.Outside.{Outside}
+use Rattle.program_model.specs.declared.program.Class.{Class}
+use Rattle.program_model.specs.declared.program.Method.{Method}
+use Rattle.program_model.specs.declared.program.MethodAt.{MethodAt}
+use Rattle.program_model.specs.declared.program.Program.{Program}
+use Rattle.hierarchy.specs.declared.build.Hierarchy.{Hierarchy}
+use Rattle.verify.specs.Flow.{place_at}
+use Rattle.verify.specs.Frames as frames
+use Rattle.verify.specs.Kinds as number
+use Rattle.verify.specs.Typings as typings
+use Rattle.verify.specs.Typings.{kind_before}
+use Rattle.verify.specs.declared.kinds.Kind as verify
+use Rattle.verify.specs.declared.kinds.Kind.TheVariants as kind
+use Rattle.dalvik_defs.specs.Face.{bodies_of}
+use Rattle.dalvik_defs.specs.Find.{finds_field}
+use Rattle.dalvik_defs.specs.Flags.{is_static}
+use Rattle.dalvik_defs.specs.Names.{is_array, is_reference, is_wide, is_word as is_word_type, Text}
+use Rattle.dalvik_defs.specs.Naming.{body_of, field_at, form_of, method_at, named, type_at}
+use Rattle.dalvik_defs.specs.Outer.{outer_of}
+use Rattle.dalvik_defs.specs.declared.forms.Form.{Form}
+use Rattle.dalvik_defs.specs.declared.names.FieldKey.{FieldKey}
+use Rattle.dalvik_defs.specs.declared.names.MethodKey.{MethodKey}
+use Rattle.dalvik_defs.specs.declared.program.NamedBody.{NamedBody}
+use Rattle.dalvik_defs.specs.declared.program.NamedField.{NamedField}
+use Rattle.dalvik_defs.specs.declared.program.NamedProgram.{NamedProgram}
+use Rattle.domains.specs.Values.{constant_value, least_value, Parts}
+use Rattle.dom_frame.specs.Registers.{value_at}
+use Rattle.dom_frame.specs.Steps as step
+use Rattle.dom_frame.specs.declared.frames.Frame.{Frame}
+use Rattle.facts.specs.Lent.{frame_at}
+use Rattle.facts.specs.declared.facts.Facts.{Facts}
+use Rattle.pass_defs.specs.Constants.{flat, IsAlwaysReached, IsSolution, Solution}
+use Rattle.pass_defs.specs.Demands.{is_allowed, is_moved}
+use Rattle.pass_defs.specs.Facts as name
+use Rattle.pass_defs.specs.Flat.{Flat, Any, Bottom, KnownWide, KnownWord}
+use Rattle.pass_defs.specs.Foldable.{constant_of, FoldsToNumber}
+use Rattle.pass_defs.specs.Kinds as name_kind
+use Rattle.pass_defs.specs.Kinds.{Kind}
+use Rattle.pass_defs.specs.Registers.{Kinds, kind_at}
+use Rattle.pass_defs.specs.Typed.{is_wrong, IsTyping, state_at, Table, words_of, wrong_field, wrong_first}
+use Rattle.bodies_kept.proofs.Rooted.{rooted}
+use Rattle.program_laws.proofs.Transitive.{transitive}
+use Rattle.program_laws.proofs.WellFormed.{well_placed}
+use Rattle.form_laws.proofs.Typings.{allowed_at, right_at}
+use Rattle.program_laws.specs.Results.{AllTakeInPlace}
+use Rattle.removal_law.proofs.Declared.{method_same}
+use Rattle.form_laws.specs.Typed.{IsOrdered, taken_table}
+use Rattle.removal_bridge.proofs.Formed.{regular_program}
+use Rattle.removal_bridge.proofs.TypedFormed as stuck
+use Rattle.removal_law.specs.Reach.{IsRegular}
+use Rattle.facts_kept.proofs.Bodies.{got_state}
+use Rattle.facts_kept.proofs.Places.{own_key}
+use Rattle.facts_kept.proofs.Beneath.{reference_only}
+use Rattle.type_bridge.specs.Views.{array_kind, class_kind, kind_named, kinds_named, method_table}
+use Rattle.type_bridge.proofs.Back.{some_dimension}
+use Rattle.type_bridge.proofs.Frames.{at_named}
+use Rattle.type_bridge.proofs.Judged.{state_is}
+use Rattle.flat_bounds.specs.Facts.{AreFactsUnder}
+use Rattle.flat_bounds.specs.Under.{IsUnder}
+use Rattle.flat_bridge.specs.Numbered.{numbered}
+use Rattle.flat_bridge.proofs.Standing.{Owned, owned}
+use Rattle.flat_law.proofs.Steps.{left_of}
+use Rattle.const_prop.specs.declared.numbers.Number.{Number}
+use Rattle.const_prop.specs.declared.numbers.Number.TheVariants.{Wide, Word}
+use Rattle.const_prop.specs.Allowed.{insn_before}
+use Rattle.const_prop.specs.Constants.{result_of}
+use Rattle.const_prop.specs.Given.{given, number_at}
+use Rattle.const_prop.specs.Kinds.{in_kind, is_free, is_null, is_word}
+use Rattle.const_prop.specs.Known.{zero_number}
+use Rattle.fold_law.specs.Asked.{IsSettled}
+use Rattle.fold_law.specs.Met.{HaveDimensions, MetBounds}
+use Rattle.fold_law.specs.Typings.{AreTypings, BodyOf, is_any, met, met_registers, met_table, null_fits, restricted, suits}
+use Rattle.fold_law.proofs.Known as known
+use Rattle.fold_law.proofs.Known.{gives, left_under, low, put_itself}
+use Rattle.fold_law.proofs.Numbers.{IsAbout, OneWide, OneWord, Zero}
+use Rattle.fold_law.proofs.Pure.{apart, no_word, same_word}
+use Rattle.fold_law.proofs.Restricted.{restricted_closed, Stands, stood}
+use Rattle.fold_law.proofs.Suits.{any_is, null_suits}
+use Rattle.fold_law.proofs.Tables.{class_stands, method_stands, tables_typed, tables_with, table_with, taken_typing, was_there}
+
+-- ---- values under what kinds let be there
+
+-- a word that isn't 0 is under no known value of a reference
+exact_zero : (n : ℕ) (g : Flat) → IsUnder (constant_value n) g → null_fits g ≡ true → (g ≡ Any) ⊎ (n ≡ 0)
+exact_zero n Any h e = inl refl
+exact_zero n Bottom h e = no_word n h
+exact_zero n (KnownWord m) (inl h) e = no_word n h
+exact_zero n (KnownWord m) (inr h) e = inr (same_word n m h.0 ∙ eqb-true m 0 e)
+exact_zero n (KnownWide m) h e = absurd (true≢false (sym e))
+
+met_null : (k : Kind) (v : Flat) → name_kind.is_initialised k ≡ true → null_fits (met k v) ≡ true
+met_null k v i = by (suits k true v) refl
+  where
+    by : (b : Bool) → suits k true v ≡ b → null_fits (if b then v else Bottom) ≡ true
+    by true e = sym (null_suits k v i) ∙ e
+    by false e = refl
+
+met_known : (k : Kind) (n : ℕ) → met k (KnownWord n) ≡ Any → ⊥
+met_known k n = by (suits k true (KnownWord n))
+  where
+    by : (b : Bool) → (if b then KnownWord n else Bottom) ≡ Any → ⊥
+    by true e = true≢false (sym (ap is_any e))
+    by false e = true≢false (sym (ap is_any e))
+
+-- where a word is under a known value, that is the word
+word_known : (n : ℕ) (f : Flat) (to : ℕ) (c : Form) → constant_of to f ≡ Some c → IsUnder (constant_value n) f → f ≡ KnownWord n
+word_known n Bottom to c e h = none_some c e
+word_known n Any to c e h = none_some c e
+word_known n (KnownWord m) to c e (inl h) = no_word n h
+word_known n (KnownWord m) to c e (inr h) = ap KnownWord (sym (same_word n m h.0))
+word_known n (KnownWide m) to c e (inl h) = no_word n h
+word_known n (KnownWide m) to c e (inr h) = apart n m h
+
+-- the kind of a reference type is one of references
+reference_kind : (q : NamedProgram) (t : Text) → is_reference t ≡ true → name_kind.is_initialised (name_kind.kind_of q t) ≡ true
+reference_kind q t e = by (is_word_type t) (is_wide t) (is_reference t) (reference_only q t e).0 (reference_only q t e).1 e
+  where
+    reference : (c d : Bool) → name_kind.is_initialised (if c then name_kind.Array t else if d then name_kind.Class t else name_kind.Reference) ≡ true
+    reference true d = refl
+    reference false true = refl
+    reference false false = refl
+
+    by : (c d e : Bool) → c ≡ false → d ≡ false → e ≡ true → name_kind.is_initialised (if c then name_kind.Word else if d then name_kind.Low else if e then name_kind.kind_of_reference q t else name_kind.Undefined) ≡ true
+    by true d e i j k = absurd (true≢false i)
+    by false true e i j k = absurd (true≢false j)
+    by false false true i j k = reference (is_array t) (name_kind.is_plain q t)
+    by false false false i j k = absurd (true≢false (sym k))
+
+-- the number of words that a value holds of, as a kind lets it be
+module _ (p : Program) where
+  abbrev Moved : verify.Kind → Type 0
+  Moved k = is_moved (kind_named p k) ≡ true
+
+  abbrev is_fresh : verify.Kind → Bool
+  is_fresh (kind.Fresh c n) = true
+  is_fresh kind.FreshThis = true
+  is_fresh k = false
+
+  zero_fits : (k : verify.Kind) → Moved k → is_fresh k ≡ false → ((i : Option ℕ) → k ≡ kind.Array 0 i → ⊥) → in_kind k (Word 0) ≡ true
+  zero_fits kind.Undefined h f d = refl
+  zero_fits kind.Word h f d = refl
+  zero_fits kind.Zero h f d = refl
+  zero_fits kind.WideLow h f d = absurd (true≢false (sym h))
+  zero_fits kind.WideHigh h f d = absurd (true≢false (sym h))
+  zero_fits (kind.Fresh c n) h f d = absurd (true≢false f)
+  zero_fits kind.FreshThis h f d = absurd (true≢false f)
+  zero_fits kind.Null h f d = refl
+  zero_fits (kind.Program c) h f d = refl
+  zero_fits (kind.Array zero i) h f d = absurd (d i refl)
+  zero_fits (kind.Array (suc n) i) h f d = some_dimension n
+  zero_fits kind.Reference h f d = refl
+
+  class_initialised : (o : Option Class) → name_kind.is_initialised (class_kind p o) ≡ true
+  class_initialised None = refl
+  class_initialised (Some c) = refl
+
+  array_initialised : (n : ℕ) (i : Option ℕ) → name_kind.is_initialised (array_kind p n i) ≡ true
+  array_initialised zero i = refl
+  array_initialised (suc n) i = refl
+
+  -- what is neither a word nor fresh is a reference by names
+  word_or_null : (k : verify.Kind) → Moved k → is_fresh k ≡ false → (name_kind.is_initialised (kind_named p k) ≡ true) ⊎ ((is_word k || is_free k) ≡ true)
+  word_or_null kind.Undefined h f = inr refl
+  word_or_null kind.Word h f = inr refl
+  word_or_null kind.Zero h f = inl refl
+  word_or_null kind.WideLow h f = absurd (true≢false (sym h))
+  word_or_null kind.WideHigh h f = absurd (true≢false (sym h))
+  word_or_null (kind.Fresh c n) h f = absurd (true≢false f)
+  word_or_null kind.FreshThis h f = absurd (true≢false f)
+  word_or_null kind.Null h f = inl refl
+  word_or_null (kind.Program c) h f = inl (class_initialised (slice_get p.classes c))
+  word_or_null (kind.Array n i) h f = inl (array_initialised n i)
+  word_or_null kind.Reference h f = inl refl
+
+  word_in_kind : (k : verify.Kind) (n : ℕ) → Moved k → is_fresh k ≡ false → ((i : Option ℕ) → k ≡ kind.Array 0 i → ⊥) → (name_kind.is_initialised (kind_named p k) ≡ true → n ≡ 0) → in_kind k (Word n) ≡ true
+  word_in_kind k n h f d z = of (word_or_null k h f) (n == 0) refl
+    where
+      of : (name_kind.is_initialised (kind_named p k) ≡ true) ⊎ ((is_word k || is_free k) ≡ true) → (b : Bool) → (n == 0) ≡ b
+          → (if b then number.is_number k || number.is_initialised k || is_free k else is_word k || is_free k) ≡ true
+      of x true e = zero_fits k h f d
+      of (inl i) false e = clash (n == 0) (ap (λ (m : ℕ). m == 0) (z i)) e
+      of (inr i) false e = i
+
+  -- of a fresh object nothing is known
+  fresh_any : (k : verify.Kind) (v : Flat) → is_fresh k ≡ true → suits (kind_named p k) false v ≡ true → v ≡ Any
+  fresh_any (kind.Fresh c n) v f h = any_is v h
+  fresh_any kind.FreshThis v f h = any_is v h
+  fresh_any k v f h = absurd (true≢false (sym f))
+
+module _ (p : Program) (h : Hierarchy) (o : Outside) (t : Facts) (settled : IsSettled p h o t) (bounds : MetBounds p o) (dimensions : HaveDimensions p h) (at : MethodAt) (m : Method) (b : Body)
+    (has_method : look.method_at p at ≡ Some m) (has_body : m.body ≡ Some b) where
+  abbrev q : NamedProgram
+  q = named p
+
+  abbrev key : MethodKey
+  key = method_at p m.name
+
+  abbrev nb : NamedBody
+  nb = body_of p b
+
+  own : Owned p settled.asked.sound settled.asked.once at m
+  own = owned p settled.asked.sound settled.asked.once at m has_method
+
+  there_is : bodies_of q key ≡ Some nb
+  there_is = own.bodies_are ∙ ap (option_map (body_of p)) has_body
+
+  regular : IsRegular q
+  regular = regular_program p settled.asked.formed settled.asked.once settled.asked.grounded
+
+  ordered : IsOrdered q
+  ordered = transitive q (rooted p settled.asked.formed settled.asked.once settled.asked.grounded)
+
+  abbrev places : AllTakeInPlace q
+  places = well_placed p settled.asked.formed
+
+  entered : (k : MethodKey) (b : NamedBody) (x : BodyOf q k b) → is_static x.method.flags ≡ false → 0 < b.ins
+  entered k b x e =
+      let long : b.ins ≡ (if is_static x.method.flags then 0 else 1) + words_of x.method.signature.parameters =
+      (stuck.regular_program p settled.asked.formed settled.asked.once settled.typed).entries x.class x.method b (class_stands q k b x) (method_stands q k b x) x.has_body in
+      let s : b.ins ≡ 1 + words_of x.method.signature.parameters = long ∙ ap (λ (v : Bool). (if v then 0 else 1) + words_of x.method.signature.parameters) e in
+      omega (arith, s)
+
+  -- ---- by one typing of the method
+
+  module _ (x : BodyOf q key nb) (table : Table) (typing : IsTyping q x.class x.method nb table) where
+    abbrev kept : Table
+    kept = taken_table true nb.forms table
+
+    abbrev tables : MethodKey → Table
+    tables = tables_with q ordered places settled.typed key kept
+
+    kept_typing : IsTyping q x.class x.method nb kept
+    kept_typing = taken_typing q ordered places settled.typed x.class x.method nb table (class_stands q key nb x) (method_stands q key nb x) x.has_body typing
+
+    are : AreTypings q tables
+    are = tables_typed q ordered places settled.typed key nb x kept kept_typing
+
+    own_table : tables key ≡ kept
+    own_table = table_with q ordered places settled.typed key kept (method_same key)
+
+    -- where all solutions reach a position, the registers of each suit its state
+    module _ (n : ℕ) (reached : IsAlwaysReached q (outer_of p o) key n) (c : Solution) (closed : IsSolution q (outer_of p o) c) (a : ℕ → Flat) (there : c.registers key n ≡ Some a) where
+      abbrev less : Solution
+      less = restricted q tables c
+
+      less_closed : IsSolution q (outer_of p o) less
+      less_closed = restricted_closed q regular entered tables are (outer_of p o) c closed
+
+      record Suited : Type 0 where
+        pub kinds : Kinds
+        pub state : state_at kept n ≡ Some kinds
+        pub suit : (s : ℕ) → suits (kind_at kinds.registers s) false (a s) ≡ true
+        pub less_there : less.registers key n ≡ Some a
+
+      suited : Suited
+      suited = by (less.registers key n) refl (reached less less_closed)
+        where
+          by : (y : Option (ℕ → Flat)) → less.registers key n ≡ y → is_some y ≡ true → Suited
+          by None e s = absurd (true≢false (sym s))
+          by (Some d) e s =
+              let z = stood q regular entered tables are (outer_of p o) c closed key n nb d there_is e in
+              let same : d ≡ a = some_same d a (sym z.there ∙ there) in
+              let w : Stands kept n a = subst (λ (d : ℕ → Flat). Stands kept n d) same (subst (λ (u : Table). Stands u n d) own_table z.stood) in
+              record { kinds = w.kinds; state = w.state; suit = w.suit; less_there = e ∙ ap Some same }
+
+      -- the facts are under what is left of the solution
+      abbrev met_solution : Solution
+      met_solution = met_table q tables less
+
+      under_met : AreFactsUnder p (numbered p met_solution) t
+      under_met = settled.low.under (numbered p met_solution) (bounds tables are c closed)
+
+      abbrev met_here : Kinds → ℕ → Flat
+      met_here s r = met (kind_at s.registers r) (a r)
+
+      met_there : (s : Kinds) → state_at kept n ≡ Some s → less.registers key n ≡ Some a → met_solution.registers key n ≡ Some (met_here s)
+      met_there s e l =
+          ap (λ y. elim y as (λ y. Option (ℕ → Flat)) [ Some b ↦ met_registers (tables key) n (less.registers key n) | None ↦ less.registers key n ]) there_is
+          ∙ ap (met_registers (tables key) n) l ∙ ap (λ (u : Table). met_registers u n (Some a)) own_table
+          ∙ ap (λ y. elim y as (λ y. Option (ℕ → Flat)) [ Some s ↦ Some (λ r. met (kind_at s.registers r) (a r)) | None ↦ Some a ]) e
+
+    -- ---- a form with a known result
+
+    module _ (n : ℕ) (i : Insn) (has_insn : slice_get b.insns n ≡ Some i) (reached : IsAlwaysReached q (outer_of p o) key n) (f : FoldsToNumber q (outer_of p o) key nb n (form_of p i)) (wide : Bool)
+        (result : result_of i ≡ Some (f.to, wide)) where
+      abbrev before : Option Insn
+      before = insn_before b.insns n
+
+      abbrev known_flat : Flat
+      known_flat = left_of p f.table key.class (option_map (form_of p) before) i f.registers f.to
+
+      s : Suited n reached f.table f.closed f.registers f.there
+      s = suited n reached f.table f.closed f.registers f.there
+
+      allowed : is_allowed q x.class x.method (suited n reached f.table f.closed f.registers f.there).kinds (form_of p i) ≡ true
+      allowed = let s = suited n reached f.table f.closed f.registers f.there in allowed_at q x.class x.method nb kept kept_typing n (form_of p i) s.kinds (got_map (form_of p) b.insns n i has_insn) s.state
+
+      abbrev met_flat : Kinds → Flat
+      met_flat k = left_of p (met_solution n reached f.table f.closed f.registers f.there) key.class (option_map (form_of p) before) i (met_here n reached f.table f.closed f.registers f.there k) f.to
+
+      -- a number is 0, or a word that both know, or it is wide
+      data Knows : Number → Type 0 where
+        Nothing : Knows (zero_number wide)
+        OnlyWord : (w : ℕ) → wide ≡ false → known_flat ≡ KnownWord w → IsUnder (constant_value w) (met_flat (suited n reached f.table f.closed f.registers f.there).kinds) → Knows (Word w)
+        OnlyWide : (w : ℕ) → wide ≡ true → Knows (Wide w)
+
+      known : constant_of f.to known_flat ≡ Some f.constant
+      known = known.known p o t settled.asked settled.plain settled.low at m b has_method has_body n i has_insn f wide result
+
+      -- a value that is 0, or under what the solution knows and what kinds leave of it
+      about_knows : (w : Bool) (k : Number) (v : Parts) → IsAbout v w k → w ≡ wide → (v ≡ least_value) ⊎ (IsUnder v known_flat × IsUnder v (met_flat (suited n reached f.table f.closed f.registers f.there).kinds)) → Knows k
+      about_knows w _ v (Zero _) e u = subst (λ (z : Bool). Knows (zero_number z)) (sym e) Nothing
+      about_knows _ _ v (OneWord d same) e (inl l) = no_word d (sym same ∙ l)
+      about_knows _ _ v (OneWord d same) e (inr u) =
+          OnlyWord d (sym e) (word_known d known_flat f.to f.constant known (subst (λ (z : Parts). IsUnder z known_flat) same u.0))
+          (subst (λ (z : Parts). IsUnder z (met_flat (suited n reached f.table f.closed f.registers f.there).kinds)) same u.1)
+      about_knows _ _ v (OneWide d same) e u = OnlyWide d (sym e)
+
+      under_both : (v : Parts) → (y : Frame) → frame_at t.frames.items m.name n ≡ Some y → v ≡ value_at (unwrap_or (step.after p i (given p t at.class before i) y.registers) finite.empty) f.to
+          → IsUnder v known_flat × IsUnder v (met_flat (suited n reached f.table f.closed f.registers f.there).kinds)
+      under_both v y e d =
+          let s = suited n reached f.table f.closed f.registers f.there in
+          let value = value_at (unwrap_or (step.after p i (given p t at.class before i) y.registers) finite.empty) f.to in
+          let one = left_under p o t settled.asked settled.plain settled.low at m b has_method has_body n i has_insn f.table (low p o t settled.asked settled.plain settled.low at m b has_method has_body f.table f.closed)
+          f.registers f.there y e (f.to, wide) result f.to in
+          let two = left_under p o t settled.asked settled.plain settled.low at m b has_method has_body n i has_insn (met_solution n reached f.table f.closed f.registers f.there) (under_met n reached f.table f.closed f.registers f.there)
+          (met_here n reached f.table f.closed f.registers f.there s.kinds) (met_there n reached f.table f.closed f.registers f.there s.kinds s.state s.less_there) y e (f.to, wide) result f.to in (
+            subst (λ (z : Parts). IsUnder z known_flat) (sym d) one,
+            subst (λ (z : Parts). IsUnder z (met_flat s.kinds)) (sym d) two,
+          )
+
+      knows : (k : Number) → number_at p t at.class m.name before n i ≡ Some k → Knows k
+      knows k e =
+          let g = gives p o t settled.asked settled.plain settled.low at m b has_method has_body n i has_insn f wide result in
+          about_knows wide k g.value (subst (IsAbout g.value wide) (some_same g.number k (sym g.is ∙ e)) g.about) refl (by g.value g.from)
+        where
+          by : (v : Parts) → (v ≡ least_value) ⊎ ((y : Frame) × (frame_at t.frames.items m.name n ≡ Some y) × (v ≡ value_at (unwrap_or (step.after p i (given p t at.class before i) y.registers) finite.empty) f.to))
+              → (v ≡ least_value) ⊎ (IsUnder v known_flat × IsUnder v (met_flat (suited n reached f.table f.closed f.registers f.there).kinds))
+          by v (inl l) = inl l
+          by v (inr r) = inr (under_both v r.0 r.1 r.2)
+
+      -- of what isn't known there is no constant
+      unknown : {P : Type 0} → known_flat ≡ Any → P
+      unknown e = none_some f.constant (sym (ap (constant_of f.to) e) ∙ known)
+
+      -- ---- moves of one register
+
+      abbrev reads : Kinds
+      reads = (suited n reached f.table f.closed f.registers f.there).kinds
+
+      narrow_is : (to from : ℕ) (j : Slot) → is_wide_slot j ≡ false → (d : Solution) (a : ℕ → Flat) → f.to ≡ to → left_of p d key.class (option_map (form_of p) before) (insn.Move j to from) a f.to ≡ a from
+      narrow_is to from slot.Word e d a same = ap (name.put flat a to (a from)) same ∙ put_itself a to (a from)
+      narrow_is to from slot.Object e d a same = ap (name.put flat a to (a from)) same ∙ put_itself a to (a from)
+      narrow_is to from slot.Wide e d a same = absurd (true≢false e)
+
+      to_is : (j : Insn) (to : ℕ) (v : Bool) → i ≡ j → result_of j ≡ Some (to, v) → f.to ≡ to
+      to_is j to v e d = ap (λ (r : ℕ × Bool). r.0) (some_same (f.to, wide) (to, v) (sym result ∙ ap result_of e ∙ d))
+
+      wide_is : (j : Insn) (to : ℕ) (v : Bool) → i ≡ j → result_of j ≡ Some (to, v) → wide ≡ v
+      wide_is j to v e d = ap (λ (r : ℕ × Bool). r.1) (some_same (f.to, wide) (to, v) (sym result ∙ ap result_of e ∙ d))
+
+      module _ (slot : Slot) (to from : ℕ) (is : i ≡ insn.Move slot to from) (thin : is_wide_slot slot ≡ false) (cls : Class) (y : typings.Table) (same : table ≡ method_table p cls y)
+          (dimensioned : (r : ℕ) (z : Option ℕ) → kind_before y n r ≡ kind.Array 0 z → ⊥) where
+        here_is : f.to ≡ to
+        here_is = to_is (insn.Move slot to from) to (is_wide_slot slot) is refl
+
+        flat_is : known_flat ≡ f.registers from
+        flat_is = ap (λ (j : Insn). left_of p f.table key.class (option_map (form_of p) before) j f.registers f.to) is ∙ narrow_is to from slot thin f.table f.registers here_is
+
+        met_is : met_flat reads ≡ met (kind_at reads.registers from) (f.registers from)
+        met_is = ap (λ (j : Insn). left_of p (met_solution n reached f.table f.closed f.registers f.there) key.class (option_map (form_of p) before) j (met_here n reached f.table f.closed f.registers f.there reads) f.to) is
+            ∙ narrow_is to from slot thin (met_solution n reached f.table f.closed f.registers f.there) (met_here n reached f.table f.closed f.registers f.there reads) here_is
+
+        -- the kind by number
+        record ByNumber : Type 0 where
+          pub kind : verify.Kind
+          pub before_is : kind_before y n from ≡ kind
+          pub named_is : kind_at reads.registers from ≡ kind_named p kind
+
+        by_number : ByNumber
+        by_number =
+            let s = suited n reached f.table f.closed f.registers f.there in
+            let made = name_kind.kind_of q (type_at p cls.name) in
+            let k = before_map (kinds_named p made) (place_at y n) s.kinds (sym (state_is p made y n) ∙ ap (λ (u : Table). state_at u n) (sym same) ∙ (was_there nb table n s.kinds s.state).0) in
+            record {
+              kind = frames.kind_at k.0.registers from;
+              before_is = ap (λ o. typings.kind_in o from) (got_state y n k.0 k.1.0);
+              named_is = ap (λ (a : Kinds). kind_at a.registers from) (sym k.1.1) ∙ at_named p k.0.registers from;
+            }
+
+        moved_kind : is_moved (kind_at reads.registers from) ≡ true
+        moved_kind = by slot thin (subst (λ (j : Insn). is_allowed q x.class x.method reads (form_of p j) ≡ true) is allowed)
+          where
+            by : (s : Slot) → is_wide_slot s ≡ false → is_allowed q x.class x.method reads (form_of p (insn.Move s to from)) ≡ true → is_moved (kind_at reads.registers from) ≡ true
+            by slot.Word e h = and_left (is_moved (kind_at reads.registers from)) true h
+            by slot.Object e h = and_left (is_moved (kind_at reads.registers from)) true h
+            by slot.Wide e h = absurd (true≢false e)
+
+        -- what is moved is let through by its kind
+        lets : (k : Number) → Knows k → in_kind (kind_before y n from) k ≡ true
+        lets k z =
+            let w = by_number in
+            subst (λ (l : verify.Kind). in_kind l k ≡ true) (sym w.before_is) (by w.kind w.named_is (λ j e. dimensioned from j (w.before_is ∙ e)) k z)
+          where
+            by : (l : verify.Kind) → kind_at reads.registers from ≡ kind_named p l → ((j : Option ℕ) → l ≡ kind.Array 0 j → ⊥) → (k : Number) → Knows k → in_kind l k ≡ true
+            by l e d k z = of k z
+              where
+                moved_is : is_moved (kind_named p l) ≡ true
+                moved_is = ap is_moved (sym e) ∙ moved_kind
+
+                fresh : is_fresh p l ≡ false
+                fresh = untrue (is_fresh p l) (λ g. unknown (flat_is ∙ fresh_any p l (f.registers from) g (subst (λ (u : Kind). suits u false (f.registers from) ≡ true) e ((suited n reached f.table f.closed f.registers f.there).suit from))))
+
+                of : (k : Number) → Knows k → in_kind l k ≡ true
+                of _ Nothing = subst (λ (v : Bool). in_kind l (zero_number v) ≡ true) (sym (wide_is (insn.Move slot to from) to (is_wide_slot slot) is refl ∙ thin)) (zero_fits p l moved_is fresh d)
+                of _ (OnlyWord w narrow same u) = word_in_kind p l w moved_is fresh d (λ g. zero (exact_zero w (met_flat reads) u
+                    (ap null_fits met_is ∙ met_null (kind_at reads.registers from) (f.registers from) (ap name_kind.is_initialised e ∙ g))))
+                  where
+                    zero : (met_flat reads ≡ Any) ⊎ (w ≡ 0) → w ≡ 0
+                    zero (inr z) = z
+                    zero (inl a) = absurd (met_known (kind_at reads.registers from) w (ap (met (kind_at reads.registers from)) (sym (sym flat_is ∙ same)) ∙ sym met_is ∙ a))
+                of _ (OnlyWide w broad) = absurd (true≢false (sym broad ∙ wide_is (insn.Move slot to from) to (is_wide_slot slot) is refl ∙ thin))
+
+      -- ---- gets of static fields
+
+      -- what is left of a field is what is known of it as its kind lets it be, or anything
+      field_met : (k : FieldKey) → (name.field_value flat q (met_solution n reached f.table f.closed f.registers f.there) k ≡ met (name_kind.kind_of q k.kind) (name.field_value flat q f.table k))
+          ⊎ (name.field_value flat q f.table k ≡ Any)
+      field_met k = by (finds_field q k)
+        where
+          by : (y : Option (Text × NamedField)) → ((elim y as (λ y. Flat) [ Some g ↦ met (name_kind.kind_of q k.kind) (f.table.fields (name.own_key k g)) | None ↦ Any ]) ≡ met (name_kind.kind_of q k.kind) (elim y as (λ y. Flat) [ Some g ↦ f.table.fields (name.own_key k g) | None ↦ Any ]))
+              ⊎ ((elim y as (λ y. Flat) [ Some g ↦ f.table.fields (name.own_key k g) | None ↦ Any ]) ≡ Any)
+          by None = inr refl
+          by (Some g) = inl refl
+
+      field_null : (to field : ℕ) → i ≡ insn.StaticGet item.Object to field → (k : Number) → Knows k → is_null k ≡ true
+      field_null to field is k z = of k z
+        where
+          here_is : f.to ≡ to
+          here_is = to_is (insn.StaticGet item.Object to field) to false is refl
+
+          narrow : wide ≡ false
+          narrow = wide_is (insn.StaticGet item.Object to field) to false is refl
+
+          put_is : (d : Solution) (a : ℕ → Flat) → left_of p d key.class (option_map (form_of p) before) (insn.StaticGet item.Object to field) a f.to ≡ name.field_value flat q d (field_at p field)
+          put_is d a = ap (name.put flat a to (name.field_value flat q d (field_at p field))) here_is ∙ put_itself a to (name.field_value flat q d (field_at p field))
+
+          flat_is : known_flat ≡ name.field_value flat q f.table (field_at p field)
+          flat_is = ap (λ (j : Insn). left_of p f.table key.class (option_map (form_of p) before) j f.registers f.to) is ∙ put_is f.table f.registers
+
+          met_is : met_flat reads ≡ name.field_value flat q (met_solution n reached f.table f.closed f.registers f.there) (field_at p field)
+          met_is = ap (λ (j : Insn). left_of p (met_solution n reached f.table f.closed f.registers f.there) key.class (option_map (form_of p) before) j (met_here n reached f.table f.closed f.registers f.there reads) f.to) is
+              ∙ put_is (met_solution n reached f.table f.closed f.registers f.there) (met_here n reached f.table f.closed f.registers f.there reads)
+
+          reference : is_reference (field_at p field).kind ≡ true
+          reference =
+              let s = suited n reached f.table f.closed f.registers f.there in
+              let fl = field_at p field in
+              let wrong = subst (λ (j : Insn). is_wrong q x.class x.method s.kinds (form_of p j) ≡ false) is (right_at q x.class x.method nb kept kept_typing n (form_of p i) s.kinds (got_map (form_of p) b.insns n i has_insn) s.state) in
+              not_false (is_reference fl.kind) (or_false_left (not (is_reference fl.kind)) (wrong_field q true fl) (or_false_left (not (is_reference fl.kind) || wrong_field q true fl) (wrong_first q fl) wrong))
+
+          zero : (w : ℕ) → known_flat ≡ KnownWord w → IsUnder (constant_value w) (met_flat reads) → w ≡ 0
+          zero w e u = by (field_met (field_at p field))
+            where
+              by : (name.field_value flat q (met_solution n reached f.table f.closed f.registers f.there) (field_at p field) ≡ met (name_kind.kind_of q (field_at p field).kind) (name.field_value flat q f.table (field_at p field)))
+                  ⊎ (name.field_value flat q f.table (field_at p field) ≡ Any) → w ≡ 0
+              by (inr a) = unknown (flat_is ∙ a)
+              by (inl a) =
+                  let k : Kind = name_kind.kind_of q (field_at p field).kind in
+                  let left : met_flat reads ≡ met k (KnownWord w) = met_is ∙ a ∙ ap (met k) (sym flat_is ∙ e) in
+                  of_either k left (exact_zero w (met_flat reads) u (ap null_fits left ∙ met_null k (KnownWord w) (reference_kind q (field_at p field).kind reference)))
+                where
+                  of_either : (k : Kind) → met_flat reads ≡ met k (KnownWord w) → (met_flat reads ≡ Any) ⊎ (w ≡ 0) → w ≡ 0
+                  of_either k left (inl a) = absurd (met_known k w (sym left ∙ a))
+                  of_either k left (inr z) = z
+
+          of : (k : Number) → Knows k → is_null k ≡ true
+          of _ Nothing = subst (λ (v : Bool). is_null (zero_number v) ≡ true) (sym narrow) refl
+          of _ (OnlyWord w e same u) = ap (λ (d : ℕ). d == 0) (zero w same u)
+          of _ (OnlyWide w broad) = absurd (true≢false (sym broad ∙ narrow))

@@ -1,12 +1,14 @@
 -- Kinds agree with what facts know, which are under a solution also where it says no more than kinds let be there.
-use Rattle.std.proofs.Common.{◌≡◌, ◌⊎◌, inl, inr, ℕ, zero, suc, ◌+◌, ◌-◌, ◌<◌, Bool, true, false, true≢false, Option, Some, None, refl, sym, ap, ◌∙◌, subst, arith, eqb-true}
-use Rattle.std.specs.Prelude.{◌||◌, ◌==◌, not, if◌then◌else◌, is_some, slice_get}
+use Rattle.std.proofs.Common.{List, [], ◌≡◌, ◌⊎◌, inl, inr, ℕ, zero, suc, ◌+◌, ◌-◌, ◌<◌, Bool, true, false, true≢false, Option, Some, None, refl, sym, ap, ◌∙◌, subst, arith, eqb-true}
+use Rattle.std.specs.Prelude.{◌&&◌, map, ◌||◌, ◌==◌, not, if◌then◌else◌, is_some, slice_get}
 use Rattle.std.specs.Option.{option_map, unwrap_or}
 use Rattle.std.specs.FinMap as finite
-use Rattle.lemmas.proofs.Bools.{and_left, clash, not_false, or_false_left, untrue}
+use Rattle.lemmas.proofs.Bools.{and_left, and_right, clash, not_false, or_false_left, untrue}
 use Rattle.lemmas.proofs.Lists.{got_map}
+use Rattle.lemmas.proofs.Numbers.{next_is}
 use Rattle.lemmas.proofs.Options.{before_map, none_some, some_same}
 use Rattle.insn_set.specs.Widths.{is_wide_slot}
+use Rattle.insn_set.specs.declared.ops.InvokeKind.{InvokeKind}
 use Rattle.insn_set.specs.declared.ops.Item.TheVariants as item
 use Rattle.insn_set.specs.declared.ops.Slot.{Slot}
 use Rattle.insn_set.specs.declared.ops.Slot.TheVariants as slot
@@ -23,19 +25,22 @@ use Rattle.hierarchy.specs.declared.build.Hierarchy.{Hierarchy}
 use Rattle.verify.specs.Flow.{place_at}
 use Rattle.verify.specs.Frames as frames
 use Rattle.verify.specs.Kinds as number
+use Rattle.verify.specs.Methods.{TypesFor}
 use Rattle.verify.specs.Typings as typings
 use Rattle.verify.specs.Typings.{kind_before}
 use Rattle.verify.specs.declared.kinds.Kind as verify
 use Rattle.verify.specs.declared.kinds.Kind.TheVariants as kind
 use Rattle.dalvik_defs.specs.Face.{bodies_of}
-use Rattle.dalvik_defs.specs.Find.{finds_field}
+use Rattle.dalvik_defs.specs.Find.{finds_field, Found}
 use Rattle.dalvik_defs.specs.Flags.{is_static}
 use Rattle.dalvik_defs.specs.Names.{is_array, is_reference, is_wide, is_word as is_word_type, Text}
 use Rattle.dalvik_defs.specs.Naming.{body_of, field_at, form_of, method_at, named, type_at}
 use Rattle.dalvik_defs.specs.Outer.{outer_of}
 use Rattle.dalvik_defs.specs.declared.forms.Form.{Form}
+use Rattle.dalvik_defs.specs.declared.forms.Form.TheVariants as form
 use Rattle.dalvik_defs.specs.declared.names.FieldKey.{FieldKey}
 use Rattle.dalvik_defs.specs.declared.names.MethodKey.{MethodKey}
+use Rattle.dalvik_defs.specs.declared.names.Signature.{Signature}
 use Rattle.dalvik_defs.specs.declared.program.NamedBody.{NamedBody}
 use Rattle.dalvik_defs.specs.declared.program.NamedField.{NamedField}
 use Rattle.dalvik_defs.specs.declared.program.NamedProgram.{NamedProgram}
@@ -46,27 +51,33 @@ use Rattle.dom_frame.specs.declared.frames.Frame.{Frame}
 use Rattle.facts.specs.Lent.{frame_at}
 use Rattle.facts.specs.declared.facts.Facts.{Facts}
 use Rattle.pass_defs.specs.Constants.{flat, IsAlwaysReached, IsSolution, Solution}
-use Rattle.pass_defs.specs.Demands.{is_allowed, is_moved}
+use Rattle.pass_defs.specs.Calls.{may_find}
+use Rattle.pass_defs.specs.Demands.{is_allowed, is_moved, result_fits}
 use Rattle.pass_defs.specs.Facts as name
-use Rattle.pass_defs.specs.Flat.{Flat, Any, Bottom, KnownWide, KnownWord}
+use Rattle.pass_defs.specs.Leaves.{may_leave}
+use Rattle.pass_defs.specs.Quiet.{takes_result}
+use Rattle.pass_defs.specs.Flat.{FlatBelow, Flat, Any, Bottom, KnownWide, KnownWord}
 use Rattle.pass_defs.specs.Foldable.{constant_of, FoldsToNumber}
 use Rattle.pass_defs.specs.Kinds as name_kind
-use Rattle.pass_defs.specs.Kinds.{Kind}
-use Rattle.pass_defs.specs.Registers.{Kinds, kind_at}
-use Rattle.pass_defs.specs.Typed.{is_wrong, IsTyping, state_at, Table, words_of, wrong_field, wrong_first}
+use Rattle.pass_defs.specs.Kinds.{is_below, Kind}
+use Rattle.pass_defs.specs.Registers.{all_below, Kinds, kind_at, kinds_below}
+use Rattle.pass_defs.specs.Typed.{called, is_wrong, IsTyping, state_at, Table, words_of, wrong_field, wrong_first}
 use Rattle.bodies_kept.proofs.Rooted.{rooted}
 use Rattle.program_laws.proofs.Transitive.{transitive}
 use Rattle.program_laws.proofs.WellFormed.{well_placed}
+use Rattle.form_laws.proofs.Arriving.{onward_arrives}
 use Rattle.form_laws.proofs.Typings.{allowed_at, right_at}
 use Rattle.program_laws.specs.Results.{AllTakeInPlace}
 use Rattle.removal_law.proofs.Declared.{method_same}
-use Rattle.form_laws.specs.Typed.{IsOrdered, taken_table}
+use Rattle.form_laws.specs.Typed.{has_front, IsOrdered, taken_table}
 use Rattle.removal_bridge.proofs.Formed.{regular_program}
 use Rattle.removal_bridge.proofs.TypedFormed as stuck
 use Rattle.removal_law.specs.Reach.{IsRegular}
 use Rattle.facts_kept.proofs.Bodies.{got_state}
 use Rattle.facts_kept.proofs.Places.{own_key}
 use Rattle.facts_kept.proofs.Beneath.{reference_only}
+use Rattle.facts_kept.proofs.Letters.{letter_same}
+use Rattle.removal_law.proofs.Lists.{here, In}
 use Rattle.type_bridge.specs.Views.{array_kind, class_kind, kind_named, kinds_named, method_table}
 use Rattle.type_bridge.proofs.Back.{some_dimension}
 use Rattle.type_bridge.proofs.Frames.{at_named}
@@ -81,13 +92,16 @@ use Rattle.const_prop.specs.declared.numbers.Number.TheVariants.{Wide, Word}
 use Rattle.const_prop.specs.Allowed.{insn_before}
 use Rattle.const_prop.specs.Constants.{result_of}
 use Rattle.const_prop.specs.Given.{given, number_at}
-use Rattle.const_prop.specs.Kinds.{in_kind, is_free, is_null, is_word}
+use Rattle.const_prop.specs.Kinds.{fits, in_kind, in_result, in_type, is_free, is_narrow_move, is_null, is_typed_so, is_wide_number, is_word, letter, typing_fits}
 use Rattle.const_prop.specs.Known.{zero_number}
 use Rattle.fold_law.specs.Asked.{IsSettled}
 use Rattle.fold_law.specs.Met.{HaveDimensions, MetBounds}
 use Rattle.fold_law.specs.Typings.{AreTypings, BodyOf, is_any, met, met_registers, met_table, null_fits, restricted, suits}
 use Rattle.fold_law.proofs.Known as known
-use Rattle.fold_law.proofs.Known.{gives, left_under, low, put_itself}
+use Rattle.fold_law.proofs.Joined.{all_least, all_null, below_on, met_below, one_in_join}
+use Rattle.fold_law.proofs.Known.{gives, left_under, low, put_itself, put_there}
+use Rattle.fold_law.proofs.Letters.{IsFor, letter_object, letter_wide, letter_word, slot_type}
+use Rattle.fold_law.proofs.Methods.{found_signature}
 use Rattle.fold_law.proofs.Numbers.{IsAbout, OneWide, OneWord, Zero}
 use Rattle.fold_law.proofs.Pure.{apart, no_word, same_word}
 use Rattle.fold_law.proofs.Restricted.{restricted_closed, Stands, stood}
@@ -429,12 +443,12 @@ module _ (p : Program) (h : Hierarchy) (o : Outside) (t : Facts) (settled : IsSe
 
                 of : (k : Number) → Knows k → in_kind l k ≡ true
                 of _ Nothing = subst (λ (v : Bool). in_kind l (zero_number v) ≡ true) (sym (wide_is (insn.Move slot to from) to (is_wide_slot slot) is refl ∙ thin)) (zero_fits p l moved_is fresh d)
-                of _ (OnlyWord w narrow same u) = word_in_kind p l w moved_is fresh d (λ g. zero (exact_zero w (met_flat reads) u
+                of _ (OnlyWord w narrow same u) = word_in_kind p l w moved_is fresh d (λ g. null (exact_zero w (met_flat reads) u
                     (ap null_fits met_is ∙ met_null (kind_at reads.registers from) (f.registers from) (ap name_kind.is_initialised e ∙ g))))
                   where
-                    zero : (met_flat reads ≡ Any) ⊎ (w ≡ 0) → w ≡ 0
-                    zero (inr z) = z
-                    zero (inl a) = absurd (met_known (kind_at reads.registers from) w (ap (met (kind_at reads.registers from)) (sym (sym flat_is ∙ same)) ∙ sym met_is ∙ a))
+                    null : (met_flat reads ≡ Any) ⊎ (w ≡ 0) → w ≡ 0
+                    null (inr z) = z
+                    null (inl a) = absurd (met_known (kind_at reads.registers from) w (ap (met (kind_at reads.registers from)) (sym (sym flat_is ∙ same)) ∙ sym met_is ∙ a))
                 of _ (OnlyWide w broad) = absurd (true≢false (sym broad ∙ wide_is (insn.Move slot to from) to (is_wide_slot slot) is refl ∙ thin))
 
       -- ---- gets of static fields
@@ -475,8 +489,8 @@ module _ (p : Program) (h : Hierarchy) (o : Outside) (t : Facts) (settled : IsSe
               let wrong = subst (λ (j : Insn). is_wrong q x.class x.method s.kinds (form_of p j) ≡ false) is (right_at q x.class x.method nb kept kept_typing n (form_of p i) s.kinds (got_map (form_of p) b.insns n i has_insn) s.state) in
               not_false (is_reference fl.kind) (or_false_left (not (is_reference fl.kind)) (wrong_field q true fl) (or_false_left (not (is_reference fl.kind) || wrong_field q true fl) (wrong_first q fl) wrong))
 
-          zero : (w : ℕ) → known_flat ≡ KnownWord w → IsUnder (constant_value w) (met_flat reads) → w ≡ 0
-          zero w e u = by (field_met (field_at p field))
+          null : (w : ℕ) → known_flat ≡ KnownWord w → IsUnder (constant_value w) (met_flat reads) → w ≡ 0
+          null w e u = by (field_met (field_at p field))
             where
               by : (name.field_value flat q (met_solution n reached f.table f.closed f.registers f.there) (field_at p field) ≡ met (name_kind.kind_of q (field_at p field).kind) (name.field_value flat q f.table (field_at p field)))
                   ⊎ (name.field_value flat q f.table (field_at p field) ≡ Any) → w ≡ 0
@@ -492,5 +506,160 @@ module _ (p : Program) (h : Hierarchy) (o : Outside) (t : Facts) (settled : IsSe
 
           of : (k : Number) → Knows k → is_null k ≡ true
           of _ Nothing = subst (λ (v : Bool). is_null (zero_number v) ≡ true) (sym narrow) refl
-          of _ (OnlyWord w e same u) = ap (λ (d : ℕ). d == 0) (zero w same u)
+          of _ (OnlyWord w e same u) = ap (λ (d : ℕ). d == 0) (null w same u)
           of _ (OnlyWide w broad) = absurd (true≢false (sym broad ∙ narrow))
+
+      -- ---- moves of results
+
+      taken_is : (s : Slot) (to : ℕ) (d : Solution) (a : ℕ → Flat) → f.to ≡ to → left_of p d key.class (option_map (form_of p) before) (insn.MoveResult s to) a f.to ≡ name.call_result flat q d key.class (option_map (form_of p) before)
+      taken_is s to d a same =
+          ap (name.put_sized flat (name.is_wide_slot flat s) a to (name.call_result flat q d key.class (option_map (form_of p) before))) same
+          ∙ put_there (name.is_wide_slot flat s) a to (name.call_result flat q d key.class (option_map (form_of p) before))
+
+      module _ (s : Slot) (to : ℕ) (is : i ≡ insn.MoveResult s to) where
+        slot_wide : wide ≡ is_wide_slot s
+        slot_wide = wide_is (insn.MoveResult s to) to (is_wide_slot s) is refl
+
+        result_flat : known_flat ≡ name.call_result flat q f.table key.class (option_map (form_of p) before)
+        result_flat = ap (λ (j : Insn). left_of p f.table key.class (option_map (form_of p) before) j f.registers f.to) is ∙ taken_is s to f.table f.registers (to_is (insn.MoveResult s to) to (is_wide_slot s) is refl)
+
+        result_met : met_flat reads ≡ name.call_result flat q (met_solution n reached f.table f.closed f.registers f.there) key.class (option_map (form_of p) before)
+        result_met = ap (λ (j : Insn). left_of p (met_solution n reached f.table f.closed f.registers f.there) key.class (option_map (form_of p) before) j (met_here n reached f.table f.closed f.registers f.there reads) f.to) is
+            ∙ taken_is s to (met_solution n reached f.table f.closed f.registers f.there) (met_here n reached f.table f.closed f.registers f.there reads) (to_is (insn.MoveResult s to) to (is_wide_slot s) is refl)
+
+        place_fits : result_fits s reads.result ≡ true
+        place_fits = and_left (result_fits s reads.result) true (subst (λ (j : Insn). is_allowed q x.class x.method reads (form_of p j) ≡ true) is allowed)
+
+        -- what a call leaves comes behind it
+        called_below : (j : ℕ) (kind : InvokeKind) (method : ℕ) (args : List ℕ) → slice_get b.insns j ≡ Some (insn.Invoke kind method args) → is_some (state_at table j) ≡ true → state_at table (suc j) ≡ Some reads
+            → is_below q (name_kind.kind_of q (method_at p method).signature.result) reads.result ≡ true
+        called_below j kind method args e some state = by (state_at table j) refl some
+          where
+            g : Form
+            g = form.Invoke kind (method_at p method) args
+
+            below_result : (y l : Kinds) → kinds_below q y l ≡ true → is_below q y.result l.result ≡ true
+            below_result y l e = and_right (all_below q y.registers l.registers) (is_below q y.result l.result)
+                (and_left (all_below q y.registers l.registers && is_below q y.result l.result) (is_below q y.caught l.caught)
+                (and_left (all_below q y.registers l.registers && is_below q y.result l.result && is_below q y.caught l.caught) (is_below q y.receiver l.receiver) e))
+
+            by : (y : Option Kinds) → state_at table j ≡ y → is_some y ≡ true → is_below q (name_kind.kind_of q (method_at p method).signature.result) reads.result ≡ true
+            by None d z = absurd (true≢false (sym z))
+            by (Some y) d z =
+                let on = onward_arrives q x.class x.method nb table typing j (form.Invoke kind (method_at p method) args) y (got_map (form_of p) b.insns j (insn.Invoke kind method args) e) d (j + 1) (here []) in
+                let same : on.0 ≡ reads = some_same on.0 reads (sym on.1.0 ∙ ap (state_at table) (next_is j) ∙ state) in
+                subst (λ (l : Kinds). is_below q (name_kind.kind_of q (method_at p method).signature.result) l.result ≡ true) same
+                (below_result (called q x.class kind (method_at p method) args y) on.0 on.1.1)
+
+        -- the result of a call that a solution knows
+        module _ (kind : InvokeKind) (method : ℕ) (args : List ℕ) (call : before ≡ Some (insn.Invoke kind method args)) where
+          abbrev called_key : MethodKey
+          called_key = method_at p method
+
+          abbrev called_type : Text
+          called_type = (method_at p method).signature.result
+
+          type_below : is_below q (name_kind.kind_of q called_type) reads.result ≡ true
+          type_below =
+              let z = suited n reached f.table f.closed f.registers f.there in
+              let w = was_there nb table n z.kinds z.state in
+              at_place n call w.0 (w.1 (ap takes_result (got_map (form_of p) b.insns n i has_insn) ∙ ap (λ (j : Insn). takes_result (Some (form_of p j))) is))
+            where
+              at_place : (k : ℕ) → insn_before b.insns k ≡ Some (insn.Invoke kind method args) → state_at table k ≡ Some reads → has_front true table k ≡ true → is_below q (name_kind.kind_of q called_type) reads.result ≡ true
+              at_place zero e s g = none_some (insn.Invoke kind method args) e
+              at_place (suc j) e s g = called_below j kind method args e g s
+
+          abbrev answer : Solution → Flat
+          answer d = name.call_result flat q d key.class (Some (form.Invoke kind called_key args))
+
+          flat_answer : known_flat ≡ answer f.table
+          flat_answer = result_flat ∙ ap (λ (z : Option Insn). name.call_result flat q f.table key.class (option_map (form_of p) z)) call
+
+          met_answer : met_flat reads ≡ answer (met_solution n reached f.table f.closed f.registers f.there)
+          met_answer = result_met ∙ ap (λ (z : Option Insn). name.call_result flat q (met_solution n reached f.table f.closed f.registers f.there) key.class (option_map (form_of p) z)) call
+
+          null_answer : (w : ℕ) → is_reference called_type ≡ true → known_flat ≡ KnownWord w → IsUnder (constant_value w) (met_flat reads) → w ≡ 0
+          null_answer w r e u = by (may_leave q key.class kind called_key) (sym flat_answer ∙ e) (subst (IsUnder (constant_value w)) met_answer u)
+            where
+              abbrev gs : List Found
+              gs = may_find q key.class kind called_key
+
+              abbrev whole : Found → Flat
+              whole g = f.table.results g.key
+
+              abbrev less_of : Found → Flat
+              less_of g = met (name_kind.kind_of q g.key.signature.result) (f.table.results g.key)
+
+              null_each : (g : Found) → In g gs → null_fits (less_of g) ≡ true
+              null_each g k = met_null (name_kind.kind_of q g.key.signature.result) (f.table.results g.key)
+                  (reference_kind q g.key.signature.result (ap (λ (y : Signature). is_reference y.result) (found_signature q regular key.class kind called_key g k) ∙ r))
+
+              least : name.all_joined flat (map whole gs) ≡ KnownWord w → FlatBelow (name.all_joined flat (map less_of gs)) (KnownWord w)
+              least d = subst (FlatBelow (name.all_joined flat (map less_of gs))) d
+                  (all_least less_of gs (name.all_joined flat (map whole gs)) (λ g k. below_on (less_of g) (whole g) (name.all_joined flat (map whole gs)) (met_below (name_kind.kind_of q g.key.signature.result) (whole g)) (one_in_join whole gs g k)))
+
+              of : (z : Flat) → FlatBelow z (KnownWord w) → (z ≡ Any) ⊎ (w ≡ 0) → w ≡ 0
+              of z b (inr e) = e
+              of z b (inl e) = absurd (subst (λ (y : Flat). FlatBelow y (KnownWord w)) e b)
+
+              by : (v : Bool) → (if v then Any else name.all_joined flat (map whole gs)) ≡ KnownWord w → IsUnder (constant_value w) (if v then Any else name.all_joined flat (map less_of gs)) → w ≡ 0
+              by true d u = absurd (true≢false (ap is_any d))
+              by false d u = of (name.all_joined flat (map less_of gs)) (least d) (exact_zero w (name.all_joined flat (map less_of gs)) u (all_null less_of gs null_each))
+
+          call_fits : (k : Number) → Knows k → in_type (letter called_type) k ≡ true
+          call_fits k z = by s slot_wide (slot_type q s called_type reads.result place_fits type_below) k z
+            where
+              by : (s : Slot) → wide ≡ is_wide_slot s → IsFor s called_type → (k : Number) → Knows k → in_type (letter called_type) k ≡ true
+              by slot.Wide v g _ Nothing = letter_wide q called_type (zero_number wide) g (subst (λ (c : Bool). is_wide_number (zero_number c) ≡ true) (sym v) refl)
+              by slot.Wide v g _ (OnlyWord w narrow same u) = absurd (true≢false (sym v ∙ narrow))
+              by slot.Wide v g _ (OnlyWide w broad) = letter_wide q called_type (Wide w) g refl
+              by slot.Word v g _ Nothing = letter_word q called_type (zero_number wide) g (subst (λ (c : Bool). is_wide_number (zero_number c) ≡ false) (sym v) refl)
+              by slot.Word v g _ (OnlyWord w narrow same u) = letter_word q called_type (Word w) g refl
+              by slot.Word v g _ (OnlyWide w broad) = absurd (true≢false (sym broad ∙ v))
+              by slot.Object v g _ Nothing = letter_object q called_type (zero_number wide) g (subst (λ (c : Bool). is_null (zero_number c) ≡ true) (sym v) refl)
+              by slot.Object v g _ (OnlyWord w narrow same u) = letter_object q called_type (Word w) g (ap (λ (d : ℕ). d == 0) (null_answer w g same u))
+              by slot.Object v g _ (OnlyWide w broad) = absurd (true≢false (sym broad ∙ v))
+
+        result_lets : (k : Number) → Knows k → in_result p before k ≡ true
+        result_lets k z = by before refl
+          where
+            unanswered : (y : Option Insn) → before ≡ y → name.call_result flat q f.table key.class (option_map (form_of p) y) ≡ Any → {P : Type 0} → P
+            unanswered y e a = unknown (result_flat ∙ ap (λ (z : Option Insn). name.call_result flat q f.table key.class (option_map (form_of p) z)) e ∙ a)
+
+            by : (y : Option Insn) → before ≡ y → in_result p y k ≡ true
+            by None e = unanswered None e refl
+            by (Some (insn.Invoke kind method args)) e = ap (λ l. in_type l k) (letter_same p method) ∙ call_fits kind method args e k z
+            by (Some j) e = unanswered (Some j) e refl
+
+      -- ---- what the kinds say of each form
+
+      agrees_here : (asks : Option typings.Table) → (is_narrow_move i ≡ true → (cls : Class) × (y : typings.Table) × (asks ≡ Some y) × (table ≡ method_table p cls y) × TypesFor p h at y) → (k : Number) → Knows k → is_typed_so asks n i (Some k) ≡ true
+      agrees_here asks g k z = by i refl
+        where
+          one : (s : Slot) (to from : ℕ) → i ≡ insn.Move s to from → is_wide_slot s ≡ false → is_narrow_move (insn.Move s to from) ≡ true → typing_fits asks n (insn.Move s to from) (Some k) ≡ true
+          one s to from e thin nm =
+              let w = g (ap is_narrow_move e ∙ nm) in
+              ap (λ (o : Option typings.Table). typing_fits o n (insn.Move s to from) (Some k)) w.2
+              ∙ lets s to from e thin w.0 w.1 w.3 (λ r j. dimensions at w.1 w.4 n r j) k z
+
+          by : (j : Insn) → i ≡ j → is_typed_so asks n j (Some k) ≡ true
+          by (insn.Move slot.Word to from) e = one slot.Word to from e refl refl
+          by (insn.Move slot.Object to from) e = one slot.Object to from e refl refl
+          by (insn.Move slot.Wide to from) e = refl
+          by j e = refl
+
+      fits_here : (k : Number) → Knows k → fits p before i k ≡ true
+      fits_here k z = subst (λ (j : Insn). fits p before j k ≡ true) refl (by i refl)
+        where
+          nothing : (j : Insn) (to : ℕ) → i ≡ j → result_of j ≡ Some (to, false) → ((a : ℕ → Flat) → left_of p f.table key.class (option_map (form_of p) before) j a ≡ name.put flat a to Any) → {P : Type 0} → P
+          nothing j to e d same = unknown (ap (λ (j : Insn). left_of p f.table key.class (option_map (form_of p) before) j f.registers f.to) e ∙ ap (λ (y : ℕ → Flat). y f.to) (same f.registers)
+              ∙ ap (name.put flat f.registers to Any) (to_is j to false e d) ∙ put_itself f.registers to Any)
+
+          by : (j : Insn) → i ≡ j → fits p before j k ≡ true
+          by (insn.MoveResult s to) e = result_lets s to e k z
+          by (insn.MoveException to) e = nothing (insn.MoveException to) to e refl (λ a. refl)
+          by (insn.ConstString to string) e = nothing (insn.ConstString to string) to e refl (λ a. refl)
+          by (insn.ConstClass to kind) e = nothing (insn.ConstClass to kind) to e refl (λ a. refl)
+          by (insn.StaticGet item.Object to field) e = field_null to field e k z
+          by (insn.StaticGet it to field) e = refl
+          by j e = refl

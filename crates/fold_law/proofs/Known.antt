@@ -94,7 +94,7 @@ before_same p b (suc n) = get_map (form_of p) b.insns n
 pub put_itself : (a : ℕ → Flat) (to : ℕ) (g : Flat) → name.put flat a to g to ≡ g
 put_itself a to g = ap (λ (b : Bool). if b then g else a to) (same_number to)
 
-put_there : (wide : Bool) (a : ℕ → Flat) (to : ℕ) (g : Flat) → name.put_sized flat wide a to g to ≡ g
+pub put_there : (wide : Bool) (a : ℕ → Flat) (to : ℕ) (g : Flat) → name.put_sized flat wide a to g to ≡ g
 put_there false a to g = put_itself a to g
 put_there true a to g = ap (λ (b : Bool). if b then Any else name.put flat a to g to) (apart to) ∙ put_itself a to g
   where

@@ -10,5 +10,7 @@ pub mod Entries
 pub mod Methods
 pub mod Restricted
 pub mod Tables
+pub mod Joined
+pub mod Letters
 pub mod Agreeing
 pub mod Whole

@@ -135,6 +135,11 @@ module _ (p : NamedProgram) (regular : IsRegular p) where
   found_one Nothing g i = elim i [ ]
   found_one Clash g i = elim i [ ]
 
+  verdict_in : (g : Found) (xs : List Found) → verdict xs ≡ Finds g → In g xs
+  verdict_in g [] i = nothing_finds g i
+  verdict_in g (x ∷ []) i = subst (λ (y : Found). In y (x ∷ [])) (finds_same x g i) (here [])
+  verdict_in g (x ∷ y ∷ xs) i = absurd (cc)
+
   super_name : (class : Text) (k : MethodKey) (g : Found) → finds_super p class k ≡ Finds g → is_constructor_name g.key.name ≡ true → is_constructor_name k.name ≡ true
   super_name class k g e c = by (is_037 p.version) e
     where
@@ -147,13 +152,8 @@ module _ (p : NamedProgram) (regular : IsRegular p) where
       among : (ts : List Text) → finds_among p ts k.name k.signature ≡ Finds g → is_constructor_name k.name ≡ true
       among ts i = absurd (method_of_ordinary k.name k.signature g (candidate p everything keeps regular k.name k.signature ts g (lowest_in (λ f. f.coded && is_lowest p (candidates p ts k.name k.signature) f) (candidates p ts k.name k.signature) i)) c)
         where
-          verdict_in : (xs : List Found) → verdict xs ≡ Finds g → In g xs
-          verdict_in [] i = nothing_finds g i
-          verdict_in (x ∷ []) i = subst (λ (y : Found). In y (x ∷ [])) (finds_same x g i) (here [])
-          verdict_in (x ∷ y ∷ xs) i = absurd (cc)
-
           lowest_in : (keep : Found → Bool) (xs : List Found) → verdict (filter keep xs) ≡ Finds g → In g xs
-          lowest_in keep xs i = filter_in keep g xs (verdict_in (filter keep xs) i)
+          lowest_in keep xs i = filter_in keep g xs (verdict_in g (filter keep xs) i)
 
       named : (x : Option NamedClass) → finds_super_037 p class k x ≡ Finds g → is_constructor_name k.name ≡ true
       named (Some d) i = one (is_interface d.flags) i
@@ -206,3 +206,64 @@ module _ (p : NamedProgram) (regular : IsRegular p) where
       let class : x.class ≡ w.class = some_same x.class w.class (sym x.is_class ∙ ap (λ (j : MethodKey). class_named p j.class) w.key ∙ w.named) in
       let method : x.method ≡ w.method = some_same x.method w.method (sym x.is_method ∙ ap (λ (j : MethodKey). method_in x.class j.name j.signature) w.key ∙ ap (λ (c : NamedClass). method_in c k.name k.signature) class ∙ w.found) in
       ap (λ (m : NamedMethod). is_static m.flags) method ∙ ap (λ (h : Found). is_static h.flags) w.is
+
+  -- ---- what a call may find has the signature that it names
+
+  method_of_signature : (n : Text) (g : Signature) (f : Found) → IsMethodOf p n g f → f.key.signature ≡ g
+  method_of_signature n g f x = ap (λ (k : MethodKey). k.signature) x.key_is
+
+  along_signature : (k : MethodKey) (cs : List NamedClass) (g : Found) → search_of (first_method (λ m. true) k.name k.signature cs) ≡ Finds g → g.key.signature ≡ k.signature
+  along_signature k cs g e =
+      let z = searched (first_method (λ m. true) k.name k.signature cs) g e in
+      ap (λ (j : MethodKey). j.signature) (where_key everything (λ m. true) k.name k.signature cs g (first_where (λ m. true) k.name k.signature cs g z))
+
+  among_signature : (k : MethodKey) (ts : List Text) (g : Found) → finds_among p ts k.name k.signature ≡ Finds g → g.key.signature ≡ k.signature
+  among_signature k ts g e = method_of_signature k.name k.signature g (candidate p everything keeps regular k.name k.signature ts g
+      (filter_in (λ f. f.coded && is_lowest p (candidates p ts k.name k.signature) f) g (candidates p ts k.name k.signature)
+      (verdict_in g (filter (λ f. f.coded && is_lowest p (candidates p ts k.name k.signature) f) (candidates p ts k.name k.signature)) e)))
+
+  super_signature : (class : Text) (k : MethodKey) (g : Found) → finds_super p class k ≡ Finds g → g.key.signature ≡ k.signature
+  super_signature class k g e = by (is_037 p.version) e
+    where
+      named : (x : Option NamedClass) → finds_super_037 p class k x ≡ Finds g → g.key.signature ≡ k.signature
+      named (Some d) i = one (is_interface d.flags) i
+        where
+          one : (b : Bool) → (elim b as (λ b. Search) [ true ↦ finds_among p (d.name ∷ []) k.name k.signature | false ↦ finds_above p class k ]) ≡ Finds g → g.key.signature ≡ k.signature
+          one true j = among_signature k (d.name ∷ []) g j
+          one false j = along_signature k (chain_of p (superclass_of p class)) g j
+      named None i = one (lists_interface p class k.class) i
+        where
+          one : (b : Bool) → (elim b as (λ b. Search) [ true ↦ Nothing | false ↦ finds_above p class k ]) ≡ Finds g → g.key.signature ≡ k.signature
+          one true j = nothing_finds g j
+          one false j = along_signature k (chain_of p (superclass_of p class)) g j
+
+      by : (b : Bool) → (elim b as (λ b. Search) [ true ↦ finds_super_037 p class k (class_named p k.class) | false ↦ finds_above p class k ]) ≡ Finds g → g.key.signature ≡ k.signature
+      by true i = named (class_named p k.class) i
+      by false i = along_signature k (chain_of p (superclass_of p class)) g i
+
+  candidate_signature : (k : MethodKey) (g : Found) → In g (super_candidates p k) → g.key.signature ≡ k.signature
+  candidate_signature k g i = by (is_037 p.version && is_some (interface_named p k.class)) i
+    where
+      by : (b : Bool) → In g (elim b as (λ b. List Found) [ true ↦ candidates p (k.class ∷ []) k.name k.signature | false ↦ [] ]) → g.key.signature ≡ k.signature
+      by true j = method_of_signature k.name k.signature g (candidate p everything keeps regular k.name k.signature (k.class ∷ []) g j)
+      by false j = elim j [ ]
+
+  receiver_signature : (k : MethodKey) (g : Found) → In g (flat_map (λ t. found_by (finds_at p t k) ++ candidates_of p t k.name k.signature) (receivers p k.class)) → g.key.signature ≡ k.signature
+  receiver_signature k g i =
+      let w = out_of_flat (λ t. found_by (finds_at p t k) ++ candidates_of p t k.name k.signature) g (receivers p k.class) i in
+      by w.0 (in_either g (found_by (finds_at p w.0 k)) (candidates_of p w.0 k.name k.signature) w.1.1)
+    where
+      by : (t : Text) → In g (found_by (finds_at p t k)) ⊎ In g (candidates_of p t k.name k.signature) → g.key.signature ≡ k.signature
+      by t (inl j) = method_of_signature k.name k.signature g (answer p everything keeps regular k.name k.signature t g (at_in p everything keeps regular t k g (found_one (finds_at p t k) g j)))
+      by t (inr j) = method_of_signature k.name k.signature g (candidate p everything keeps regular k.name k.signature (flat_map (λ c. c.interfaces) (chain_of p t)) g j)
+
+  pub found_signature : (class : Text) (kind : InvokeKind) (k : MethodKey) (g : Found) → In g (may_find p class kind k) → g.key.signature ≡ k.signature
+  found_signature class call.Static k g i = along_signature k (chain_of p k.class) g (found_one (finds_statically p k) g i)
+  found_signature class call.Direct k g i = along_signature k (chain_of p k.class) g (found_one (finds_statically p k) g i)
+  found_signature class call.Super k g i = by (in_either g (found_by (finds_super p class k)) (super_candidates p k) i)
+    where
+      by : In g (found_by (finds_super p class k)) ⊎ In g (super_candidates p k) → g.key.signature ≡ k.signature
+      by (inl j) = super_signature class k g (found_one (finds_super p class k) g j)
+      by (inr j) = candidate_signature k g j
+  found_signature class call.Virtual k g i = receiver_signature k g i
+  found_signature class call.Interface k g i = receiver_signature k g i

@@ -1,10 +1,10 @@
 -- Kinds agree with what facts know, which are under a solution also where it says no more than kinds let be there.
-use Rattle.std.proofs.Common.{List, [], ◌≡◌, ◌⊎◌, inl, inr, ℕ, zero, suc, ◌+◌, ◌-◌, ◌<◌, Bool, true, false, true≢false, Option, Some, None, refl, sym, ap, ◌∙◌, subst, arith, eqb-true}
-use Rattle.std.specs.Prelude.{◌&&◌, map, ◌||◌, ◌==◌, not, if◌then◌else◌, is_some, slice_get}
+use Rattle.std.proofs.Common.{◌∷◌, List, [], ◌≡◌, ◌⊎◌, inl, inr, ℕ, zero, suc, ◌+◌, ◌-◌, ◌<◌, Bool, true, false, true≢false, Option, Some, None, refl, sym, ap, ◌∙◌, subst, arith, eqb-true}
+use Rattle.std.specs.Prelude.{Contains, ◌&&◌, map, ◌||◌, ◌==◌, not, if◌then◌else◌, is_some, slice_get}
 use Rattle.std.specs.Option.{option_map, unwrap_or}
 use Rattle.std.specs.FinMap as finite
-use Rattle.lemmas.proofs.Bools.{and_left, and_right, clash, not_false, or_false_left, untrue}
-use Rattle.lemmas.proofs.Lists.{got_map}
+use Rattle.lemmas.proofs.Bools.{or_left, or_right, and_left, and_right, clash, not_false, or_false_left, untrue}
+use Rattle.lemmas.proofs.Lists.{all_in, got_map}
 use Rattle.lemmas.proofs.Numbers.{next_is}
 use Rattle.lemmas.proofs.Options.{before_map, none_some, some_same}
 use Rattle.insn_set.specs.Widths.{is_wide_slot}
@@ -43,21 +43,25 @@ use Rattle.dalvik_defs.specs.declared.names.MethodKey.{MethodKey}
 use Rattle.dalvik_defs.specs.declared.names.Signature.{Signature}
 use Rattle.dalvik_defs.specs.declared.program.NamedBody.{NamedBody}
 use Rattle.dalvik_defs.specs.declared.program.NamedField.{NamedField}
+use Rattle.dalvik_defs.specs.declared.program.NamedClass.{NamedClass}
+use Rattle.dalvik_defs.specs.declared.program.NamedMethod.{NamedMethod}
 use Rattle.dalvik_defs.specs.declared.program.NamedProgram.{NamedProgram}
-use Rattle.domains.specs.Values.{constant_value, least_value, Parts}
-use Rattle.dom_frame.specs.Registers.{value_at}
+use Rattle.domains.specs.Values.{wide_value, constant_value, least_value, Parts}
+use Rattle.dom_frame.specs.Registers.{Registers, value_at}
 use Rattle.dom_frame.specs.Steps as step
 use Rattle.dom_frame.specs.declared.frames.Frame.{Frame}
+use Rattle.closed_facts.specs.Tables.{registers_at}
 use Rattle.facts.specs.Lent.{frame_at}
 use Rattle.facts.specs.declared.facts.Facts.{Facts}
-use Rattle.pass_defs.specs.Constants.{flat, IsAlwaysReached, IsSolution, Solution}
+use Rattle.pass_defs.specs.Constants.{flat, is_known, IsAlwaysReached, IsSolution, Solution}
 use Rattle.pass_defs.specs.Calls.{may_find}
-use Rattle.pass_defs.specs.Demands.{is_allowed, is_moved, result_fits}
+use Rattle.pass_defs.specs.Demands.{is_allowed, is_equality, is_moved, like, meets, result_fits, second_tested, tested}
 use Rattle.pass_defs.specs.Facts as name
 use Rattle.pass_defs.specs.Leaves.{may_leave}
 use Rattle.pass_defs.specs.Quiet.{takes_result}
 use Rattle.pass_defs.specs.Flat.{FlatBelow, Flat, Any, Bottom, KnownWide, KnownWord}
-use Rattle.pass_defs.specs.Foldable.{constant_of, FoldsToNumber}
+use Rattle.pass_defs.specs.Foldable as fold
+use Rattle.pass_defs.specs.Foldable.{constant_of, FoldsToNumber, FoldsToOutcome, operands}
 use Rattle.pass_defs.specs.Kinds as name_kind
 use Rattle.pass_defs.specs.Kinds.{is_below, Kind}
 use Rattle.pass_defs.specs.Registers.{all_below, Kinds, kind_at, kinds_below}
@@ -77,13 +81,14 @@ use Rattle.facts_kept.proofs.Bodies.{got_state}
 use Rattle.facts_kept.proofs.Places.{own_key}
 use Rattle.facts_kept.proofs.Beneath.{reference_only}
 use Rattle.facts_kept.proofs.Letters.{letter_same}
+use Rattle.reach_bridge.proofs.Held.{stands}
 use Rattle.removal_law.proofs.Lists.{here, In}
 use Rattle.type_bridge.specs.Views.{array_kind, class_kind, kind_named, kinds_named, method_table}
 use Rattle.type_bridge.proofs.Back.{some_dimension}
 use Rattle.type_bridge.proofs.Frames.{at_named}
 use Rattle.type_bridge.proofs.Judged.{state_is}
 use Rattle.flat_bounds.specs.Facts.{AreFactsUnder}
-use Rattle.flat_bounds.specs.Under.{IsUnder}
+use Rattle.flat_bounds.specs.Under.{AreUnder, ArriveUnder, IsUnder}
 use Rattle.flat_bridge.specs.Numbered.{numbered}
 use Rattle.flat_bridge.proofs.Standing.{Owned, owned}
 use Rattle.flat_law.proofs.Steps.{left_of}
@@ -101,9 +106,9 @@ use Rattle.fold_law.proofs.Known as known
 use Rattle.fold_law.proofs.Joined.{all_least, all_null, below_on, met_below, one_in_join}
 use Rattle.fold_law.proofs.Known.{gives, left_under, low, put_itself, put_there}
 use Rattle.fold_law.proofs.Letters.{IsFor, letter_object, letter_wide, letter_word, slot_type}
-use Rattle.fold_law.proofs.Methods.{found_signature}
+use Rattle.fold_law.proofs.Methods.{found_signature, in_first}
 use Rattle.fold_law.proofs.Numbers.{IsAbout, OneWide, OneWord, Zero}
-use Rattle.fold_law.proofs.Pure.{apart, no_word, same_word}
+use Rattle.fold_law.proofs.Pure.{apart, no_wide, no_word, same_word}
 use Rattle.fold_law.proofs.Restricted.{restricted_closed, Stands, stood}
 use Rattle.fold_law.proofs.Suits.{any_is, null_suits}
 use Rattle.fold_law.proofs.Tables.{class_stands, method_stands, tables_typed, tables_with, table_with, taken_typing, was_there}
@@ -140,6 +145,82 @@ word_known n (KnownWord m) to c e (inl h) = no_word n h
 word_known n (KnownWord m) to c e (inr h) = ap KnownWord (sym (same_word n m h.0))
 word_known n (KnownWide m) to c e (inl h) = no_word n h
 word_known n (KnownWide m) to c e (inr h) = apart n m h
+
+-- no wide number is where a number or a reference is read
+wide_unsuited : (k : Kind) (d : ℕ) → (name_kind.is_number k || name_kind.is_initialised k) ≡ true → suits k true (KnownWide d) ≡ true → ⊥
+wide_unsuited name_kind.Word d e h = true≢false (sym h)
+wide_unsuited name_kind.Zero d e h = true≢false (sym h)
+wide_unsuited name_kind.Null d e h = true≢false (sym h)
+wide_unsuited (name_kind.Class t) d e h = true≢false (sym h)
+wide_unsuited (name_kind.Array t) d e h = true≢false (sym h)
+wide_unsuited name_kind.Reference d e h = true≢false (sym h)
+wide_unsuited k d e h = true≢false (sym e)
+
+wide_unmet : (k : Kind) (v : Flat) (w : ℕ) → (name_kind.is_number k || name_kind.is_initialised k) ≡ true → is_known v ≡ true → IsUnder (wide_value w) (met k v) → ⊥
+wide_unmet k v w e known u = by v known (suits k true v) refl u
+  where
+    by : (v : Flat) → is_known v ≡ true → (b : Bool) → suits k true v ≡ b → IsUnder (wide_value w) (if b then v else Bottom) → ⊥
+    by v g false s u = no_wide w u
+    by (KnownWord d) g true s (inl u) = no_wide w u
+    by (KnownWord d) g true s (inr u) = apart d w (sym u.0)
+    by (KnownWide d) g true s u = wide_unsuited k d e s
+    by Bottom g true s u = true≢false (sym g)
+    by Any g true s u = true≢false (sym g)
+
+-- what a branch reads is a number or a reference
+operand_kind : (q : NamedProgram) (c : NamedClass) (m : NamedMethod) (a : Kinds) (f : Form) → fold.is_choice f ≡ true → is_allowed q c m a f ≡ true → (r : ℕ) → In r (operands f)
+    → (name_kind.is_number (kind_at a.registers r) || name_kind.is_initialised (kind_at a.registers r)) ≡ true
+operand_kind q c m a (form.If test x y target) h al r i = by (in_first r x (y ∷ []) i)
+  where
+    abbrev first : Bool
+    first = meets q c a.registers x (tested (is_equality test))
+
+    abbrev second : Bool
+    second = meets q c a.registers y (second_tested (is_equality test) (kind_at a.registers x))
+
+    one : (r : ℕ) (b : Bool) → meets q c a.registers r (tested b) ≡ true → (name_kind.is_number (kind_at a.registers r) || name_kind.is_initialised (kind_at a.registers r)) ≡ true
+    one r true e = e
+    one r false e = or_left (name_kind.is_number (kind_at a.registers r)) (name_kind.is_initialised (kind_at a.registers r)) e
+
+    alike : (r : ℕ) (k : Kind) → meets q c a.registers r (like k) ≡ true → (name_kind.is_number (kind_at a.registers r) || name_kind.is_initialised (kind_at a.registers r)) ≡ true
+    alike r name_kind.Zero e = e
+    alike r name_kind.Word e = or_left (name_kind.is_number (kind_at a.registers r)) (name_kind.is_initialised (kind_at a.registers r)) e
+    alike r k e = or_right (name_kind.is_number (kind_at a.registers r)) (name_kind.is_initialised (kind_at a.registers r)) e
+
+    two : (r : ℕ) (b : Bool) (k : Kind) → meets q c a.registers r (second_tested b k) ≡ true → (name_kind.is_number (kind_at a.registers r) || name_kind.is_initialised (kind_at a.registers r)) ≡ true
+    two r true k e = alike r k e
+    two r false k e = or_left (name_kind.is_number (kind_at a.registers r)) (name_kind.is_initialised (kind_at a.registers r)) e
+
+    by : (x ≡ r) ⊎ In r (y ∷ []) → (name_kind.is_number (kind_at a.registers r) || name_kind.is_initialised (kind_at a.registers r)) ≡ true
+    by (inl e) = subst (λ (r : ℕ). (name_kind.is_number (kind_at a.registers r) || name_kind.is_initialised (kind_at a.registers r)) ≡ true) e (one x (is_equality test) (and_left first (second && true) al))
+    by (inr j) = of (in_first r y [] j)
+      where
+        of : (y ≡ r) ⊎ In r [] → (name_kind.is_number (kind_at a.registers r) || name_kind.is_initialised (kind_at a.registers r)) ≡ true
+        of (inl e) = subst (λ (r : ℕ). (name_kind.is_number (kind_at a.registers r) || name_kind.is_initialised (kind_at a.registers r)) ≡ true) e
+            (two y (is_equality test) (kind_at a.registers x) (and_left second true (and_right first (second && true) al)))
+        of (inr k) = elim k [ ]
+operand_kind q c m a (form.IfZero test x target) h al r i = by (in_first r x [] i)
+  where
+    one : (r : ℕ) (b : Bool) → meets q c a.registers r (tested b) ≡ true → (name_kind.is_number (kind_at a.registers r) || name_kind.is_initialised (kind_at a.registers r)) ≡ true
+    one r true e = e
+    one r false e = or_left (name_kind.is_number (kind_at a.registers r)) (name_kind.is_initialised (kind_at a.registers r)) e
+
+    by : (x ≡ r) ⊎ In r [] → (name_kind.is_number (kind_at a.registers r) || name_kind.is_initialised (kind_at a.registers r)) ≡ true
+    by (inl e) = subst (λ (r : ℕ). (name_kind.is_number (kind_at a.registers r) || name_kind.is_initialised (kind_at a.registers r)) ≡ true) e (one x (is_equality test) (and_left (meets q c a.registers x (tested (is_equality test))) true al))
+    by (inr k) = elim k [ ]
+operand_kind q c m a (form.PackedSwitch on first targets) h al r i = by (in_first r on [] i)
+  where
+    by : (on ≡ r) ⊎ In r [] → (name_kind.is_number (kind_at a.registers r) || name_kind.is_initialised (kind_at a.registers r)) ≡ true
+    by (inl e) = subst (λ (r : ℕ). (name_kind.is_number (kind_at a.registers r) || name_kind.is_initialised (kind_at a.registers r)) ≡ true) e
+        (or_left (name_kind.is_number (kind_at a.registers on)) (name_kind.is_initialised (kind_at a.registers on)) (and_left (name_kind.is_number (kind_at a.registers on)) true al))
+    by (inr k) = elim k [ ]
+operand_kind q c m a (form.SparseSwitch on keys targets) h al r i = by (in_first r on [] i)
+  where
+    by : (on ≡ r) ⊎ In r [] → (name_kind.is_number (kind_at a.registers r) || name_kind.is_initialised (kind_at a.registers r)) ≡ true
+    by (inl e) = subst (λ (r : ℕ). (name_kind.is_number (kind_at a.registers r) || name_kind.is_initialised (kind_at a.registers r)) ≡ true) e
+        (or_left (name_kind.is_number (kind_at a.registers on)) (name_kind.is_initialised (kind_at a.registers on)) (and_left (name_kind.is_number (kind_at a.registers on)) true al))
+    by (inr k) = elim k [ ]
+operand_kind q c m a f h al r i = absurd (true≢false (sym h))
 
 -- the kind of a reference type is one of references
 reference_kind : (q : NamedProgram) (t : Text) → is_reference t ≡ true → name_kind.is_initialised (name_kind.kind_of q t) ≡ true
@@ -663,3 +744,21 @@ module _ (p : Program) (h : Hierarchy) (o : Outside) (t : Facts) (settled : IsSe
           by (insn.StaticGet item.Object to field) e = field_null to field e k z
           by (insn.StaticGet it to field) e = refl
           by j e = refl
+
+    -- ---- branches with known operands
+
+    module _ (n : ℕ) (i : Insn) (has_insn : slice_get b.insns n ≡ Some i) (reached : IsAlwaysReached q (outer_of p o) key n) (f : FoldsToOutcome q (outer_of p o) key n (form_of p i)) where
+      abbrev stood_at : Suited n reached f.knows.table f.knows.closed f.registers f.knows.there
+      stood_at = suited n reached f.knows.table f.knows.closed f.registers f.knows.there
+
+      branch_allowed : is_allowed q x.class x.method (suited n reached f.knows.table f.knows.closed f.registers f.knows.there).kinds (form_of p i) ≡ true
+      branch_allowed = let s = suited n reached f.knows.table f.knows.closed f.registers f.knows.there in allowed_at q x.class x.method nb kept kept_typing n (form_of p i) s.kinds (got_map (form_of p) b.insns n i has_insn) s.state
+
+      pub no_wide_there : (y : Registers) (r w : ℕ) → registers_at t m.name n ≡ Some y → Contains (operands (form_of p i)) r → value_at y r ≡ wide_value w → ⊥
+      no_wide_there y r w e k wide =
+          let s = suited n reached f.knows.table f.knows.closed f.registers f.knows.there in
+          let there = met_there n reached f.knows.table f.knows.closed f.registers f.knows.there s.kinds s.state s.less_there in
+          let under : AreUnder y (met_here n reached f.knows.table f.knows.closed f.registers f.knows.there s.kinds) =
+          subst (ArriveUnder y) there ((under_met n reached f.knows.table f.knows.closed f.registers f.knows.there).registers at m b n y has_method has_body e) in
+          wide_unmet (kind_at s.kinds.registers r) (f.registers r) w (operand_kind q x.class x.method s.kinds (form_of p i) f.chooses branch_allowed r (stands (operands (form_of p i)) r k))
+          (all_in (λ r. is_known (f.registers r)) (operands (form_of p i)) r k f.known) (subst (λ (v : Parts). IsUnder v (met (kind_at s.kinds.registers r) (f.registers r))) wide (under r))

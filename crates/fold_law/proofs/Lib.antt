@@ -13,4 +13,5 @@ pub mod Tables
 pub mod Joined
 pub mod Letters
 pub mod Agreeing
+pub mod Agreed
 pub mod Whole

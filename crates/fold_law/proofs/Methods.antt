@@ -33,7 +33,7 @@ use Rattle.fold_law.specs.Typings.{BodyOf}
 
 -- ---- lists
 
-in_first : {A : Type 0} (g x : A) (zs : List A) → In g (x ∷ zs) → (x ≡ g) ⊎ In g zs
+pub in_first : {A : Type 0} (g x : A) (zs : List A) → In g (x ∷ zs) → (x ≡ g) ⊎ In g zs
 in_first g _ zs (here _) = inl refl
 in_first g x zs (there _ _ j) = inr j
 

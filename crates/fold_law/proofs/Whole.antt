@@ -20,6 +20,8 @@ use Rattle.pass_defs.specs.Foldable.{IsFoldable}
 use Rattle.rewrite_pass.specs.Plans.{word}
 use Rattle.fold_law.specs.Asked.{IsSettled, LeavesNone, NothingLeft}
 use Rattle.fold_law.specs.Kinds.{KindsAgree}
+use Rattle.fold_law.specs.Met.{HaveDimensions, MetBounds}
+use Rattle.fold_law.proofs.Agreed.{agreed}
 use Rattle.fold_law.proofs.Folded.{folded}
 
 module _ (p : Program) (w : is_well_formed p ≡ true) (k j : ℕ) (c : Class) (m : Method) (is_class : slice_get p.classes k ≡ Some c) (is_method : slice_get c.methods j ≡ Some m) where
@@ -38,3 +40,10 @@ pub folded_nowhere : (p : Program) (h : Hierarchy) (o : Outside) (t : Facts) (ad
 folded_nowhere p h o t admitted settled left k j c m b is_class is_method admits has_body kinds n f =
     folded p h o t settled (record { class = k; place = j }) m b (ap (option_and_then (λ (c : Class). slice_get c.methods j)) is_class ∙ is_method) has_body (settled.short k j c m b is_class is_method has_body)
     (placed p settled.asked.formed k j c m is_class is_method (λ at. LeavesNone p h t at m b) (left k j c m b is_class is_method admits has_body)) kinds n f
+
+pub nothing_foldable : (p : Program) (h : Hierarchy) (o : Outside) (t : Facts) (admitted : List Bool) → IsSettled p h o t → MetBounds p o → HaveDimensions p h → NothingLeft p h t admitted → (k j : ℕ) (c : Class) (m : Method)
+    (b : Body) → slice_get p.classes k ≡ Some c → slice_get c.methods j ≡ Some m → slice_index_or admitted m.name false ≡ true → m.body ≡ Some b
+    → (n : ℕ) → IsFoldable (named p) (outer_of p o) (method_at p m.name) n → ⊥
+nothing_foldable p h o t admitted settled bounds dimensions left k j c m b is_class is_method admits has_body =
+    folded_nowhere p h o t admitted settled left k j c m b is_class is_method admits has_body
+    (agreed p h o t settled bounds dimensions (record { class = k; place = j }) m b (ap (option_and_then (λ (c : Class). slice_get c.methods j)) is_class ∙ is_method) has_body)

@@ -11,6 +11,7 @@ pub mod Methods
 pub mod Restricted
 pub mod Tables
 pub mod Joined
+pub mod Parts
 pub mod Letters
 pub mod Agreeing
 pub mod Agreed

@@ -344,7 +344,7 @@ module _ (p : Program) (h : Hierarchy) (o : Outside) (t : Facts) (settled : IsSe
     kept_typing = taken_typing q ordered places settled.typed x.class x.method nb table (class_stands q key nb x) (method_stands q key nb x) x.has_body typing
 
     are : AreTypings q tables
-    are = tables_typed q ordered places settled.typed key nb x kept kept_typing
+    are = tables_typed q ordered places settled.typed key nb x table typing
 
     own_table : tables key ≡ kept
     own_table = table_with q ordered places settled.typed key kept (method_same key)

@@ -21,7 +21,7 @@ use Rattle.form_laws.specs.Typed.{has_front, IsLowered, IsOrdered, taken, taken_
 use Rattle.form_laws.proofs.TypedFolding.{lowered_typing}
 use Rattle.removal_law.proofs.Declared.{method_sound}
 use Rattle.run_laws.proofs.Climbs.{class_in, found_in_list}
-use Rattle.fold_law.specs.Typings.{AreTypings, BodyOf}
+use Rattle.fold_law.specs.Typings.{AreTypings, BodyOf, IsFronted}
 use Rattle.fold_law.proofs.Methods.{body_of_key}
 
 -- ---- states of a table without such states
@@ -85,34 +85,54 @@ module _ (q : NamedProgram) (ordered : IsOrdered q) (places : AllTakeInPlace q) 
   pub taken_typing : (c : NamedClass) (m : NamedMethod) (b : NamedBody) (t : Table) → Contains q.classes c → Contains c.methods m → m.body ≡ Some b → IsTyping q c m b t → IsTyping q c m b (taken_table true b.forms t)
   taken_typing c m b t i j has h = lowered_typing q ordered c m b b (places c m b i j has) t h (same_lowered c m b t)
 
-  some_typing : (k : MethodKey) (b : NamedBody) (x : BodyOf q k b) → (t : Table) × IsTyping q x.class x.method b t
-  some_typing k b x =
-      let t = typed.bodies x.class x.method b (class_stands q k b x) (method_stands q k b x) x.has_body in
-      (taken_table true b.forms t.0, taken_typing x.class x.method b t.0 (class_stands q k b x) (method_stands q k b x) x.has_body t.1)
+  own_typing : (k : MethodKey) (b : NamedBody) (x : BodyOf q k b) → (t : Table) × IsTyping q x.class x.method b t
+  own_typing k b x = typed.bodies x.class x.method b (class_stands q k b x) (method_stands q k b x) x.has_body
+
+  taken_for : (k : MethodKey) (b : NamedBody) (x : BodyOf q k b) (t : Table) → IsTyping q x.class x.method b t → IsTyping q x.class x.method b (taken_table true b.forms t)
+  taken_for k b x t h = taken_typing x.class x.method b t (class_stands q k b x) (method_stands q k b x) x.has_body h
 
   table_for : (k : MethodKey) (o : Option NamedBody) → bodies_of q k ≡ o → Table
   table_for k None e = []
-  table_for k (Some b) e = (some_typing k b (body_of_key q k b e)).0
+  table_for k (Some b) e = taken_table true b.forms (own_typing k b (body_of_key q k b e)).0
 
   typed_for : (k : MethodKey) (o : Option NamedBody) (e : bodies_of q k ≡ o) (b : NamedBody) (x : BodyOf q k b) → IsTyping q x.class x.method b (table_for k o e)
   unfolding table_for
   typed_for k None e b x = none_some b (sym e ∙ body_back q k b x)
-  typed_for k (Some d) e b x = typing_of q k d b (body_of_key q k d e) x (some_typing k d (body_of_key q k d e)).0 (some_typing k d (body_of_key q k d e)).1
+  typed_for k (Some d) e b x = let y = body_of_key q k d e in let t = own_typing k d y in typing_of q k d b y x (taken_table true d.forms t.0) (taken_for k d y t.0 t.1)
+
+  front_of : (k : MethodKey) (d : NamedBody) (y : BodyOf q k d) (t : Table) → IsTyping q y.class y.method d t → (b : NamedBody) (x : BodyOf q k b) (n : ℕ) (s : Kinds) → takes_result (form_at b n) ≡ true
+      → state_at (taken_table true d.forms t) n ≡ Some s → IsFronted q k b x n s
+  front_of k d y t h b x n s takes e =
+      let same : b ≡ d = some_same b d (sym (body_back q k b x) ∙ body_back q k d y) in
+      let w = was_there d t n s e in
+      record { table = t; typing = typing_of q k d b y x t h; state = w.0; front = w.1 (ap (λ (z : NamedBody). takes_result (form_at z n)) (sym same) ∙ takes) }
+
+  fronted_for : (k : MethodKey) (o : Option NamedBody) (e : bodies_of q k ≡ o) (b : NamedBody) (x : BodyOf q k b) (n : ℕ) (s : Kinds) → takes_result (form_at b n) ≡ true → state_at (table_for k o e) n ≡ Some s → IsFronted q k b x n s
+  unfolding table_for
+  fronted_for k None e b x n s takes h = none_some b (sym e ∙ body_back q k b x)
+  fronted_for k (Some d) e b x n s takes h = let y = body_of_key q k d e in let t = own_typing k d y in front_of k d y t.0 t.1 b x n s takes h
 
   -- a table for each name, and this one for one of them
   pub tables_with : MethodKey → Table → MethodKey → Table
   tables_with key t k = if method_eq k key then t else table_for k (bodies_of q k) refl
 
-  pub tables_typed : (key : MethodKey) (b : NamedBody) (x : BodyOf q key b) (t : Table) → IsTyping q x.class x.method b t → AreTypings q (tables_with key t)
+  pub tables_typed : (key : MethodKey) (b : NamedBody) (x : BodyOf q key b) (t : Table) → IsTyping q x.class x.method b t → AreTypings q (tables_with key (taken_table true b.forms t))
   unfolding tables_with
-  tables_typed key b x t h = record { typed = λ k d y. by k d y (method_eq k key) refl }
+  tables_typed key b x t h = record { typed = λ k d y. by k d y (method_eq k key) refl; fronted = λ k d y n s takes e. front k d y n s takes (method_eq k key) refl e }
     where
-      by : (k : MethodKey) (d : NamedBody) (y : BodyOf q k d) (v : Bool) → method_eq k key ≡ v → IsTyping q y.class y.method d (if v then t else table_for k (bodies_of q k) refl)
-      by k d y true e =
-          let same : key ≡ k = sym (method_sound k key e) in
-          let moved : (z : BodyOf q k b) × IsTyping q z.class z.method b t = subst (λ (k : MethodKey). (z : BodyOf q k b) × IsTyping q z.class z.method b t) same (x, h) in
-          typing_of q k b d moved.0 y t moved.1
+      abbrev kept : Table
+      kept = taken_table true b.forms t
+
+      moved : (k : MethodKey) → method_eq k key ≡ true → (z : BodyOf q k b) × IsTyping q z.class z.method b t
+      moved k e = subst (λ (k : MethodKey). (z : BodyOf q k b) × IsTyping q z.class z.method b t) (sym (method_sound k key e)) (x, h)
+
+      by : (k : MethodKey) (d : NamedBody) (y : BodyOf q k d) (v : Bool) → method_eq k key ≡ v → IsTyping q y.class y.method d (if v then kept else table_for k (bodies_of q k) refl)
+      by k d y true e = let z = moved k e in typing_of q k b d z.0 y kept (taken_for k b z.0 t z.1)
       by k d y false e = typed_for k (bodies_of q k) refl d y
+
+      front : (k : MethodKey) (d : NamedBody) (y : BodyOf q k d) (n : ℕ) (s : Kinds) → takes_result (form_at d n) ≡ true → (v : Bool) → method_eq k key ≡ v → state_at (if v then kept else table_for k (bodies_of q k) refl) n ≡ Some s → IsFronted q k d y n s
+      front k d y n s takes true e h = let z = moved k e in front_of k b z.0 t z.1 d y n s takes h
+      front k d y n s takes false e h = fronted_for k (bodies_of q k) refl d y n s takes h
 
   pub table_with : (key : MethodKey) (t : Table) → method_eq key key ≡ true → tables_with key t key ≡ t
   unfolding tables_with

@@ -11,8 +11,11 @@ use Rattle.dalvik_defs.specs.declared.program.NamedProgram.{NamedProgram}
 use Rattle.pass_defs.specs.Constants.{Solution}
 use Rattle.pass_defs.specs.Flat.{Flat, Bottom, KnownWord, KnownWide, Any}
 use Rattle.pass_defs.specs.Kinds.{Kind, Undefined, Zero, Word, Null, Class, Array, Reference, Fresh, FreshThis, kind_of}
-use Rattle.pass_defs.specs.Registers.{kind_at}
+use Rattle.pass_defs.specs.Quiet.{takes_result}
+use Rattle.pass_defs.specs.Registers.{Kinds, kind_at}
 use Rattle.pass_defs.specs.Typed.{state_at, IsTyping, Table}
+use Rattle.pass_defs.specs.Walks.{form_at}
+use Rattle.form_laws.specs.Typed.{has_front}
 
 -- the method of a name that has a body
 pub record BodyOf (p : NamedProgram) (k : MethodKey) (b : NamedBody) : Type 0 where
@@ -22,9 +25,17 @@ pub record BodyOf (p : NamedProgram) (k : MethodKey) (b : NamedBody) : Type 0 wh
   pub is_method : method_in class k.name k.signature ≡ Some method
   pub has_body : method.body ≡ Some b
 
+-- A state where a result is taken is that of some typing, in which there is a state in front of it.
+pub record IsFronted (p : NamedProgram) (k : MethodKey) (b : NamedBody) (x : BodyOf p k b) (n : ℕ) (s : Kinds) : Type 0 where
+  pub table : Table
+  pub typing : IsTyping p x.class x.method b table
+  pub state : state_at table n ≡ Some s
+  pub front : has_front true table n ≡ true
+
 -- each body has a typing in a table
 pub record AreTypings (p : NamedProgram) (tables : MethodKey → Table) : Type 0 where
   pub typed : (k : MethodKey) (b : NamedBody) (x : BodyOf p k b) → IsTyping p x.class x.method b (tables k)
+  pub fronted : (k : MethodKey) (b : NamedBody) (x : BodyOf p k b) (n : ℕ) (s : Kinds) → takes_result (form_at b n) ≡ true → state_at (tables k) n ≡ Some s → IsFronted p k b x n s
 
 -- ---- which flat values suit a kind
 

@@ -172,10 +172,10 @@ operand_kind : (q : NamedProgram) (c : NamedClass) (m : NamedMethod) (a : Kinds)
     → (name_kind.is_number (kind_at a.registers r) || name_kind.is_initialised (kind_at a.registers r)) ≡ true
 operand_kind q c m a (form.If test x y target) h al r i = by (in_first r x (y ∷ []) i)
   where
-    abbrev first : Bool
+    first : Bool
     first = meets q c a.registers x (tested (is_equality test))
 
-    abbrev second : Bool
+    second : Bool
     second = meets q c a.registers y (second_tested (is_equality test) (kind_at a.registers x))
 
     one : (r : ℕ) (b : Bool) → meets q c a.registers r (tested b) ≡ true → (name_kind.is_number (kind_at a.registers r) || name_kind.is_initialised (kind_at a.registers r)) ≡ true

@@ -16,3 +16,4 @@ pub mod Letters
 pub mod Agreeing
 pub mod Agreed
 pub mod Whole
+pub mod Tamed

@@ -1,6 +1,7 @@
 -- What is the same as a flat value, or nothing: operations keep this.
 use Rattle.std.proofs.Common.{◌≡◌, ℕ, ◌+◌, ℤ, Bool, true, false, Option, refl, sym, subst}
 use Rattle.std.specs.Prelude.{if◌then◌else◌, nat_eq}
+use Rattle.std.specs.Int.{w32, w64, cast_unsigned}
 use Rattle.insn_set.specs.declared.ops.BinaryOp.{BinaryOp}
 use Rattle.insn_set.specs.declared.ops.CmpOp.{CmpOp}
 use Rattle.insn_set.specs.declared.ops.CmpOp.TheVariants as cmp
@@ -9,14 +10,14 @@ use Rattle.insn_set.specs.declared.ops.LiteralOp.{LiteralOp}
 use Rattle.insn_set.specs.declared.ops.Slot.TheVariants as slot
 use Rattle.insn_set.specs.declared.ops.UnaryOp.{UnaryOp}
 use Rattle.dalvik_defs.specs.Names.{Text}
-use Rattle.dalvik_defs.specs.Operators.{OnDouble, OnFloat, OnWide, OnWord, Shifts, Sort, sort_of}
+use Rattle.dalvik_defs.specs.Operators.{OnDouble, OnFloat, OnWide, OnWord, Shifts, Sort, sort_of, unary_answer}
 use Rattle.dalvik_defs.specs.declared.forms.Form.{Form}
 use Rattle.dalvik_defs.specs.declared.forms.Form.TheVariants as form
 use Rattle.dalvik_defs.specs.declared.names.FieldKey.{FieldKey}
 use Rattle.dalvik_defs.specs.declared.program.NamedProgram.{NamedProgram}
 use Rattle.pass_defs.specs.Constants.{flat, Solution}
 use Rattle.pass_defs.specs.Facts as name
-use Rattle.pass_defs.specs.Flat.{Any, Bottom, Flat, FlatBelow, flat_binary, flat_compared, flat_literal, flat_sort, flat_stored, flat_unary, is_exact, KnownWide, KnownWord, of_number, of_shift, of_wides, of_words}
+use Rattle.pass_defs.specs.Flat.{Any, Bottom, Flat, FlatBelow, flat_binary, flat_compared, flat_literal, flat_number, flat_sort, flat_stored, flat_unary, is_exact, KnownWide, KnownWord, no_floats, of_number, of_shift, of_wides, of_words}
 use Rattle.fold_law.proofs.Joined.{below_itself}
 
 pub data IsPart : Flat → Flat → Type 0 where
@@ -72,8 +73,8 @@ unary_part : (op : UnaryOp) (x a : Flat) → IsPart x a → IsPart (flat_unary o
 unary_part op x _ (Same _) = Same (flat_unary op x)
 unary_part op _ a (Gone _) = by (is_exact op)
   where
-    by : (c : Bool) → IsPart (if c then Bottom else Any) (if c then of_number _ a else Any)
-    by true = Gone (of_number _ a)
+    by : (c : Bool) → IsPart (if c then Bottom else Any) (if c then of_number (λ n. flat_number (unary_answer no_floats op n)) a else Any)
+    by true = Gone (of_number (λ n. flat_number (unary_answer no_floats op n)) a)
     by false = Same Any
 
 compared_part : (op : CmpOp) (x y a b : Flat) → IsPart x a → IsPart y b → IsPart (flat_compared op x y) (flat_compared op a b)
@@ -109,8 +110,8 @@ module _ (p : NamedProgram) (s t : Solution) (class : Text) (before : Option For
   after_below (form.Move slot.Object to from) = put_below x a to (x from) (a from) below (below from)
   after_below (form.MoveResult q to) = sized_below (name.is_wide_slot flat q) x a to _ _ below answer
   after_below (form.MoveException to) = put_below x a to Any Any below tt
-  after_below (form.Const to value) = put_below x a to _ _ below (below_itself _)
-  after_below (form.ConstWide to value) = sized_below true x a to _ _ below (below_itself _)
+  after_below (form.Const to value) = put_below x a to (flat.word (cast_unsigned w32 value)) (flat.word (cast_unsigned w32 value)) below (below_itself (flat.word (cast_unsigned w32 value)))
+  after_below (form.ConstWide to value) = sized_below true x a to (flat.wide (cast_unsigned w64 value)) (flat.wide (cast_unsigned w64 value)) below (below_itself (flat.wide (cast_unsigned w64 value)))
   after_below (form.ConstString to text) = put_below x a to Any Any below tt
   after_below (form.ConstClass to kind) = put_below x a to Any Any below tt
   after_below (form.InstanceOf to from kind) = put_below x a to Any Any below tt

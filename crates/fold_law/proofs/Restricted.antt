@@ -38,6 +38,7 @@ use Rattle.pass_defs.specs.Kinds.{Kind, Fresh, FreshThis, Low, is_initialised, i
 use Rattle.pass_defs.specs.Registers.{Kinds, kind_at, state_below}
 use Rattle.pass_defs.specs.Typed.{after, begun, differ, finds_static, is_constructor, is_wrong, passed_words, state_at, IsTyping, Table, words_of, wrong_method, wrong_super}
 use Rattle.pass_defs.specs.Walks.{caught, onward}
+use Rattle.form_laws.specs.Changes as change
 use Rattle.form_laws.proofs.Arriving.{catch_arrives, caught_catches, first_below, onward_arrives}
 use Rattle.form_laws.proofs.Selecting.{each_below}
 use Rattle.form_laws.proofs.Typings.{allowed_at, right_at}
@@ -141,6 +142,11 @@ unless_in : (b : Bool) (n q : ℕ) → In q (name.unless flat b n) → In q ((n 
 unless_in true n q i = elim i [ ]
 unless_in false n q i = i
 
+-- what stands in a list, as the laws of forms say it
+pub stands_so : {A : Type 0} (x : A) (xs : List A) → In x xs → change.In x xs
+stands_so x _ (here xs) = change.here xs
+stands_so x _ (there y xs i) = change.there y xs (stands_so x xs i)
+
 pub next_onward : (f : Form) (n : ℕ) (a : ℕ → Flat) (q : ℕ) → In q (name.nexts flat f n a) → In q (onward f n)
 next_onward (form.If test x y target) n a q i = branch_in (flat.outcome test (a x) (a y)) n target q i
 next_onward (form.IfZero test x target) n a q i = branch_in (flat.outcome test (a x) (flat.word 0)) n target q i
@@ -195,7 +201,7 @@ module _ (p : NamedProgram) (regular : IsRegular p) (entered : (k : MethodKey) (
   pub stays : (k : MethodKey) (n : ℕ) (b : NamedBody) (a : ℕ → Flat) → bodies_of p k ≡ Some b → c.registers k n ≡ Some a → Stands (tables k) n a → r.registers k n ≡ Some a
   stays k n b a e h s = there_is k n b e ∙ ap (standing_at (tables k) n) h ∙ stood_on (tables k) n a s
 
-  before : (k : MethodKey) (n : ℕ) → Here r k n → Here c k n
+  abbrev before : (k : MethodKey) (n : ℕ) → Here r k n → Here c k n
   before k n at = record { body = at.body; form = at.form; registers = at.registers; has_body = at.has_body; has_form = at.has_form; reached = (stood k n at.body at.registers at.has_body at.reached).there }
 
   -- ---- what flows on
@@ -230,7 +236,7 @@ module _ (p : NamedProgram) (regular : IsRegular p) (entered : (k : MethodKey) (
       let t = typings.typed k at.body z in
       let u = (stood k n at.body at.registers at.has_body at.reached).stood in
       let al = allowed_at p z.class z.method at.body (tables k) t n at.form u.kinds at.has_form u.state in
-      let on = onward_arrives p z.class z.method at.body (tables k) t n at.form u.kinds at.has_form u.state q (next_onward at.form n at.registers q (stands (name.nexts flat at.form n at.registers) q h)) in
+      let on = onward_arrives p z.class z.method at.body (tables k) t n at.form u.kinds at.has_form u.state q (stands_so q (onward at.form n) (next_onward at.form n at.registers q (stands (name.nexts flat at.form n at.registers) q h))) in
       arrives k q at.body at.has_body (name.after flat p r k.class (name.form_before at.body n) at.form at.registers) on.0 on.1.0
       (λ i. suits_up p (kind_at (after p z.class n at.form u.kinds).registers i) (kind_at on.0.registers i) false (name.after flat p r k.class (name.form_before at.body n) at.form at.registers i)
       (each_below p (after p z.class n at.form u.kinds).registers on.0.registers i (first_below p (after p z.class n at.form u.kinds) on.0 on.1.1))
@@ -243,7 +249,7 @@ module _ (p : NamedProgram) (regular : IsRegular p) (entered : (k : MethodKey) (
       let z = body_of_key p k at.body at.has_body in
       let t = typings.typed k at.body z in
       let u = (stood k n at.body at.registers at.has_body at.reached).stood in
-      let w = caught_catches p z.class z.method at.body (tables k) t n at.form u.kinds at.has_form u.state q (stands (caught at.body at.form n) q h) in
+      let w = caught_catches p z.class z.method at.body (tables k) t n at.form u.kinds at.has_form u.state q (stands_so q (caught at.body at.form n) (stands (caught at.body at.form n) q h)) in
       let on = catch_arrives p z.class z.method at.body (tables k) t n at.form u.kinds at.has_form u.state q w.0 w.1 in
       arrives k q at.body at.has_body at.registers on.0 on.1.0
       (λ i. suits_up p (kind_at u.kinds.registers i) (kind_at on.0.registers i) false (at.registers i)

@@ -85,7 +85,7 @@ number_suits Zero v e h = null_word v h
 number_suits k v e h = clash false e refl
 
 -- where numbers aren't asked about, only what is fresh is asked about
-loosely : (k : Kind) (v : Flat) → (is_initialised k || is_number k) ≡ true → suits k false v ≡ true
+pub loosely : (k : Kind) (v : Flat) → (is_initialised k || is_number k) ≡ true → suits k false v ≡ true
 loosely Zero v e = refl
 loosely Word v e = refl
 loosely Null v e = refl

@@ -69,6 +69,7 @@ use Rattle.pass_defs.specs.Typed.{called, is_wrong, IsTyping, state_at, Table, w
 use Rattle.bodies_kept.proofs.Rooted.{rooted}
 use Rattle.program_laws.proofs.Transitive.{transitive}
 use Rattle.program_laws.proofs.WellFormed.{well_placed}
+use Rattle.form_laws.specs.Changes as change
 use Rattle.form_laws.proofs.Arriving.{onward_arrives}
 use Rattle.form_laws.proofs.Typings.{allowed_at, right_at}
 use Rattle.program_laws.specs.Results.{AllTakeInPlace}
@@ -102,7 +103,7 @@ use Rattle.const_prop.specs.Known.{zero_number}
 use Rattle.fold_law.specs.Asked.{IsSettled}
 use Rattle.fold_law.specs.Met.{HaveDimensions, MetBounds}
 use Rattle.fold_law.specs.Typings.{AreTypings, BodyOf, is_any, met, met_registers, met_table, null_fits, restricted, suits}
-use Rattle.fold_law.proofs.Known as known
+use Rattle.fold_law.proofs.Known as shown
 use Rattle.fold_law.proofs.Joined.{all_least, all_null, below_on, met_below, one_in_join}
 use Rattle.fold_law.proofs.Known.{gives, left_under, low, put_itself, put_there}
 use Rattle.fold_law.proofs.Letters.{IsFor, letter_object, letter_wide, letter_word, slot_type}
@@ -258,7 +259,7 @@ module _ (p : Program) where
   zero_fits kind.Null h f d = refl
   zero_fits (kind.Program c) h f d = refl
   zero_fits (kind.Array zero i) h f d = absurd (d i refl)
-  zero_fits (kind.Array (suc n) i) h f d = some_dimension n
+  zero_fits (kind.Array (suc n) i) h f d = ap (λ (b : Bool). b || false) (some_dimension n)
   zero_fits kind.Reference h f d = refl
 
   class_initialised : (o : Option Class) → name_kind.is_initialised (class_kind p o) ≡ true
@@ -416,7 +417,7 @@ module _ (p : Program) (h : Hierarchy) (o : Outside) (t : Facts) (settled : IsSe
         OnlyWide : (w : ℕ) → wide ≡ true → Knows (Wide w)
 
       known : constant_of f.to known_flat ≡ Some f.constant
-      known = known.known p o t settled.asked settled.plain settled.low at m b has_method has_body n i has_insn f wide result
+      known = shown.known p o t settled.asked settled.plain settled.low at m b has_method has_body n i has_insn f wide result
 
       -- a value that is 0, or under what the solution knows and what kinds leave of it
       about_knows : (w : Bool) (k : Number) (v : Parts) → IsAbout v w k → w ≡ wide → (v ≡ least_value) ⊎ (IsUnder v known_flat × IsUnder v (met_flat (suited n reached f.table f.closed f.registers f.there).kinds)) → Knows k
@@ -440,7 +441,7 @@ module _ (p : Program) (h : Hierarchy) (o : Outside) (t : Facts) (settled : IsSe
             subst (λ (z : Parts). IsUnder z (met_flat s.kinds)) (sym d) two,
           )
 
-      knows : (k : Number) → number_at p t at.class m.name before n i ≡ Some k → Knows k
+      pub knows : (k : Number) → number_at p t at.class m.name before n i ≡ Some k → Knows k
       knows k e =
           let g = gives p o t settled.asked settled.plain settled.low at m b has_method has_body n i has_insn f wide result in
           about_knows wide k g.value (subst (IsAbout g.value wide) (some_same g.number k (sym g.is ∙ e)) g.about) refl (by g.value g.from)
@@ -470,17 +471,17 @@ module _ (p : Program) (h : Hierarchy) (o : Outside) (t : Facts) (settled : IsSe
       wide_is : (j : Insn) (to : ℕ) (v : Bool) → i ≡ j → result_of j ≡ Some (to, v) → wide ≡ v
       wide_is j to v e d = ap (λ (r : ℕ × Bool). r.1) (some_same (f.to, wide) (to, v) (sym result ∙ ap result_of e ∙ d))
 
-      module _ (slot : Slot) (to from : ℕ) (is : i ≡ insn.Move slot to from) (thin : is_wide_slot slot ≡ false) (cls : Class) (y : typings.Table) (same : table ≡ method_table p cls y)
+      module _ (size : Slot) (to from : ℕ) (is : i ≡ insn.Move size to from) (thin : is_wide_slot size ≡ false) (cls : Class) (y : typings.Table) (same : table ≡ method_table p cls y)
           (dimensioned : (r : ℕ) (z : Option ℕ) → kind_before y n r ≡ kind.Array 0 z → ⊥) where
         here_is : f.to ≡ to
-        here_is = to_is (insn.Move slot to from) to (is_wide_slot slot) is refl
+        here_is = to_is (insn.Move size to from) to (is_wide_slot size) is refl
 
         flat_is : known_flat ≡ f.registers from
-        flat_is = ap (λ (j : Insn). left_of p f.table key.class (option_map (form_of p) before) j f.registers f.to) is ∙ narrow_is to from slot thin f.table f.registers here_is
+        flat_is = ap (λ (j : Insn). left_of p f.table key.class (option_map (form_of p) before) j f.registers f.to) is ∙ narrow_is to from size thin f.table f.registers here_is
 
         met_is : met_flat reads ≡ met (kind_at reads.registers from) (f.registers from)
         met_is = ap (λ (j : Insn). left_of p (met_solution n reached f.table f.closed f.registers f.there) key.class (option_map (form_of p) before) j (met_here n reached f.table f.closed f.registers f.there reads) f.to) is
-            ∙ narrow_is to from slot thin (met_solution n reached f.table f.closed f.registers f.there) (met_here n reached f.table f.closed f.registers f.there reads) here_is
+            ∙ narrow_is to from size thin (met_solution n reached f.table f.closed f.registers f.there) (met_here n reached f.table f.closed f.registers f.there reads) here_is
 
         -- the kind by number
         record ByNumber : Type 0 where
@@ -500,7 +501,7 @@ module _ (p : Program) (h : Hierarchy) (o : Outside) (t : Facts) (settled : IsSe
             }
 
         moved_kind : is_moved (kind_at reads.registers from) ≡ true
-        moved_kind = by slot thin (subst (λ (j : Insn). is_allowed q x.class x.method reads (form_of p j) ≡ true) is allowed)
+        moved_kind = by size thin (subst (λ (j : Insn). is_allowed q x.class x.method reads (form_of p j) ≡ true) is allowed)
           where
             by : (s : Slot) → is_wide_slot s ≡ false → is_allowed q x.class x.method reads (form_of p (insn.Move s to from)) ≡ true → is_moved (kind_at reads.registers from) ≡ true
             by slot.Word e h = and_left (is_moved (kind_at reads.registers from)) true h
@@ -523,14 +524,14 @@ module _ (p : Program) (h : Hierarchy) (o : Outside) (t : Facts) (settled : IsSe
                 fresh = untrue (is_fresh p l) (λ g. unknown (flat_is ∙ fresh_any p l (f.registers from) g (subst (λ (u : Kind). suits u false (f.registers from) ≡ true) e ((suited n reached f.table f.closed f.registers f.there).suit from))))
 
                 of : (k : Number) → Knows k → in_kind l k ≡ true
-                of _ Nothing = subst (λ (v : Bool). in_kind l (zero_number v) ≡ true) (sym (wide_is (insn.Move slot to from) to (is_wide_slot slot) is refl ∙ thin)) (zero_fits p l moved_is fresh d)
+                of _ Nothing = subst (λ (v : Bool). in_kind l (zero_number v) ≡ true) (sym (wide_is (insn.Move size to from) to (is_wide_slot size) is refl ∙ thin)) (zero_fits p l moved_is fresh d)
                 of _ (OnlyWord w narrow same u) = word_in_kind p l w moved_is fresh d (λ g. null (exact_zero w (met_flat reads) u
                     (ap null_fits met_is ∙ met_null (kind_at reads.registers from) (f.registers from) (ap name_kind.is_initialised e ∙ g))))
                   where
                     null : (met_flat reads ≡ Any) ⊎ (w ≡ 0) → w ≡ 0
                     null (inr z) = z
                     null (inl a) = absurd (met_known (kind_at reads.registers from) w (ap (met (kind_at reads.registers from)) (sym (sym flat_is ∙ same)) ∙ sym met_is ∙ a))
-                of _ (OnlyWide w broad) = absurd (true≢false (sym broad ∙ wide_is (insn.Move slot to from) to (is_wide_slot slot) is refl ∙ thin))
+                of _ (OnlyWide w broad) = absurd (true≢false (sym broad ∙ wide_is (insn.Move size to from) to (is_wide_slot size) is refl ∙ thin))
 
       -- ---- gets of static fields
 
@@ -627,7 +628,7 @@ module _ (p : Program) (h : Hierarchy) (o : Outside) (t : Facts) (settled : IsSe
             by : (y : Option Kinds) → state_at table j ≡ y → is_some y ≡ true → is_below q (name_kind.kind_of q (method_at p method).signature.result) reads.result ≡ true
             by None d z = absurd (true≢false (sym z))
             by (Some y) d z =
-                let on = onward_arrives q x.class x.method nb table typing j (form.Invoke kind (method_at p method) args) y (got_map (form_of p) b.insns j (insn.Invoke kind method args) e) d (j + 1) (here []) in
+                let on = onward_arrives q x.class x.method nb table typing j (form.Invoke kind (method_at p method) args) y (got_map (form_of p) b.insns j (insn.Invoke kind method args) e) d (j + 1) (change.here []) in
                 let same : on.0 ≡ reads = some_same on.0 reads (sym on.1.0 ∙ ap (state_at table) (next_is j) ∙ state) in
                 subst (λ (l : Kinds). is_below q (name_kind.kind_of q (method_at p method).signature.result) l.result ≡ true) same
                 (below_result (called q x.class kind (method_at p method) args y) on.0 on.1.1)
@@ -662,13 +663,13 @@ module _ (p : Program) (h : Hierarchy) (o : Outside) (t : Facts) (settled : IsSe
           null_answer : (w : ℕ) → is_reference called_type ≡ true → known_flat ≡ KnownWord w → IsUnder (constant_value w) (met_flat reads) → w ≡ 0
           null_answer w r e u = by (may_leave q key.class kind called_key) (sym flat_answer ∙ e) (subst (IsUnder (constant_value w)) met_answer u)
             where
-              abbrev gs : List Found
+              gs : List Found
               gs = may_find q key.class kind called_key
 
-              abbrev whole : Found → Flat
+              whole : Found → Flat
               whole g = f.table.results g.key
 
-              abbrev less_of : Found → Flat
+              less_of : Found → Flat
               less_of g = met (name_kind.kind_of q g.key.signature.result) (f.table.results g.key)
 
               null_each : (g : Found) → In g gs → null_fits (less_of g) ≡ true
@@ -714,7 +715,7 @@ module _ (p : Program) (h : Hierarchy) (o : Outside) (t : Facts) (settled : IsSe
 
       -- ---- what the kinds say of each form
 
-      agrees_here : (asks : Option typings.Table) → (is_narrow_move i ≡ true → (cls : Class) × (y : typings.Table) × (asks ≡ Some y) × (table ≡ method_table p cls y) × TypesFor p h at y) → (k : Number) → Knows k → is_typed_so asks n i (Some k) ≡ true
+      pub agrees_here : (asks : Option typings.Table) → (is_narrow_move i ≡ true → (cls : Class) × (y : typings.Table) × (asks ≡ Some y) × (table ≡ method_table p cls y) × TypesFor p h at y) → (k : Number) → Knows k → is_typed_so asks n i (Some k) ≡ true
       agrees_here asks g k z = by i refl
         where
           one : (s : Slot) (to from : ℕ) → i ≡ insn.Move s to from → is_wide_slot s ≡ false → is_narrow_move (insn.Move s to from) ≡ true → typing_fits asks n (insn.Move s to from) (Some k) ≡ true
@@ -729,7 +730,7 @@ module _ (p : Program) (h : Hierarchy) (o : Outside) (t : Facts) (settled : IsSe
           by (insn.Move slot.Wide to from) e = refl
           by j e = refl
 
-      fits_here : (k : Number) → Knows k → fits p before i k ≡ true
+      pub fits_here : (k : Number) → Knows k → fits p before i k ≡ true
       fits_here k z = subst (λ (j : Insn). fits p before j k ≡ true) refl (by i refl)
         where
           nothing : (j : Insn) (to : ℕ) → i ≡ j → result_of j ≡ Some (to, false) → ((a : ℕ → Flat) → left_of p f.table key.class (option_map (form_of p) before) j a ≡ name.put flat a to Any) → {P : Type 0} → P

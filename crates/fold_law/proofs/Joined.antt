@@ -6,9 +6,11 @@ use Rattle.dalvik_defs.specs.Find.{Found}
 use Rattle.pass_defs.specs.Constants.{flat}
 use Rattle.pass_defs.specs.Facts as name
 use Rattle.pass_defs.specs.Flat.{Any, Bottom, Flat, FlatBelow, flat_joined, KnownWide, KnownWord}
-use Rattle.pass_defs.specs.Kinds.{Kind}
+use Rattle.dalvik_defs.specs.Names.{is_array, is_reference, is_wide, is_word, Text}
+use Rattle.dalvik_defs.specs.declared.program.NamedProgram.{NamedProgram}
+use Rattle.pass_defs.specs.Kinds.{Array, Class, is_plain, Kind, kind_of, kind_of_reference, Low, Reference, Undefined, Word}
 use Rattle.removal_law.proofs.Lists.{here, In, there}
-use Rattle.fold_law.specs.Typings.{met, null_fits, suits}
+use Rattle.fold_law.specs.Typings.{met, null_fits, suits, word_fits}
 
 -- ---- the order
 
@@ -77,7 +79,7 @@ joined_wide a b (KnownWide c) h k = subst (λ (v : Bool). FlatBelow (if v then K
 joined_wide a b Bottom h k = absurd h
 joined_wide a b (KnownWord c) h k = absurd h
 
-only_any : (z : Flat) → FlatBelow Any z → z ≡ Any
+pub only_any : (z : Flat) → FlatBelow Any z → z ≡ Any
 only_any Any h = refl
 only_any Bottom h = absurd h
 only_any (KnownWord n) h = absurd h
@@ -131,6 +133,58 @@ null_joined Any Any h k = refl
 pub all_null : (f : Found → Flat) (gs : List Found) → ((g : Found) → In g gs → null_fits (f g) ≡ true) → null_fits (name.all_joined flat (map f gs)) ≡ true
 all_null f [] h = refl
 all_null f (g ∷ gs) h = null_joined (f g) (name.all_joined flat (map f gs)) (h g (here gs)) (all_null f gs (λ x i. h x (there g gs i)))
+
+word_joined : (x y : Flat) → word_fits x ≡ true → word_fits y ≡ true → word_fits (flat_joined x y) ≡ true
+word_joined Bottom y h k = k
+word_joined (KnownWord a) Bottom h k = h
+word_joined (KnownWide a) y h k = absurd (true≢false (sym h))
+word_joined Any Bottom h k = refl
+word_joined (KnownWord a) (KnownWord b) h k = by (nat_eq a b)
+  where
+    by : (c : Bool) → word_fits (if c then KnownWord a else Any) ≡ true
+    by true = h
+    by false = refl
+word_joined (KnownWord a) (KnownWide b) h k = refl
+word_joined (KnownWord a) Any h k = refl
+word_joined Any (KnownWord b) h k = refl
+word_joined Any (KnownWide b) h k = refl
+word_joined Any Any h k = refl
+
+-- a join of what suits the kind of a type does
+module _ (q : NamedProgram) (t : Text) where
+  type_joined : (x y : Flat) → suits (kind_of q t) true x ≡ true → suits (kind_of q t) true y ≡ true → suits (kind_of q t) true (flat_joined x y) ≡ true
+  type_joined x y = by (is_word t) (is_wide t) (is_reference t)
+    where
+      reference : (c d : Bool) → suits (if c then Array t else if d then Class t else Reference) true x ≡ true → suits (if c then Array t else if d then Class t else Reference) true y ≡ true
+          → suits (if c then Array t else if d then Class t else Reference) true (flat_joined x y) ≡ true
+      reference true d h k = null_joined x y h k
+      reference false true h k = null_joined x y h k
+      reference false false h k = null_joined x y h k
+
+      by : (a b c : Bool) → suits (if a then Word else if b then Low else if c then kind_of_reference q t else Undefined) true x ≡ true → suits (if a then Word else if b then Low else if c then kind_of_reference q t else Undefined) true y ≡ true
+          → suits (if a then Word else if b then Low else if c then kind_of_reference q t else Undefined) true (flat_joined x y) ≡ true
+      by true b c h k = word_joined x y h k
+      by false true c h k = refl
+      by false false true h k = reference (is_array t) (is_plain q t) h k
+      by false false false h k = refl
+
+  nothing_suits : suits (kind_of q t) true Bottom ≡ true
+  nothing_suits = by (is_word t) (is_wide t) (is_reference t)
+    where
+      reference : (c d : Bool) → suits (if c then Array t else if d then Class t else Reference) true Bottom ≡ true
+      reference true d = refl
+      reference false true = refl
+      reference false false = refl
+
+      by : (a b c : Bool) → suits (if a then Word else if b then Low else if c then kind_of_reference q t else Undefined) true Bottom ≡ true
+      by true b c = refl
+      by false true c = refl
+      by false false true = reference (is_array t) (is_plain q t)
+      by false false false = refl
+
+  pub all_suit : (f : Found → Flat) (gs : List Found) → ((g : Found) → In g gs → suits (kind_of q t) true (f g) ≡ true) → suits (kind_of q t) true (name.all_joined flat (map f gs)) ≡ true
+  all_suit f [] h = nothing_suits
+  all_suit f (g ∷ gs) h = type_joined (f g) (name.all_joined flat (map f gs)) (h g (here gs)) (all_suit f gs (λ x i. h x (there g gs i)))
 
 -- one of the parts is below a join
 joined_first : (x y : Flat) → FlatBelow x (flat_joined x y)

@@ -1,3 +1,4 @@
+pub mod Within
 pub mod Left
 pub mod Numbers
 pub mod Ways

@@ -120,7 +120,7 @@ module _ (q : NamedProgram) (ordered : IsOrdered q) (places : AllTakeInPlace q) 
   unfolding tables_with
   tables_typed key b x t h = record { typed = λ k d y. by k d y (method_eq k key) refl; fronted = λ k d y n s takes e. front k d y n s takes (method_eq k key) refl e }
     where
-      abbrev kept : Table
+      kept : Table
       kept = taken_table true b.forms t
 
       moved : (k : MethodKey) → method_eq k key ≡ true → (z : BodyOf q k b) × IsTyping q z.class z.method b t

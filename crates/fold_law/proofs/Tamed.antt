@@ -1,15 +1,18 @@
 -- What kinds leave of known values suits them, and what suits a kind and is below a value is below what the kind leaves of it.
-use Rattle.std.proofs.Common.{◌≡◌, ℕ, ◌-◌, Bool, true, false, true≢false, refl, sym, ap, ◌∙◌}
+use Rattle.std.proofs.Common.{◌≡◌, List, ℕ, ◌-◌, Bool, true, false, true≢false, refl, sym, ap, ◌∙◌}
 use Rattle.std.specs.Prelude.{if◌then◌else◌}
 use Rattle.lemmas.proofs.Bools.{clash}
 use Rattle.dalvik_defs.specs.Names.{is_array, is_reference, is_wide, is_word, Text}
 use Rattle.dalvik_defs.specs.declared.program.NamedProgram.{NamedProgram}
 use Rattle.pass_defs.specs.Flat.{Any, Bottom, Flat, FlatBelow, KnownWide, KnownWord}
+use Rattle.pass_defs.specs.Demands.{Demand, Fits, meets, of_type, Pair}
+use Rattle.pass_defs.specs.Registers.{kind_at}
+use Rattle.dalvik_defs.specs.declared.program.NamedClass.{NamedClass}
 use Rattle.pass_defs.specs.Kinds.{Array, Class, fits, fits_array, Fresh, FreshThis, High, is_below, is_initialised, is_number, is_plain, Kind, kind_of, kind_of_reference, Low, Null, Reference, Undefined, Word, Zero}
-use Rattle.facts_kept.proofs.Beneath.{initialised_under}
+use Rattle.facts_kept.proofs.Beneath.{initialised_under, wide_type}
 use Rattle.fold_law.specs.Typings.{met, null_fits, suits, word_fits}
 use Rattle.fold_law.proofs.Parts.{Gone, IsPart, Same}
-use Rattle.fold_law.proofs.Suits.{null_suits, number_suits}
+use Rattle.fold_law.proofs.Suits.{any_suits, null_suits, number_suits}
 
 -- ---- kinds that aren't those of fresh objects
 
@@ -57,25 +60,15 @@ met_part k v = by (suits k true v)
     by true = Same v
     by false = Gone v
 
+pub met_any : (k : Kind) → met k Any ≡ Any
+met_any k = ap (λ (b : Bool). if b then Any else Bottom) (any_suits k true)
+
 -- what suits a kind and is below a known value is this value, or nothing
 suits_below : (k : Kind) (v w : Flat) → suits k true v ≡ true → suits k true w ≡ false → FlatBelow v w → FlatBelow v Bottom
 suits_below k Bottom w h e b = tt
 suits_below k (KnownWord n) (KnownWord m) h e b = clash (suits k true (KnownWord n)) h (ap (λ (d : ℕ). suits k true (KnownWord d)) b ∙ e)
 suits_below k (KnownWide n) (KnownWide m) h e b = clash (suits k true (KnownWide n)) h (ap (λ (d : ℕ). suits k true (KnownWide d)) b ∙ e)
-suits_below k v Any h e b = clash (suits k true Any) (any_fits k) e
-  where
-    any_fits : (k : Kind) → suits k true Any ≡ true
-    any_fits (Fresh t n) = refl
-    any_fits FreshThis = refl
-    any_fits Undefined = refl
-    any_fits Zero = refl
-    any_fits Word = refl
-    any_fits Low = refl
-    any_fits High = refl
-    any_fits Null = refl
-    any_fits (Class t) = refl
-    any_fits (Array t) = refl
-    any_fits Reference = refl
+suits_below k v Any h e b = clash (suits k true Any) (any_suits k true) e
 suits_below k (KnownWord n) Bottom h e b = absurd b
 suits_below k (KnownWord n) (KnownWide m) h e b = absurd b
 suits_below k (KnownWide n) Bottom h e b = absurd b
@@ -132,3 +125,11 @@ module _ (q : NamedProgram) where
       by false true c e i = refl
       by false false true e i = reference (is_array t) (is_plain q t) e
       by false false false e i = refl
+
+  -- and what meets the demand of a type
+  pub type_suits : (c : NamedClass) (ks : List Kind) (r : ℕ) (t : Text) (v : Flat) → meets q c ks r (of_type t) ≡ true → suits (kind_at ks r) true v ≡ true → suits (kind_of q t) true v ≡ true
+  type_suits c ks r t v e h = by (is_wide t) refl e
+    where
+      by : (b : Bool) → is_wide t ≡ b → meets q c ks r (elim b as (λ b. Demand) [ true ↦ Pair | false ↦ Fits t ]) ≡ true → suits (kind_of q t) true v ≡ true
+      by true i d = subst (λ (k : Kind). suits k true v ≡ true) (sym (wide_type q t i)) refl
+      by false i d = fits_suits (kind_at ks r) t v d h

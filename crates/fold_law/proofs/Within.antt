@@ -1,0 +1,28 @@
+-- Facts that are under a flat table are under one that it is within.
+use Rattle.std.proofs.Common.{◌≡◌, ℕ, ◌<◌, Option, Some, None, refl, sym, subst}
+use Rattle.program_model.specs.Lookups.{method_at}
+use Rattle.program_model.specs.declared.body.Body.{Body}
+use Rattle.program_model.specs.declared.program.Field.{Field}
+use Rattle.program_model.specs.declared.program.Method.{Method}
+use Rattle.program_model.specs.declared.program.MethodAt.{MethodAt}
+use Rattle.program_model.specs.declared.program.Program.{Program}
+use Rattle.dom_frame.specs.Registers.{Registers}
+use Rattle.facts.specs.declared.facts.Facts.{Facts}
+use Rattle.closed_facts.specs.Tables.{field_at, parameter_at, registers_at, result_at}
+use Rattle.pass_defs.specs.Flat.{Flat}
+use Rattle.flat_bounds.specs.Bounds.{FlatTable}
+use Rattle.flat_bounds.specs.Facts.{AreFactsUnder}
+use Rattle.flat_bounds.specs.Under.{ArriveUnder, IsUnder}
+use Rattle.fold_law.specs.Asked.{IsWithin}
+
+pub low_within : (p : Program) (b c : FlatTable) (t : Facts) → IsWithin b c → AreFactsUnder p b t → AreFactsUnder p c t
+low_within p b c t w h = record {
+  registers = λ at m body n x e f r. arrive m.name n x (b.registers m.name n) refl (h.registers at m body n x e f r);
+  parameters = λ at m body i e f l. subst (IsUnder (parameter_at t m.name i)) (w.parameters m.name i) (h.parameters at m body i e f l);
+  results = λ at m body e f. subst (IsUnder (result_at t m.name)) (w.results m.name) (h.results at m body e f);
+  fields = λ at f e. subst (IsUnder (field_at t f.name)) (w.fields f.name) (h.fields at f e);
+}
+  where
+    arrive : (m n : ℕ) (x : Registers) (y : Option (ℕ → Flat)) → b.registers m n ≡ y → ArriveUnder x y → ArriveUnder x (c.registers m n)
+    arrive m n x None e g = absurd g
+    arrive m n x (Some a) e g = subst (ArriveUnder x) (sym (w.registers m n a e)) g

@@ -34,14 +34,14 @@ use Rattle.const_prop.specs.Given.{number_at}
 use Rattle.const_prop.specs.Kinds.{is_narrow_move, is_typed_so, typing_fits}
 use Rattle.fold_law.specs.Asked.{IsSettled}
 use Rattle.fold_law.specs.Kinds.{Agrees, IsTypedBy, KindsAgree}
-use Rattle.fold_law.specs.Met.{HaveDimensions, MetBounds}
+use Rattle.fold_law.specs.Met.{HaveDimensions, MetLow}
 use Rattle.fold_law.specs.Typings.{BodyOf}
 use Rattle.fold_law.proofs.Agreeing.{agrees_here, fits_here, knows, no_wide_there}
 use Rattle.fold_law.proofs.Known.{register_is}
 use Rattle.fold_law.proofs.Methods.{body_of_key}
 use Rattle.fold_law.proofs.Tables.{class_stands, method_stands}
 
-module _ (p : Program) (h : Hierarchy) (o : Outside) (t : Facts) (settled : IsSettled p h o t) (bounds : MetBounds p o) (dimensions : HaveDimensions p h) (at : MethodAt) (m : Method) (b : Body)
+module _ (p : Program) (h : Hierarchy) (o : Outside) (t : Facts) (settled : IsSettled p h o t) (bounds : MetLow p o t) (dimensions : HaveDimensions p h) (at : MethodAt) (m : Method) (b : Body)
     (has_method : look.method_at p at ≡ Some m) (has_body : m.body ≡ Some b) where
   abbrev key : MethodKey
   key = method_at p m.name

@@ -13,8 +13,9 @@ pub mod Restricted
 pub mod Tables
 pub mod Joined
 pub mod Parts
+pub mod Tamed
+pub mod Bounding
 pub mod Letters
 pub mod Agreeing
 pub mod Agreed
 pub mod Whole
-pub mod Tamed

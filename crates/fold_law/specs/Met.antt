@@ -12,14 +12,15 @@ use Rattle.dalvik_defs.specs.Outer.{outer_of}
 use Rattle.dalvik_defs.specs.declared.names.MethodKey.{MethodKey}
 use Rattle.pass_defs.specs.Constants.{IsSolution, Solution}
 use Rattle.pass_defs.specs.Typed.{Table}
-use Rattle.flat_bounds.specs.Bounds.{IsFlatBound}
+use Rattle.facts.specs.declared.facts.Facts.{Facts}
+use Rattle.flat_bounds.specs.Facts.{AreFactsUnder}
 use Rattle.flat_bridge.specs.Numbered.{numbered}
 use Rattle.fold_law.specs.Typings.{AreTypings, met_table, restricted}
 
--- A solution bounds an analysis also where it says that no number is there which the kinds of a typing don't let be there.
-abbrev pub MetBounds : Program → Outside → Type 0
-MetBounds p o = (tables : MethodKey → Table) → AreTypings (named p) tables → (c : Solution) → IsSolution (named p) (outer_of p o) c
-    → IsFlatBound p o (numbered p (met_table (named p) tables (restricted (named p) tables c)))
+-- Facts are under a solution also where it says that no number is there which the kinds of a typing don't let be there.
+abbrev pub MetLow : Program → Outside → Facts → Type 0
+MetLow p o t = (tables : MethodKey → Table) → AreTypings (named p) tables → (c : Solution) → IsSolution (named p) (outer_of p o) c
+    → AreFactsUnder p (numbered p (met_table (named p) tables (restricted (named p) tables c))) t
 
 -- the arrays of the least typings have a dimension
 abbrev pub HaveDimensions : Program → Hierarchy → Type 0

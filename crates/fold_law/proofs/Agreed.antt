@@ -36,7 +36,7 @@ use Rattle.fold_law.specs.Asked.{IsSettled}
 use Rattle.fold_law.specs.Kinds.{Agrees, IsTypedBy, KindsAgree}
 use Rattle.fold_law.specs.Met.{HaveDimensions, MetLow}
 use Rattle.fold_law.specs.Typings.{BodyOf}
-use Rattle.fold_law.proofs.Agreeing.{agrees_here, fits_here, knows, no_wide_there}
+use Rattle.fold_law.proofs.Agreeing.{no_wide_there, number_fits, number_typed}
 use Rattle.fold_law.proofs.Known.{register_is}
 use Rattle.fold_law.proofs.Methods.{body_of_key}
 use Rattle.fold_law.proofs.Tables.{class_stands, method_stands}
@@ -87,7 +87,7 @@ module _ (p : Program) (h : Hierarchy) (o : Outside) (t : Facts) (settled : IsSe
       let w = register_is p i f.to f.result in
       let s = some in
       record {
-        fits = fits_here p h o t settled bounds dimensions at m b has_method has_body s.0 s.1 s.2 n i has_insn reached f w.0 w.1 k (knows p h o t settled bounds dimensions at m b has_method has_body s.0 s.1 s.2 n i has_insn reached f w.0 w.1 k is);
+        fits = number_fits p h o t settled bounds dimensions at m b has_method has_body s.0 s.1 s.2 n i has_insn reached f w.0 w.1 k is;
         typed = λ asks g. typed asks g;
       }
     where
@@ -99,8 +99,7 @@ module _ (p : Program) (h : Hierarchy) (o : Outside) (t : Facts) (settled : IsSe
               let w = register_is p i f.to f.result in
               let y = g e in
               let z = asked_typing y.0 y.2 in
-              agrees_here p h o t settled bounds dimensions at m b has_method has_body z.0 (method_table p z.1 y.0) z.2 n i has_insn reached f w.0 w.1 asks (λ d. (z.1, y.0, y.1, refl, y.2)) k
-              (knows p h o t settled bounds dimensions at m b has_method has_body z.0 (method_table p z.1 y.0) z.2 n i has_insn reached f w.0 w.1 k is)
+              number_typed p h o t settled bounds dimensions at m b has_method has_body z.0 (method_table p z.1 y.0) z.2 n i has_insn reached f w.0 w.1 asks (λ d. (z.1, y.0, y.1, refl, y.2)) k is
           by false e = ap (λ (v : Bool). if v then typing_fits asks n i (Some k) else true) e
 
   pub agreed : KindsAgree p h o t at m b

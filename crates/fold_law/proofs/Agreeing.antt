@@ -441,7 +441,7 @@ module _ (p : Program) (h : Hierarchy) (o : Outside) (t : Facts) (settled : IsSe
             subst (λ (z : Parts). IsUnder z (met_flat s.kinds)) (sym d) two,
           )
 
-      pub knows : (k : Number) → number_at p t at.class m.name before n i ≡ Some k → Knows k
+      knows : (k : Number) → number_at p t at.class m.name before n i ≡ Some k → Knows k
       knows k e =
           let g = gives p o t settled.asked settled.plain settled.low at m b has_method has_body n i has_insn f wide result in
           about_knows wide k g.value (subst (IsAbout g.value wide) (some_same g.number k (sym g.is ∙ e)) g.about) refl (by g.value g.from)
@@ -715,7 +715,7 @@ module _ (p : Program) (h : Hierarchy) (o : Outside) (t : Facts) (settled : IsSe
 
       -- ---- what the kinds say of each form
 
-      pub agrees_here : (asks : Option typings.Table) → (is_narrow_move i ≡ true → (cls : Class) × (y : typings.Table) × (asks ≡ Some y) × (table ≡ method_table p cls y) × TypesFor p h at y) → (k : Number) → Knows k → is_typed_so asks n i (Some k) ≡ true
+      agrees_here : (asks : Option typings.Table) → (is_narrow_move i ≡ true → (cls : Class) × (y : typings.Table) × (asks ≡ Some y) × (table ≡ method_table p cls y) × TypesFor p h at y) → (k : Number) → Knows k → is_typed_so asks n i (Some k) ≡ true
       agrees_here asks g k z = by i refl
         where
           one : (s : Slot) (to from : ℕ) → i ≡ insn.Move s to from → is_wide_slot s ≡ false → is_narrow_move (insn.Move s to from) ≡ true → typing_fits asks n (insn.Move s to from) (Some k) ≡ true
@@ -730,7 +730,7 @@ module _ (p : Program) (h : Hierarchy) (o : Outside) (t : Facts) (settled : IsSe
           by (insn.Move slot.Wide to from) e = refl
           by j e = refl
 
-      pub fits_here : (k : Number) → Knows k → fits p before i k ≡ true
+      fits_here : (k : Number) → Knows k → fits p before i k ≡ true
       fits_here k z = subst (λ (j : Insn). fits p before j k ≡ true) refl (by i refl)
         where
           nothing : (j : Insn) (to : ℕ) → i ≡ j → result_of j ≡ Some (to, false) → ((a : ℕ → Flat) → left_of p f.table key.class (option_map (form_of p) before) j a ≡ name.put flat a to Any) → {P : Type 0} → P
@@ -745,6 +745,14 @@ module _ (p : Program) (h : Hierarchy) (o : Outside) (t : Facts) (settled : IsSe
           by (insn.StaticGet item.Object to field) e = field_null to field e k z
           by (insn.StaticGet it to field) e = refl
           by j e = refl
+
+      -- the number that the facts give is let through
+      pub number_fits : (k : Number) → number_at p t at.class m.name before n i ≡ Some k → fits p before i k ≡ true
+      number_fits k e = fits_here k (knows k e)
+
+      pub number_typed : (asks : Option typings.Table) → (is_narrow_move i ≡ true → (cls : Class) × (y : typings.Table) × (asks ≡ Some y) × (table ≡ method_table p cls y) × TypesFor p h at y) → (k : Number)
+          → number_at p t at.class m.name before n i ≡ Some k → is_typed_so asks n i (Some k) ≡ true
+      number_typed asks g k e = agrees_here asks g k (knows k e)
 
     -- ---- branches with known operands
 

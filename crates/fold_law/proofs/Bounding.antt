@@ -2,7 +2,7 @@
 -- kinds with which methods begin.
 use Rattle.std.proofs.Common.{◌≡◌, ◌⊎◌, inl, inr, ℕ, zero, suc, ◌+◌, ◌-◌, ◌<◌, ◌≤◌, Bool, true, false, true≢false, List, [], ◌∷◌, length, Option, Some, None, refl, sym, ap, ◌∙◌, subst, arith}
 use Rattle.std.proofs.lemmas.Bool.{cases_lt}
-use Rattle.std.specs.Prelude.{◌&&◌, if◌then◌else◌, is_some, map, slice_get, Contains}
+use Rattle.std.specs.Prelude.{◌&&◌, ◌++◌, if◌then◌else◌, is_some, map, replicate, slice_get, Contains}
 use Rattle.std.specs.Option.{option_map}
 use Rattle.lemmas.proofs.Bools.{and_left, and_right}
 use Rattle.lemmas.proofs.Lists.{get_map, got_map}
@@ -11,20 +11,28 @@ use Rattle.lemmas.proofs.Options.{none_some, some_same}
 use Rattle.insn_set.specs.declared.form.Insn.{Insn}
 use Rattle.insn_set.specs.declared.form.Insn.TheVariants as insn
 use Rattle.insn_set.specs.declared.ops.InvokeKind.{InvokeKind}
+use Rattle.insn_set.specs.declared.ops.Item.{Item}
 use Rattle.insn_set.specs.declared.ops.Slot.{Slot}
 use Rattle.program_model.specs.Lookups as look
 use Rattle.program_model.specs.OperandRules.{numbers_fit}
 use Rattle.program_model.specs.declared.body.Body.{Body}
+use Rattle.program_model.specs.declared.program.Field.{Field}
 use Rattle.program_model.specs.declared.pass.Outside.{Outside}
 use Rattle.program_model.specs.declared.program.Method.{Method}
 use Rattle.program_model.specs.declared.program.MethodAt.{MethodAt}
 use Rattle.program_model.specs.declared.program.Program.{Program}
-use Rattle.class_defs.proofs.WellFormed.{below, Sound}
+use Rattle.class_defs.specs.Finding as look_up
+use Rattle.class_defs.proofs.WellFormed.{below, class_parts, Sound}
+use Rattle.call_graph.specs.Least.{IsLeastSet}
+use Rattle.call_graph.specs.declared.live_set.LiveSet.{LiveSet}
+use Rattle.call_targets.specs.Targeted.{call_at, interface_of, IsEntered, IsLink}
+use Rattle.call_targets.specs.declared.table.Link.{Link}
+use Rattle.closed_facts.specs.Fields as number
 use Rattle.flow_cfg.specs.Walks.{thrown_to}
 use Rattle.dalvik_defs.specs.Face.{bodies_of}
 use Rattle.dalvik_defs.specs.Find.{finds_field, Found}
 use Rattle.dalvik_defs.specs.Names.{Text}
-use Rattle.dalvik_defs.specs.Naming.{body_of, form_of, method_at, named}
+use Rattle.dalvik_defs.specs.Naming.{body_of, field_at, form_of, method_at, named, named_field}
 use Rattle.dalvik_defs.specs.Outer.{outer_of}
 use Rattle.dalvik_defs.specs.declared.forms.Form.{Form}
 use Rattle.dalvik_defs.specs.declared.forms.Form.TheVariants as form
@@ -38,39 +46,53 @@ use Rattle.domains.specs.Values.{least_value, Parts}
 use Rattle.dom_frame.specs.Registers.{Registers, value_at}
 use Rattle.pass_defs.specs.Calls.{may_find}
 use Rattle.pass_defs.specs.Constants.{flat, IsSolution, Solution}
+use Rattle.value_ops.specs.Numbers.{stored_value}
+use Rattle.run_facts.specs.ValueAnalysis.{known_value}
+use Rattle.run_laws.specs.Regular as sound
+use Rattle.removal_law.proofs.Trees.{class_name}
 use Rattle.pass_defs.specs.Demands.{is_allowed, meets, of_type}
 use Rattle.pass_defs.specs.Facts as name
-use Rattle.pass_defs.specs.Flat.{Flat, Any, Bottom, FlatBelow}
+use Rattle.pass_defs.specs.Flat.{Flat, Any, Bottom, flat_stored, FlatBelow}
 use Rattle.pass_defs.specs.Kinds.{is_below, Kind, kind_of, Undefined}
 use Rattle.pass_defs.specs.Leaves.{may_leave}
 use Rattle.pass_defs.specs.Quiet.{takes_result}
-use Rattle.pass_defs.specs.Registers.{all_below, kind_at, Kinds, kinds_below}
-use Rattle.pass_defs.specs.Typed.{after, called, IsTyping, state_at, Table}
+use Rattle.pass_defs.specs.Registers.{all_below, kind_at, Kinds, kinds_below, state_below}
+use Rattle.pass_defs.specs.Typed.{after, argument_kinds, begun, called, is_wrong, IsTyping, state_at, Table}
 use Rattle.pass_defs.specs.Walks.{caught, form_at, onward}
 use Rattle.form_laws.specs.Changes as change
 use Rattle.form_laws.specs.Typed.{has_front}
 use Rattle.form_laws.proofs.Arriving.{catch_arrives, caught_catches, first_below, onward_arrives}
 use Rattle.form_laws.proofs.Selecting.{each_below}
-use Rattle.form_laws.proofs.Typings.{allowed_at}
+use Rattle.form_laws.proofs.Typings.{allowed_at, right_at}
 use Rattle.reach_bridge.proofs.Held.{stands}
 use Rattle.removal_law.specs.Reach.{IsRegular}
 use Rattle.removal_law.proofs.Lists.{In}
 use Rattle.removal_bridge.proofs.WalkedForms.{same_caught}
-use Rattle.flat_bounds.specs.Bounds.{answer_flat, before_of, BoundFlows, edges_by, field_flat, FlatAt, FlatTable, IsFlatBound, taken_flat}
+use Rattle.flat_bounds.specs.Bounds.{answer_flat, before_of, BoundCall, BoundFlows, edges_by, field_flat, FlatAt, FlatTable, IsFlatBound, IsReached, IsReadied, taken_flat}
 use Rattle.flat_bounds.specs.Under.{AreUnder, ArriveUnder, IsUnder}
 use Rattle.flat_bounds.proofs.Under.{under_below, under_least}
-use Rattle.closed_facts.specs.Found.{own_number}
+use Rattle.closed_facts.specs.Found.{field_in, finds_bound, own_number}
 use Rattle.flat_law.proofs.Edges.{edges_under, IsFit}
 use Rattle.flat_law.proofs.Steps.{left_of, taken_named}
 use Rattle.flat_bridge.specs.Numbered.{class_text, IsAsked, numbered}
-use Rattle.flat_bridge.proofs.Fielding.{field_same}
+use Rattle.flat_law.proofs.Others.{stored_under}
+use Rattle.flat_bridge.proofs.Begun.{begun_known, begun_ranged, first_under}
+use Rattle.flat_bridge.proofs.Bound.{answers_under}
+use Rattle.flat_bridge.proofs.Calling.{bound_found, call_low, found_named}
+use Rattle.flat_bridge.proofs.Fielding.{field_same, owns}
+use Rattle.flat_bridge.proofs.Linked.{link_found}
+use Rattle.flat_bridge.proofs.Opened.{defined_itself, placed}
+use Rattle.flat_bridge.proofs.Putting.{puts_form, puts_low}
 use Rattle.flat_bridge.proofs.Fits.{insn_fit}
 use Rattle.flat_bridge.proofs.Standing.{Owned, owned}
 use Rattle.fold_law.specs.Asked.{IsWithin}
 use Rattle.fold_law.specs.Typings.{AreTypings, begun_kind, BodyOf, first_argument, IsFronted, met, met_registers, met_table, suits}
+use Rattle.fold_law.proofs.Above.{above_types}
+use Rattle.fold_law.proofs.Holding.{first_of, first_suits, put_suits}
+use Rattle.fold_law.proofs.Passing.{call_suits}
 use Rattle.fold_law.proofs.Joined.{all_least, all_suit, below_itself, below_on, met_below, one_in_join, only_any}
 use Rattle.fold_law.proofs.Methods.{body_of_key, found_signature, key_is}
-use Rattle.fold_law.proofs.Parts.{after_below}
+use Rattle.fold_law.proofs.Parts.{after_below, part_below, stored_part}
 use Rattle.fold_law.proofs.Restricted.{next_onward, Stands, stands_so}
 use Rattle.fold_law.proofs.Suits.{after_suits, any_suits, suits_up}
 use Rattle.fold_law.proofs.Tamed.{below_met, met_any, met_part, met_rises, met_suits, type_suits}
@@ -90,7 +112,7 @@ before_same : (p : Program) (body : Body) (n : ℕ) → name.form_before (body_o
 before_same p body zero = refl
 before_same p body (suc n) = get_map (form_of p) body.insns n
 
-module _ (p : Program) (o : Outside) (asked : IsAsked p o) (regular : IsRegular (named p)) (tables : MethodKey → Table) (typings : AreTypings (named p) tables) (less : Solution)
+module _ (p : Program) (o : Outside) (asked : IsAsked p o) (regular : IsRegular (named p)) (run : sound.IsRegular (named p)) (tables : MethodKey → Table) (typings : AreTypings (named p) tables) (less : Solution)
     (closed : IsSolution (named p) (outer_of p o) less)
     (stand : (k : MethodKey) (n : ℕ) (b : NamedBody) (a : ℕ → Flat) → bodies_of (named p) k ≡ Some b → less.registers k n ≡ Some a → Stands (tables k) n a)
     (bounded : FlatTable) (bound : IsFlatBound p o bounded) (within : IsWithin bounded (numbered p less)) where
@@ -423,3 +445,190 @@ module _ (p : Program) (o : Outside) (asked : IsAsked p o) (regular : IsRegular 
 
   pub flows_met : BoundFlows p tamed
   flows_met = record { onward = onward_met; thrown = thrown_met; returns = returns_met; begins = begins_met }
+
+  -- ---- calls
+
+  -- a method that the bound reaches is reached
+  reach_met : (m : ℕ) → is_some (bounded.registers m 0) ≡ true → is_some (tamed.registers m 0) ≡ true
+  reach_met m h = by (bounded.registers m 0) refl h
+    where
+      some : (a : ℕ → Flat) → less.registers (method_at p m) 0 ≡ Some a → is_some (tame.registers (method_at p m) 0) ≡ true
+      some a l = of (bodies_of q (method_at p m))
+        where
+          state : (y : Option Kinds) → is_some (elim y as (λ y. Option (ℕ → Flat)) [ Some s ↦ Some (λ r. met (kind_at s.registers r) (a r)) | None ↦ Some a ]) ≡ true
+          state None = refl
+          state (Some s) = refl
+
+          of : (y : Option NamedBody) → is_some (elim y as (λ y. Option (ℕ → Flat)) [ Some b ↦ met_registers (tables (method_at p m)) 0 (less.registers (method_at p m) 0) | None ↦ less.registers (method_at p m) 0 ]) ≡ true
+          of None = ap is_some l
+          of (Some b) = ap (λ y. is_some (met_registers (tables (method_at p m)) 0 y)) l ∙ state (state_at (tables (method_at p m)) 0)
+
+      by : (y : Option (ℕ → Flat)) → bounded.registers m 0 ≡ y → is_some y ≡ true → is_some (tamed.registers m 0) ≡ true
+      by None e h = absurd (true≢false (sym h))
+      by (Some a) e h = ap (λ y. is_some (cut y (tame.registers (method_at p m) 0))) e ∙ some a (within.registers m 0 a e)
+
+  -- the kinds of arguments stand behind undefined ones
+  argument_at : (n : ℕ) (ks : List Kind) (i : ℕ) → kind_at (replicate n Undefined ++ ks) (n + i) ≡ kind_at ks i
+  argument_at zero ks i = ap (kind_at ks) (omega arith)
+  argument_at (suc n) ks i = ap (kind_at (replicate (suc n) Undefined ++ ks)) (let e : suc n + i ≡ suc (n + i) = omega arith in e) ∙ argument_at n ks i
+
+  -- what suits the kind of an argument suits that with which the method begins in the typing
+  begun_so : (k : MethodKey) (b : NamedBody) (x : BodyOf q k b) (i : ℕ) (v : Flat) → suits (kind_at (argument_kinds q x.class x.method) i) true v ≡ true → suits (begun_kind (tables k) (first_argument b + i)) true v ≡ true
+  begun_so k b x i v h = by (state_at (tables k) 0) refl (typings.typed k b x).entry
+    where
+      by : (y : Option Kinds) → state_at (tables k) 0 ≡ y → state_below q (Some (begun q x.class x.method b)) (state_at (tables k) 0) ≡ true → suits (begun_kind (tables k) (first_argument b + i)) true v ≡ true
+      by None e w = absurd (true≢false (sym (sym (ap (state_below q (Some (begun q x.class x.method b))) e) ∙ w)))
+      by (Some l) e w =
+          let low = sym (ap (state_below q (Some (begun q x.class x.method b))) e) ∙ w in
+          let r = first_argument b + i in
+          subst (λ (c : Kind). suits c true v ≡ true) (sym (begun_is k l r e))
+          (suits_up q (kind_at (begun q x.class x.method b).registers r) (kind_at l.registers r) true v (each_below q (begun q x.class x.method b).registers l.registers r (first_below q (begun q x.class x.method b) l low))
+          (subst (λ (c : Kind). suits c true v ≡ true) (sym (argument_at (b.registers - b.ins) (argument_kinds q x.class x.method) i)) h))
+
+  call_met : (at : MethodAt) (n method : ℕ) (kind : InvokeKind) (args : List ℕ) (m : ℕ) (coded : Bool) (g : Found) (here : FlatAt p tamed at n) → here.insn ≡ insn.Invoke kind method args
+      → Contains (may_find q (method_at p here.method.name).class kind (method_at p method)) g → g.key ≡ method_at p m → ((z : Spot at n here) → BoundCall bounded m coded args z.registers) → BoundCall tamed m coded args here.registers
+  call_met at n method kind args m coded g here is found key low = record {
+    passes = λ word r v get h. subst (λ (k : MethodKey). IsUnder v (tame.parameters k word)) key (passed word r v get h);
+    enters = λ c. reach_met m ((low (spot at n here)).enters c);
+  }
+    where
+      passed : (word r : ℕ) (v : Parts) → slice_get args word ≡ Some r → IsUnder v (here.registers r) → IsUnder v (tame.parameters g.key word)
+      passed word r v get h = by (bodies_of q g.key) refl
+        where
+          z : Spot at n here
+          z = spot at n here
+
+          u : Flat
+          u = mets (spot at n here).kinds (spot at n here).registers r
+
+          under : IsUnder v (mets (spot at n here).kinds (spot at n here).registers r)
+          under = let z = spot at n here in subst (λ (a : ℕ → Flat). IsUnder v (a r)) z.same h
+
+          fits_low : FlatBelow (mets (spot at n here).kinds (spot at n here).registers r) (less.parameters g.key word)
+          fits_low = let z = spot at n here in below_on (mets z.kinds z.registers r) (z.registers r) (less.parameters g.key word) (met_below (kind_at z.kinds.registers r) (z.registers r))
+              (closed.calls.passes (method_at p here.method.name) (method_at p method) n word r kind args g (named_here at n here z) (ap (form_of p) is) found get)
+
+          by : (y : Option NamedBody) → bodies_of q g.key ≡ y → IsUnder v (tame.parameters g.key word)
+          by None e = subst (IsUnder v) (sym (ap (λ y. elim y as (λ y. Flat) [ Some b ↦ met (begun_kind (tables g.key) (first_argument b + word)) (less.parameters g.key word) | None ↦ less.parameters g.key word ]) e))
+              (let z = spot at n here in under_below v (mets z.kinds z.registers r) (less.parameters g.key word) under fits_low)
+          by (Some b) e =
+              let z = spot at n here in
+              let c = z.owner.class in
+              let x = body_of_key q g.key b e in
+              let caller : MethodKey = method_at p here.method.name in
+              let wrong = subst (λ (i : Insn). is_wrong q c z.owner.method z.kinds (form_of p i) ≡ false) is
+              (right_at q c z.owner.method (body_of p here.body) (tables caller) (typings.typed caller (body_of p here.body) z.owner) n (form_of p here.insn) z.kinds (has_form at n here z) z.state) in
+              let allowed = subst (λ (i : Insn). is_allowed q c z.owner.method z.kinds (form_of p i) ≡ true) is (allowed_here at n here z) in
+              let suit = call_suits q regular run.methods (above_types p asked.sound) caller.class c z.owner.method z.kinds (mets z.kinds z.registers) (suit_met at n here z) (class_name q caller.class c z.owner.is_class) (method_at p method) g b x
+              kind args allowed wrong found word r get in
+              subst (IsUnder v) (sym (parameters_met g.key b word e))
+              (under_below v (mets z.kinds z.registers r) (met (begun_kind (tables g.key) (first_argument b + word)) (less.parameters g.key word)) under
+              (below_met (begun_kind (tables g.key) (first_argument b + word)) (mets z.kinds z.registers r) (less.parameters g.key word)
+              (begun_so g.key b x word (mets z.kinds z.registers r) suit) fits_low))
+
+  named_met : (at : MethodAt) (n method : ℕ) (kind : InvokeKind) (args : List ℕ) (found : MethodAt) (m : Method) (here : FlatAt p tamed at n) → here.insn ≡ insn.Invoke kind method args
+      → finds_bound p at.class method kind ≡ look_up.Finds found → look.method_at p found ≡ Some m → BoundCall tamed m.name (is_some m.body) args here.registers
+  named_met at n method kind args found m here is finds e =
+      let own = owned p asked.sound asked.once at here.method here.has_method in
+      let fits = insn_fit p asked.sound at here.method here.body n here.insn here.has_method here.has_body here.has_insn in
+      let low = call_low p kind method args (subst (λ (i : Insn). numbers_fit i p ≡ true) is fits.1) in
+      let g = found_named p asked.sound asked.once found m e in
+      call_met at n method kind args m.name (is_some m.body) g.found here is
+      (bound_found p asked.sound asked.once at.class (method_at p here.method.name).class method kind found g.found at here.method here.has_method refl own.text_is low finds g.is) g.key
+      (λ z. bound.calls.named at n method kind args found m (below_here at n here z) is finds e)
+
+  linked_met : (live : LiveSet) → IsLeastSet p o live → (at : MethodAt) (n method : ℕ) (kind : InvokeKind) (args : List ℕ) (interface : Bool) (link : Link) (here : FlatAt p tamed at n)
+      → here.insn ≡ insn.Invoke kind method args → interface_of kind ≡ Some interface → IsLink p live link → link.call ≡ call_at method interface → BoundCall tamed link.method true args here.registers
+  linked_met live least at n method kind args interface link here is way r e =
+      let f = link_found p o asked (method_at p here.method.name).class live method kind interface link way r e in
+      call_met at n method kind args link.method true f.found here is f.among f.key (λ z. bound.calls.linked live least at n method kind args interface link (below_here at n here z) is way r e)
+
+  -- ---- fields
+
+  field_kind : (f : ℕ) → tame.fields (field_at p f) ≡ met (kind_of q (field_at p f).kind) (less.fields (field_at p f))
+  field_kind f = refl
+
+  puts_met : (at : MethodAt) (n from field own : ℕ) (item : Item) (v : Parts) (here : FlatAt p tamed at n) → number.Puts item from field here.insn → own_number p field ≡ Some own → IsUnder v (here.registers from)
+      → IsUnder (stored_value item v) (tamed.fields own)
+  puts_met at n from field own item v here puts e h =
+      let z = spot at n here in
+      let fits = insn_fit p asked.sound at here.method here.body n here.insn here.has_method here.has_body here.has_insn in
+      let it = owns p asked.sound field own (puts_low p item from field here.insn puts fits.1) e in
+      let u : Flat = mets z.kinds z.registers from in
+      let a : Flat = z.registers from in
+      let k : FieldKey = field_at p own in
+      let named_put = puts_form p item from field here.insn puts in
+      let low : FlatBelow (flat_stored item a) (less.fields k) = subst (λ (k : FieldKey). FlatBelow (flat_stored item a) (less.fields k)) it.is
+      (closed.fields.puts (method_at p here.method.name) n from item (field_at p field) it.field (named_here at n here z) named_put it.finds) in
+      let caller : MethodKey = method_at p here.method.name in
+      let wrong = right_at q z.owner.class z.owner.method (body_of p here.body) (tables caller) (typings.typed caller (body_of p here.body) z.owner) n (form_of p here.insn) z.kinds (has_form at n here z) z.state in
+      let suit : suits (kind_of q (field_at p field).kind) true (flat_stored item u) ≡ true =
+      put_suits q z.owner.class z.owner.method z.kinds item from (field_at p field) (form_of p here.insn) named_put (allowed_here at n here z) wrong u (suit_met at n here z from) in
+      let same : (field_at p field).kind ≡ k.kind = ap (λ (k : FieldKey). k.kind) it.is in
+      under_below (stored_value item v) (flat_stored item u) (met (kind_of q k.kind) (less.fields k)) (stored_under item v u (subst (λ (b : ℕ → Flat). IsUnder v (b from)) z.same h))
+      (below_met (kind_of q k.kind) (flat_stored item u) (less.fields k) (subst (λ (t : Text). suits (kind_of q t) true (flat_stored item u) ≡ true) same suit)
+      (below_on (flat_stored item u) (flat_stored item a) (less.fields k) (part_below (flat_stored item u) (flat_stored item a) (stored_part item u a (met_part (kind_at z.kinds.registers from) a))) low))
+
+  firsts_met : (at : ℕ × ℕ) (f : Field) → field_in p at ≡ Some f → IsUnder (number.begun_parts p f) (tamed.fields f.name)
+  firsts_met at f e =
+      let w = placed p at f e in
+      let parts = (class_parts p asked.sound at.0 w.class w.is_class).fields at.1 f w.is_field in
+      let k = field_at p f.name in
+      let d = named_field p f in
+      let there = defined_itself p o asked at f e in
+      let begun = name.begun_with k d in
+      let under : IsUnder (known_value begun) (name.first_fact flat begun) = first_under begun (begun_ranged k d (asked.firsts k d there)) in
+      under_below (number.begun_parts p f) (name.first_fact flat begun) (met (kind_of q k.kind) (less.fields k))
+      (subst (λ (v : Parts). IsUnder v (name.first_fact flat begun)) (begun_known p asked.sound f parts.entry parts.is) under)
+      (below_met (kind_of q k.kind) (name.first_fact flat begun) (less.fields k) (first_suits q k d (first_of p run at.0 at.1 f w.class w.is_class w.is_field)) (closed.fields.firsts k d there))
+
+  opened_met : (at : ℕ × ℕ) (f : Field) → field_in p at ≡ Some f → Contains o.fields f.name ⊎ Contains o.fields_if f.name → tamed.fields f.name ≡ Any
+  opened_met at f e c =
+      let k = field_at p f.name in
+      ap (met (kind_of q k.kind)) (sym (within.fields f.name) ∙ bound.fields.opened at f e c) ∙ met_any (kind_of q k.kind)
+
+  -- ---- entries
+
+  ready_met : (c : ℕ) → IsReadied p bounded c → IsReadied p tamed c
+  ready_met c h = λ d i m w s e. reach_met m.name (h d i m w s e)
+
+  opens_met : (live : LiveSet) → IsLeastSet p o live → (m : ℕ) → IsEntered p o live m → ((word : ℕ) → tamed.parameters m word ≡ Any) × IsReached tamed m
+  opens_met live least m e =
+      let w = bound.entries.opens live least m e in (
+        λ word. any_parameter (bodies_of q (method_at p m)) word (sym (within.parameters m word) ∙ w.0 word),
+        reach_met m w.1,
+      )
+    where
+      any_parameter : (y : Option NamedBody) (word : ℕ) → less.parameters (method_at p m) word ≡ Any
+          → (elim y as (λ y. Flat) [ Some b ↦ met (begun_kind (tables (method_at p m)) (first_argument b + word)) (less.parameters (method_at p m) word) | None ↦ less.parameters (method_at p m) word ]) ≡ Any
+      any_parameter None word e = e
+      any_parameter (Some b) word e = ap (met (begun_kind (tables (method_at p m)) (first_argument b + word))) e ∙ met_any (begun_kind (tables (method_at p m)) (first_argument b + word))
+
+  pub tamed_bound : IsFlatBound p o tamed
+  tamed_bound =
+      let answers = answers_under p o asked tame in
+      record {
+        flows = flows_met;
+        calls = record { named = named_met; linked = linked_met };
+        answers = record { named = answers.named; leaves_named = answers.leaves_named; linked = answers.linked; leaves = answers.leaves; others = answers.others };
+        fields = record { firsts = firsts_met; opened = opened_met; puts = puts_met };
+        entries = record {
+          opens = opens_met;
+          begun = λ c e. ready_met c (bound.entries.begun c e);
+          needed = λ at n c here i. ready_met c (bound.entries.needed at n c (below_here at n here (spot at n here)) i);
+        };
+      }
+
+  -- what is under it is under what kinds leave of the solution
+  pub tamed_within : IsWithin tamed (numbered p tame)
+  tamed_within = record {
+    parameters = λ m word. refl;
+    results = λ m. refl;
+    registers = λ m n a e. uncut (bounded.registers m n) (tame.registers (method_at p m) n) a e;
+    fields = λ f. refl;
+    answers = λ class i. refl;
+  }
+    where
+      uncut : (x y : Option (ℕ → Flat)) (a : ℕ → Flat) → cut x y ≡ Some a → y ≡ Some a
+      uncut None y a e = none_some a e
+      uncut (Some b) y a e = e

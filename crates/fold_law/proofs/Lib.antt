@@ -14,6 +14,9 @@ pub mod Tables
 pub mod Joined
 pub mod Parts
 pub mod Tamed
+pub mod Above
+pub mod Passing
+pub mod Holding
 pub mod Bounding
 pub mod Letters
 pub mod Agreeing

@@ -1,5 +1,5 @@
 -- What kinds leave of known values suits them, and what suits a kind and is below a value is below what the kind leaves of it.
-use Rattle.std.proofs.Common.{◌≡◌, List, ℕ, ◌-◌, Bool, true, false, true≢false, refl, sym, ap, ◌∙◌}
+use Rattle.std.proofs.Common.{◌≡◌, List, ℕ, ◌-◌, Bool, true, false, true≢false, refl, sym, ap, ◌∙◌, subst}
 use Rattle.std.specs.Prelude.{if◌then◌else◌}
 use Rattle.lemmas.proofs.Bools.{clash}
 use Rattle.dalvik_defs.specs.Names.{is_array, is_reference, is_wide, is_word, Text}

@@ -6,7 +6,13 @@
 //!
 //! - `Left`: what the facts and the kinds allow at a position is left nowhere. `Numbers`, `Ways`: the number or the way that values
 //!   under known flat ones give. `Given`: what calls and fields bring is under what they bring in a solution.
-//! - `Folded`: a position at which a solution knows the result, or the outcome, is one where the facts allow a constant or a way.
+//! - `Known`, `Pure`, `Folded`: a position at which a solution knows the result, or the outcome, is one where the facts allow a constant
+//!   or a way, and the constant is worth its place.
+//! - `Suits`, `Entries`, `Methods`, `Restricted`, `Tables`: a solution stays one where it reaches only positions that have a state in a
+//!   typing, and where nothing is known of objects that no constructor was called on.
+//! - `Joined`, `Parts`, `Tamed`, `Above`, `Passing`, `Holding`, `Bounding`, `Lowering`: what kinds leave of such a solution is no solution,
+//!   as a branch on nothing goes both ways; but by number it bounds an analysis, so that the facts are under it.
+//! - `Letters`, `Agreeing`, `Agreed`: so the kinds let through what the facts know. `Whole` has the laws.
 //!
 //! This crate declares no types of its own. Its functions have an empty body, and their contracts are the laws.
 #![tactic(auto)]

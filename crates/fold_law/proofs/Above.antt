@@ -1,5 +1,5 @@
 -- What stands directly above a class of a well-formed program is a class type.
-use Rattle.std.proofs.Common.{◌≡◌, ℕ, Bool, true, false, List, [], ◌∷◌, refl, sym, ap, ◌∙◌, subst}
+use Rattle.std.proofs.Common.{◌≡◌, inl, inr, ℕ, Bool, true, false, List, [], ◌∷◌, refl, sym, ap, ◌∙◌, subst}
 use Rattle.std.specs.Prelude.{◌&&◌, map, not, slice_get, Contains}
 use Rattle.std.specs.List.{list_all}
 use Rattle.lemmas.proofs.Bools.{clash}

@@ -32,10 +32,10 @@ use Rattle.const_prop.specs.declared.numbers.Number.{Number}
 use Rattle.const_prop.specs.Allowed.{insn_before}
 use Rattle.const_prop.specs.Given.{number_at}
 use Rattle.const_prop.specs.Kinds.{is_narrow_move, is_typed_so, typing_fits}
-use Rattle.fold_law.specs.Asked.{IsSettled}
+use Rattle.fold_law.specs.Asked.{HaveDimensions, IsSettled}
 use Rattle.fold_law.specs.Kinds.{Agrees, IsTypedBy, KindsAgree}
-use Rattle.fold_law.specs.Met.{HaveDimensions, MetLow}
-use Rattle.fold_law.specs.Typings.{BodyOf}
+use Rattle.fold_law.proofs.Within.{MetLow}
+use Rattle.fold_law.proofs.Typings.{BodyOf}
 use Rattle.fold_law.proofs.Agreeing.{no_wide_there, number_fits, number_typed}
 use Rattle.fold_law.proofs.Known.{register_is}
 use Rattle.fold_law.proofs.Methods.{body_of_key}

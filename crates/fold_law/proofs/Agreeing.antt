@@ -100,9 +100,9 @@ use Rattle.const_prop.specs.Constants.{result_of}
 use Rattle.const_prop.specs.Given.{given, number_at}
 use Rattle.const_prop.specs.Kinds.{fits, in_kind, in_result, in_type, is_free, is_narrow_move, is_null, is_typed_so, is_wide_number, is_word, letter, typing_fits}
 use Rattle.const_prop.specs.Known.{zero_number}
-use Rattle.fold_law.specs.Asked.{IsSettled}
-use Rattle.fold_law.specs.Met.{HaveDimensions, MetLow}
-use Rattle.fold_law.specs.Typings.{AreTypings, BodyOf, is_any, met, met_registers, met_table, null_fits, restricted, suits}
+use Rattle.fold_law.specs.Asked.{HaveDimensions, IsSettled}
+use Rattle.fold_law.proofs.Within.{MetLow}
+use Rattle.fold_law.proofs.Typings.{AreTypings, BodyOf, is_any, met, met_registers, met_table, null_fits, restricted, suits}
 use Rattle.fold_law.proofs.Known as shown
 use Rattle.fold_law.proofs.Joined.{all_least, all_null, below_on, met_below, one_in_join}
 use Rattle.fold_law.proofs.Known.{gives, left_under, low, put_itself, put_there}

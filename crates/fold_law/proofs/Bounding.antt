@@ -86,7 +86,7 @@ use Rattle.flat_bridge.proofs.Putting.{puts_form, puts_low}
 use Rattle.flat_bridge.proofs.Fits.{insn_fit}
 use Rattle.flat_bridge.proofs.Standing.{Owned, owned}
 use Rattle.fold_law.specs.Asked.{IsWithin}
-use Rattle.fold_law.specs.Typings.{AreTypings, begun_kind, BodyOf, first_argument, IsFronted, met, met_registers, met_table, suits}
+use Rattle.fold_law.proofs.Typings.{AreTypings, begun_kind, BodyOf, first_argument, IsFronted, met, met_registers, met_table, suits}
 use Rattle.fold_law.proofs.Above.{above_types}
 use Rattle.fold_law.proofs.Holding.{first_of, first_suits, put_suits}
 use Rattle.fold_law.proofs.Passing.{call_suits}

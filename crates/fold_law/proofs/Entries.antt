@@ -11,7 +11,7 @@ use Rattle.pass_defs.specs.Flat.{Flat, Any}
 use Rattle.pass_defs.specs.Kinds.{Kind, Undefined, Zero, Word, Low, High, Null, Class, Array, Reference, Fresh, FreshThis, is_plain, kind_of, kind_of_reference}
 use Rattle.pass_defs.specs.Registers.{kind_at}
 use Rattle.pass_defs.specs.Typed.{argument_kinds, begun, halves, is_constructor, parameter_kinds, receiver_kind}
-use Rattle.fold_law.specs.Typings.{suits}
+use Rattle.fold_law.proofs.Typings.{suits}
 
 -- the kinds of arguments stand behind undefined ones
 behind_suits : (n : ℕ) (b : Bool) (ks : List Kind) (a : ℕ → Flat) → ((i : ℕ) → suits (kind_at ks i) b (a (n + i)) ≡ true) → (s : ℕ) → suits (kind_at (replicate n Undefined ++ ks) s) b (a s) ≡ true

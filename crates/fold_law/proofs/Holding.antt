@@ -8,7 +8,6 @@ use Rattle.insn_set.specs.declared.ops.Item.{Item}
 use Rattle.insn_set.specs.declared.ops.Item.TheVariants as item
 use Rattle.program_model.specs.declared.program.Class.{Class}
 use Rattle.program_model.specs.declared.program.Field.{Field}
-use Rattle.program_model.specs.declared.program.FieldName.{FieldName}
 use Rattle.program_model.specs.declared.program.Program.{Program}
 use Rattle.class_defs.proofs.WellFormed.{Sound}
 use Rattle.dalvik_defs.specs.Face.{place_of}
@@ -38,7 +37,7 @@ use Rattle.reach_bridge.proofs.Held.{at_stands}
 use Rattle.removal_law.proofs.Lists.{contained}
 use Rattle.run_laws.specs.Regular as sound
 use Rattle.facts_kept.proofs.Beneath.{wide_type}
-use Rattle.fold_law.specs.Typings.{null_fits, suits, word_fits}
+use Rattle.fold_law.proofs.Typings.{null_fits, suits, word_fits}
 use Rattle.fold_law.proofs.Suits.{any_suits}
 use Rattle.fold_law.proofs.Tamed.{type_suits}
 

@@ -10,7 +10,7 @@ use Rattle.dalvik_defs.specs.Names.{is_array, is_reference, is_wide, is_word, Te
 use Rattle.dalvik_defs.specs.declared.program.NamedProgram.{NamedProgram}
 use Rattle.pass_defs.specs.Kinds.{Array, Class, is_plain, Kind, kind_of, kind_of_reference, Low, Reference, Undefined, Word}
 use Rattle.removal_law.proofs.Lists.{here, In, there}
-use Rattle.fold_law.specs.Typings.{met, null_fits, suits, word_fits}
+use Rattle.fold_law.proofs.Typings.{met, null_fits, suits, word_fits}
 
 -- ---- the order
 

@@ -1,3 +1,4 @@
+pub mod Typings
 pub mod Within
 pub mod Left
 pub mod Numbers
@@ -18,6 +19,7 @@ pub mod Above
 pub mod Passing
 pub mod Holding
 pub mod Bounding
+pub mod Lowering
 pub mod Letters
 pub mod Agreeing
 pub mod Agreed

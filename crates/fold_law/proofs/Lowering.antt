@@ -21,12 +21,11 @@ use Rattle.removal_law.specs.Reach.{IsRegular}
 use Rattle.run_laws.specs.Regular as sound
 use Rattle.flat_bridge.specs.Numbered.{numbered}
 use Rattle.fold_law.specs.Asked.{IsBounded, IsSettled}
-use Rattle.fold_law.specs.Met.{MetLow}
-use Rattle.fold_law.specs.Typings.{AreTypings, BodyOf, met_table, restricted}
+use Rattle.fold_law.proofs.Typings.{AreTypings, BodyOf, met_table, restricted}
 use Rattle.fold_law.proofs.Bounding.{tamed, tamed_bound, tamed_within}
 use Rattle.fold_law.proofs.Restricted.{restricted_closed, Stands, stood}
 use Rattle.fold_law.proofs.Tables.{class_stands, method_stands}
-use Rattle.fold_law.proofs.Within.{low_within}
+use Rattle.fold_law.proofs.Within.{low_within, MetLow}
 
 module _ (p : Program) (h : Hierarchy) (o : Outside) (t : Facts) (settled : IsSettled p h o t) where
   abbrev q : NamedProgram

@@ -32,7 +32,7 @@ use Rattle.removal_law.proofs.Trees.{chain_named}
 use Rattle.removal_law.proofs.Lists.{contained, In, here, in_either, there}
 use Rattle.removal_law.proofs.Searches.{at_in, finds_same, nothing_finds}
 use Rattle.removal_law.proofs.Virtuals.{answer, candidate, IsMethodOf}
-use Rattle.fold_law.specs.Typings.{BodyOf}
+use Rattle.fold_law.proofs.Typings.{BodyOf}
 
 -- a call with a receiver that isn't a super call
 abbrev pub is_plain_call : InvokeKind → Bool

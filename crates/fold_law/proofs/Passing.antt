@@ -27,7 +27,7 @@ use Rattle.reach_bridge.proofs.Held.{stands}
 use Rattle.removal_law.proofs.Lists.{In}
 use Rattle.removal_law.specs.Reach.{IsRegular}
 use Rattle.facts_kept.proofs.Beneath.{reference_only, wide_type}
-use Rattle.fold_law.specs.Typings.{BodyOf, is_any, null_fits, suits}
+use Rattle.fold_law.proofs.Typings.{BodyOf, is_any, null_fits, suits}
 use Rattle.pass_defs.specs.Calls.{may_find}
 use Rattle.fold_law.proofs.Methods.{call_reference, constructs, constructs_named, key_reference, static_as, super_reference, is_plain_call, found_signature, key_is, method_key}
 use Rattle.fold_law.proofs.Suits.{any_is, any_suits, null_suits}
@@ -126,11 +126,11 @@ module _ (p : NamedProgram) (regular : IsRegular p) (methods : (c : NamedClass) 
   signature : (kind : InvokeKind) → In g (may_find p class kind k) → y.method.signature ≡ k.signature
   signature kind i = ap (λ (j : MethodKey). j.signature) (key_is p g.key b y) ∙ found_signature p regular class kind k g i
 
-  abbrev met : ℕ × Demand → Bool
-  met d = meets p c s.registers d.0 d.1
+  abbrev asks : ℕ × Demand → Bool
+  asks d = meets p c s.registers d.0 d.1
 
   -- the words of the parameters
-  behind : (kind : InvokeKind) → In g (may_find p class kind k) → (rs : List ℕ) → list_all met (passed k.signature.parameters rs) ≡ true → (i r : ℕ) → slice_get rs i ≡ Some r
+  behind : (kind : InvokeKind) → In g (may_find p class kind k) → (rs : List ℕ) → list_all asks (passed k.signature.parameters rs) ≡ true → (i r : ℕ) → slice_get rs i ≡ Some r
       → suits (kind_at (parameter_kinds p y.method.signature.parameters) i) true (x r) ≡ true
   behind kind j rs e i r get = subst (λ (z : Signature). suits (kind_at (parameter_kinds p z.parameters) i) true (x r) ≡ true) (sym (signature kind j)) (passed_suits p c s.registers x h k.signature.parameters rs e i r get)
 
@@ -145,7 +145,7 @@ module _ (p : NamedProgram) (regular : IsRegular p) (methods : (c : NamedClass) 
 
   -- the words, the receiver first
   held : (kind : InvokeKind) → is_static_call kind ≡ false → In g (may_find p class kind k) → is_static y.method.flags ≡ is_static_call kind
-      → (r0 : ℕ) (rs : List ℕ) → suits (receiver_kind y.class y.method) true (x r0) ≡ true → list_all met (passed k.signature.parameters rs) ≡ true → (i r : ℕ) → slice_get (r0 ∷ rs) i ≡ Some r
+      → (r0 : ℕ) (rs : List ℕ) → suits (receiver_kind y.class y.method) true (x r0) ≡ true → list_all asks (passed k.signature.parameters rs) ≡ true → (i r : ℕ) → slice_get (r0 ∷ rs) i ≡ Some r
       → suits (kind_at (argument_kinds p y.class y.method) i) true (x r) ≡ true
   held kind e j same r0 rs first rest i r get =
       subst (λ (v : Bool). suits (kind_at (elim v as (λ v. List Kind) [ true ↦ parameter_kinds p y.method.signature.parameters | false ↦ receiver_kind y.class y.method ∷ parameter_kinds p y.method.signature.parameters ]) i) true (x r) ≡ true)
@@ -156,13 +156,13 @@ module _ (p : NamedProgram) (regular : IsRegular p) (methods : (c : NamedClass) 
       by (suc i) get = behind kind j rs rest i r get
 
   plain : (kind : InvokeKind) (r0 : ℕ) (rs : List ℕ) → is_plain_call kind ≡ true → is_static_call kind ≡ false → Contains (may_find p class kind k) g → In g (may_find p class kind k) → is_static y.method.flags ≡ is_static_call kind
-      → (met (r0, if is_constructor_name k.name then Constructed k.class else Fits k.class) && list_all met (passed k.signature.parameters rs)) ≡ true → (i r : ℕ) → slice_get (r0 ∷ rs) i ≡ Some r
+      → (asks (r0, if is_constructor_name k.name then Constructed k.class else Fits k.class) && list_all asks (passed k.signature.parameters rs)) ≡ true → (i r : ℕ) → slice_get (r0 ∷ rs) i ≡ Some r
       → suits (kind_at (argument_kinds p y.class y.method) i) true (x r) ≡ true
   plain kind r0 rs plainly e there j same al i r get =
-      held kind e j same r0 rs (by (is_constructor_name k.name) refl (and_left (met (r0, if is_constructor_name k.name then Constructed k.class else Fits k.class)) (list_all met (passed k.signature.parameters rs)) al))
-      (and_right (met (r0, if is_constructor_name k.name then Constructed k.class else Fits k.class)) (list_all met (passed k.signature.parameters rs)) al) i r get
+      held kind e j same r0 rs (by (is_constructor_name k.name) refl (and_left (asks (r0, if is_constructor_name k.name then Constructed k.class else Fits k.class)) (list_all asks (passed k.signature.parameters rs)) al))
+      (and_right (asks (r0, if is_constructor_name k.name then Constructed k.class else Fits k.class)) (list_all asks (passed k.signature.parameters rs)) al) i r get
     where
-      by : (v : Bool) → is_constructor_name k.name ≡ v → met (r0, if v then Constructed k.class else Fits k.class) ≡ true → suits (receiver_kind y.class y.method) true (x r0) ≡ true
+      by : (v : Bool) → is_constructor_name k.name ≡ v → asks (r0, if v then Constructed k.class else Fits k.class) ≡ true → suits (receiver_kind y.class y.method) true (x r0) ≡ true
       by true d f = any_receiver r0 (constructed_any p c s.registers x h k.class (kind_at s.registers r0) (x r0) f (h r0))
       by false d f = receiver kind e there r0 d (fits_null p c s.registers x h k.class r0 (call_reference p regular above class kind k g plainly j) f)
 
@@ -191,13 +191,13 @@ module _ (p : NamedProgram) (regular : IsRegular p) (methods : (c : NamedClass) 
       by call.Super (r0 ∷ rs) al u v there j get =
           held call.Super refl j (static_as p regular methods class c call.Super k g j named u v b y) r0 rs
           (receiver call.Super refl there r0 (or_false_left (is_constructor_name k.name) (finds_static (finds_super p c.name k)) v) (null (super_reference p regular above class k g j)))
-          (all_behind met (map (λ d. (r0, d)) (map Fits (found_class (finds_super p c.name k)))) (passed k.signature.parameters rs)
-          (and_right (fits p (kind_at s.registers r0) k.class) (list_all met (map (λ d. (r0, d)) (map Fits (found_class (finds_super p c.name k))) ++ passed k.signature.parameters rs)) al)) i r get
+          (all_behind asks (map (λ d. (r0, d)) (map Fits (found_class (finds_super p c.name k)))) (passed k.signature.parameters rs)
+          (and_right (fits p (kind_at s.registers r0) k.class) (list_all asks (map (λ d. (r0, d)) (map Fits (found_class (finds_super p c.name k))) ++ passed k.signature.parameters rs)) al)) i r get
         where
           null : (finds_super p class k ≡ Finds g) ⊎ (is_reference k.class ≡ true) → null_fits (x r0) ≡ true
-          null (inr e) = fits_null p c s.registers x h k.class r0 e (and_left (fits p (kind_at s.registers r0) k.class) (list_all met (map (λ d. (r0, d)) (map Fits (found_class (finds_super p c.name k))) ++ passed k.signature.parameters rs)) al)
+          null (inr e) = fits_null p c s.registers x h k.class r0 e (and_left (fits p (kind_at s.registers r0) k.class) (list_all asks (map (λ d. (r0, d)) (map Fits (found_class (finds_super p c.name k))) ++ passed k.signature.parameters rs)) al)
           null (inl e) =
               let found : finds_super p c.name k ≡ Finds g = ap (λ (t : Text). finds_super p t k) named ∙ e in
-              let rest = and_right (fits p (kind_at s.registers r0) k.class) (list_all met (map (λ d. (r0, d)) (map Fits (found_class (finds_super p c.name k))) ++ passed k.signature.parameters rs)) al in
-              let second = subst (λ (z : Search). list_all met (map (λ d. (r0, d)) (map Fits (found_class z)) ++ passed k.signature.parameters rs) ≡ true) found rest in
-              fits_null p c s.registers x h g.key.class r0 (key_reference p regular above g b y) (and_left (fits p (kind_at s.registers r0) g.key.class) (list_all met (passed k.signature.parameters rs)) second)
+              let rest = and_right (fits p (kind_at s.registers r0) k.class) (list_all asks (map (λ d. (r0, d)) (map Fits (found_class (finds_super p c.name k))) ++ passed k.signature.parameters rs)) al in
+              let second = subst (λ (z : Search). list_all asks (map (λ d. (r0, d)) (map Fits (found_class z)) ++ passed k.signature.parameters rs) ≡ true) found rest in
+              fits_null p c s.registers x h g.key.class r0 (key_reference p regular above g b y) (and_left (fits p (kind_at s.registers r0) g.key.class) (list_all asks (passed k.signature.parameters rs)) second)

@@ -45,7 +45,7 @@ use Rattle.form_laws.proofs.Typings.{allowed_at, right_at}
 use Rattle.reach_bridge.proofs.Held.{at_stands, stands}
 use Rattle.removal_law.proofs.Lists.{here, In, there}
 use Rattle.removal_law.specs.Reach.{IsRegular}
-use Rattle.fold_law.specs.Typings.{all_loose, AreTypings, BodyOf, is_any, restricted, standing, standing_at, suits}
+use Rattle.fold_law.proofs.Typings.{all_loose, AreTypings, BodyOf, is_any, restricted, standing, standing_at, suits}
 use Rattle.fold_law.proofs.Entries.{begun_loose, type_loose}
 use Rattle.fold_law.proofs.Methods.{body_of_key, ByDirect, BySuper, ByStatic, Constructs, constructs, method_key, static_same, StaticFound}
 use Rattle.fold_law.proofs.Suits.{after_suits, any_is, loosely, suits_up}

@@ -35,7 +35,7 @@ use Rattle.pass_defs.specs.Kinds.{Kind, Undefined, Zero, Word, Low, High, Null, 
 use Rattle.pass_defs.specs.Registers.{cleared, forgotten, Kinds, kind_at, replaced, split, written_kinds, written_one, written_pair}
 use Rattle.pass_defs.specs.Typed.{after, called, constant_kind, constructed, got, is_static_call, number_kind, receiver_register}
 use Rattle.facts_kept.proofs.Beneath.{initialised_under}
-use Rattle.fold_law.specs.Typings.{is_any, null_fits, suits, word_fits}
+use Rattle.fold_law.proofs.Typings.{is_any, null_fits, suits, word_fits}
 use Rattle.run_laws.proofs.Orders.{kind_sound}
 
 -- ---- values and kinds

@@ -21,7 +21,7 @@ use Rattle.form_laws.specs.Typed.{has_front, IsLowered, IsOrdered, taken, taken_
 use Rattle.form_laws.proofs.TypedFolding.{lowered_typing}
 use Rattle.removal_law.proofs.Declared.{method_sound}
 use Rattle.run_laws.proofs.Climbs.{class_in, found_in_list}
-use Rattle.fold_law.specs.Typings.{AreTypings, BodyOf, IsFronted}
+use Rattle.fold_law.proofs.Typings.{AreTypings, BodyOf, IsFronted}
 use Rattle.fold_law.proofs.Methods.{body_of_key}
 
 -- ---- states of a table without such states

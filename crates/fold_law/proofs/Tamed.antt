@@ -10,7 +10,7 @@ use Rattle.pass_defs.specs.Registers.{kind_at}
 use Rattle.dalvik_defs.specs.declared.program.NamedClass.{NamedClass}
 use Rattle.pass_defs.specs.Kinds.{Array, Class, fits, fits_array, Fresh, FreshThis, High, is_below, is_initialised, is_number, is_plain, Kind, kind_of, kind_of_reference, Low, Null, Reference, Undefined, Word, Zero}
 use Rattle.facts_kept.proofs.Beneath.{initialised_under, wide_type}
-use Rattle.fold_law.specs.Typings.{met, null_fits, suits, word_fits}
+use Rattle.fold_law.proofs.Typings.{met, null_fits, suits, word_fits}
 use Rattle.fold_law.proofs.Parts.{Gone, IsPart, Same}
 use Rattle.fold_law.proofs.Suits.{any_suits, null_suits, number_suits}
 

@@ -2,6 +2,7 @@
 use Rattle.std.proofs.Common.{◌≡◌, ℕ, ◌<◌, Option, Some, None, refl, sym, subst}
 use Rattle.program_model.specs.Lookups.{method_at}
 use Rattle.program_model.specs.declared.body.Body.{Body}
+use Rattle.program_model.specs.declared.pass.Outside.{Outside}
 use Rattle.program_model.specs.declared.program.Field.{Field}
 use Rattle.program_model.specs.declared.program.Method.{Method}
 use Rattle.program_model.specs.declared.program.MethodAt.{MethodAt}
@@ -9,11 +10,18 @@ use Rattle.program_model.specs.declared.program.Program.{Program}
 use Rattle.dom_frame.specs.Registers.{Registers}
 use Rattle.facts.specs.declared.facts.Facts.{Facts}
 use Rattle.closed_facts.specs.Tables.{field_at, parameter_at, registers_at, result_at}
+use Rattle.dalvik_defs.specs.Naming.{named}
+use Rattle.dalvik_defs.specs.Outer.{outer_of}
+use Rattle.dalvik_defs.specs.declared.names.MethodKey.{MethodKey}
+use Rattle.pass_defs.specs.Constants.{IsSolution, Solution}
 use Rattle.pass_defs.specs.Flat.{Flat}
+use Rattle.pass_defs.specs.Typed.{Table}
 use Rattle.flat_bounds.specs.Bounds.{FlatTable}
 use Rattle.flat_bounds.specs.Facts.{AreFactsUnder}
 use Rattle.flat_bounds.specs.Under.{ArriveUnder, IsUnder}
+use Rattle.flat_bridge.specs.Numbered.{numbered}
 use Rattle.fold_law.specs.Asked.{IsWithin}
+use Rattle.fold_law.proofs.Typings.{AreTypings, met_table, restricted}
 
 pub low_within : (p : Program) (b c : FlatTable) (t : Facts) → IsWithin b c → AreFactsUnder p b t → AreFactsUnder p c t
 low_within p b c t w h = record {
@@ -26,3 +34,8 @@ low_within p b c t w h = record {
     arrive : (m n : ℕ) (x : Registers) (y : Option (ℕ → Flat)) → b.registers m n ≡ y → ArriveUnder x y → ArriveUnder x (c.registers m n)
     arrive m n x None e g = absurd g
     arrive m n x (Some a) e g = subst (ArriveUnder x) (sym (w.registers m n a e)) g
+
+-- Facts are under a solution also where it says that no number is there which the kinds of a typing don't let be there.
+abbrev pub MetLow : Program → Outside → Facts → Type 0
+MetLow p o t = (tables : MethodKey → Table) → AreTypings (named p) tables → (c : Solution) → IsSolution (named p) (outer_of p o) c
+    → AreFactsUnder p (numbered p (met_table (named p) tables (restricted (named p) tables c))) t

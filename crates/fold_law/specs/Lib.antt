@@ -1,4 +1,2 @@
 pub mod Asked
 pub mod Kinds
-pub mod Typings
-pub mod Met

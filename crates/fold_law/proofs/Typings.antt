@@ -1,4 +1,4 @@
--- A typing for each body of a program, and solutions that are restricted by them (this project's profile).
+-- A typing for each body of a program, and solutions that are restricted by them.
 use Rattle.std.specs.Prelude.{◌≡◌, ◌&&◌, ◌+◌, ◌-◌, ℕ, suc, Bool, true, false, if◌then◌else◌, nat_eq, List, [], ◌∷◌, Option, Some, None}
 use Rattle.dalvik_defs.specs.Face.{bodies_of}
 use Rattle.dalvik_defs.specs.Find.{method_in}

@@ -32,7 +32,8 @@ use Rattle.const_prop.specs.declared.numbers.Number.{Number}
 use Rattle.const_prop.specs.Allowed.{insn_before}
 use Rattle.const_prop.specs.Given.{number_at}
 use Rattle.const_prop.specs.Kinds.{is_narrow_move, is_typed_so, typing_fits}
-use Rattle.fold_law.specs.Asked.{HaveDimensions, IsSettled}
+use Rattle.fold_law.specs.Asked.{IsSettled}
+use Rattle.fold_law.proofs.Dimensions.{HaveDimensions}
 use Rattle.fold_law.specs.Kinds.{Agrees, IsTypedBy, KindsAgree}
 use Rattle.fold_law.proofs.Within.{MetLow}
 use Rattle.fold_law.proofs.Typings.{BodyOf}

@@ -100,7 +100,8 @@ use Rattle.const_prop.specs.Constants.{result_of}
 use Rattle.const_prop.specs.Given.{given, number_at}
 use Rattle.const_prop.specs.Kinds.{fits, in_kind, in_result, in_type, is_free, is_narrow_move, is_null, is_typed_so, is_wide_number, is_word, letter, typing_fits}
 use Rattle.const_prop.specs.Known.{zero_number}
-use Rattle.fold_law.specs.Asked.{HaveDimensions, IsSettled}
+use Rattle.fold_law.specs.Asked.{IsSettled}
+use Rattle.fold_law.proofs.Dimensions.{HaveDimensions}
 use Rattle.fold_law.proofs.Within.{MetLow}
 use Rattle.fold_law.proofs.Typings.{AreTypings, BodyOf, is_any, met, met_registers, met_table, null_fits, restricted, suits}
 use Rattle.fold_law.proofs.Known as shown
@@ -722,7 +723,7 @@ module _ (p : Program) (h : Hierarchy) (o : Outside) (t : Facts) (settled : IsSe
           one s to from e thin nm =
               let w = g (ap is_narrow_move e ∙ nm) in
               ap (λ (o : Option typings.Table). typing_fits o n (insn.Move s to from) (Some k)) w.2
-              ∙ lets s to from e thin w.0 w.1 w.3 (λ r j. dimensions at w.1 w.4 n r j) k z
+              ∙ lets s to from e thin w.0 w.1 w.3 (λ r j. dimensions at w.1 w.4 own.owner.class m b own.owner.is_class has_method has_body n r j) k z
 
           by : (j : Insn) → i ≡ j → is_typed_so asks n j (Some k) ≡ true
           by (insn.Move slot.Word to from) e = one slot.Word to from e refl refl

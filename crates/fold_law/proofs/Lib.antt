@@ -20,6 +20,7 @@ pub mod Passing
 pub mod Holding
 pub mod Bounding
 pub mod Lowering
+pub mod Dimensions
 pub mod Letters
 pub mod Agreeing
 pub mod Agreed

@@ -18,7 +18,8 @@ use Rattle.facts.specs.declared.facts.Facts.{Facts}
 use Rattle.facts_kept.proofs.Few.{few_members}
 use Rattle.pass_defs.specs.Foldable.{IsFoldable}
 use Rattle.rewrite_pass.specs.Plans.{word}
-use Rattle.fold_law.specs.Asked.{HaveDimensions, IsSettled, LeavesNone, NothingLeft}
+use Rattle.fold_law.proofs.Dimensions.{dimensions}
+use Rattle.fold_law.specs.Asked.{IsSettled, LeavesNone, NothingLeft}
 use Rattle.fold_law.specs.Kinds.{KindsAgree}
 use Rattle.fold_law.proofs.Lowering.{met_low}
 use Rattle.fold_law.proofs.Agreed.{agreed}
@@ -41,9 +42,9 @@ folded_nowhere p h o t admitted settled left k j c m b is_class is_method admits
     folded p h o t settled (record { class = k; place = j }) m b (ap (option_and_then (λ (c : Class). slice_get c.methods j)) is_class ∙ is_method) has_body (settled.short k j c m b is_class is_method has_body)
     (placed p settled.asked.formed k j c m is_class is_method (λ at. LeavesNone p h t at m b) (left k j c m b is_class is_method admits has_body)) kinds n f
 
-pub nothing_foldable : (p : Program) (h : Hierarchy) (o : Outside) (t : Facts) (admitted : List Bool) → IsSettled p h o t → HaveDimensions p h → NothingLeft p h t admitted → (k j : ℕ) (c : Class) (m : Method)
+pub nothing_foldable : (p : Program) (h : Hierarchy) (o : Outside) (t : Facts) (admitted : List Bool) → IsSettled p h o t → NothingLeft p h t admitted → (k j : ℕ) (c : Class) (m : Method)
     (b : Body) → slice_get p.classes k ≡ Some c → slice_get c.methods j ≡ Some m → slice_index_or admitted m.name false ≡ true → m.body ≡ Some b
     → (n : ℕ) → IsFoldable (named p) (outer_of p o) (method_at p m.name) n → ⊥
-nothing_foldable p h o t admitted settled dimensions left k j c m b is_class is_method admits has_body =
+nothing_foldable p h o t admitted settled left k j c m b is_class is_method admits has_body =
     folded_nowhere p h o t admitted settled left k j c m b is_class is_method admits has_body
-    (agreed p h o t settled (met_low p h o t settled) dimensions (record { class = k; place = j }) m b (ap (option_and_then (λ (c : Class). slice_get c.methods j)) is_class ∙ is_method) has_body)
+    (agreed p h o t settled (met_low p h o t settled) (dimensions p h settled.asked.formed settled.resolved) (record { class = k; place = j }) m b (ap (option_and_then (λ (c : Class). slice_get c.methods j)) is_class ∙ is_method) has_body)

@@ -1,6 +1,6 @@
 -- What is asked of a program, of facts that are known of it and of what a pass left of it, so that nothing in it is foldable
 -- (this project's profile).
-use Rattle.std.specs.Prelude.{◌≡◌, ◌≤◌, ℕ, Bool, true, false, List, length, Option, Some, None, is_some, slice_get, slice_index_or}
+use Rattle.std.specs.Prelude.{◌≡◌, ◌≤◌, ℕ, Bool, true, false, List, length, Some, None, is_some, slice_get, slice_index_or}
 use Rattle.std.specs.List.{list_any}
 use Rattle.insn_set.specs.declared.form.Insn.{Insn}
 use Rattle.program_model.specs.declared.body.Body.{Body}
@@ -13,9 +13,6 @@ use Rattle.class_defs.specs.Finding.{Nothing, finds_at, finds_virtual}
 use Rattle.class_defs.specs.Members.{is_interface}
 use Rattle.hierarchy.specs.Shapes.{IsResolved}
 use Rattle.hierarchy.specs.declared.build.Hierarchy.{Hierarchy}
-use Rattle.verify.specs.Methods.{TypesFor}
-use Rattle.verify.specs.Typings.{kind_before, Table}
-use Rattle.verify.specs.declared.kinds.Kind.TheVariants as kind
 use Rattle.dalvik_defs.specs.Naming.{named}
 use Rattle.dalvik_defs.specs.Outer.{outer_of}
 use Rattle.pass_defs.specs.Constants.{Solution, IsSolution}
@@ -73,7 +70,3 @@ pub record LeavesNone (p : Program) (h : Hierarchy) (t : Facts) (at : MethodAt) 
 abbrev pub NothingLeft : Program → Hierarchy → Facts → List Bool → Type 0
 NothingLeft p h t admitted = (k j : ℕ) (c : Class) (m : Method) (b : Body) → slice_get p.classes k ≡ Some c → slice_get c.methods j ≡ Some m
     → slice_index_or admitted m.name false ≡ true → m.body ≡ Some b → LeavesNone p h t (record { class = word k; place = word j }) m b
-
--- the arrays of the least typings have a dimension
-abbrev pub HaveDimensions : Program → Hierarchy → Type 0
-HaveDimensions p h = (at : MethodAt) (x : Table) → TypesFor p h at x → (n r : ℕ) (i : Option ℕ) → kind_before x n r ≡ kind.Array 0 i → ⊥

@@ -34,7 +34,7 @@ use Rattle.const_prop.specs.Given.{number_at}
 use Rattle.const_prop.specs.Kinds.{is_narrow_move, is_typed_so, typing_fits}
 use Rattle.fold_law.specs.Asked.{IsSettled}
 use Rattle.fold_law.proofs.Dimensions.{HaveDimensions}
-use Rattle.fold_law.specs.Kinds.{Agrees, IsTypedBy, KindsAgree}
+use Rattle.fold_law.proofs.Kinds.{Agrees, IsTypedBy, KindsAgree}
 use Rattle.fold_law.proofs.Within.{MetLow}
 use Rattle.fold_law.proofs.Typings.{BodyOf}
 use Rattle.fold_law.proofs.Agreeing.{no_wide_there, number_fits, number_typed}

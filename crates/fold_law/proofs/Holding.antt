@@ -23,7 +23,7 @@ use Rattle.dalvik_defs.specs.declared.program.NamedClass.{NamedClass}
 use Rattle.dalvik_defs.specs.declared.program.NamedField.{NamedField}
 use Rattle.dalvik_defs.specs.declared.program.NamedMethod.{NamedMethod}
 use Rattle.dalvik_defs.specs.declared.program.NamedProgram.{NamedProgram}
-use Rattle.dalvik_defs.specs.declared.values.NamedValue.{NamedValue}
+use Rattle.dalvik_defs.specs.declared.encoded.NamedValue.{NamedValue}
 use Rattle.dalvik_defs.specs.declared.state.Value.{Value}
 use Rattle.dalvik_defs.specs.declared.state.Value.TheVariants as value
 use Rattle.pass_defs.specs.Constants.{flat}

@@ -1,4 +1,5 @@
 pub mod Typings
+pub mod Kinds
 pub mod Within
 pub mod Left
 pub mod Numbers

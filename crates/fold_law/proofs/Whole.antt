@@ -20,7 +20,7 @@ use Rattle.pass_defs.specs.Foldable.{IsFoldable}
 use Rattle.rewrite_pass.specs.Plans.{word}
 use Rattle.fold_law.proofs.Dimensions.{dimensions}
 use Rattle.fold_law.specs.Asked.{IsSettled, LeavesNone, NothingLeft}
-use Rattle.fold_law.specs.Kinds.{KindsAgree}
+use Rattle.fold_law.proofs.Kinds.{KindsAgree}
 use Rattle.fold_law.proofs.Lowering.{met_low}
 use Rattle.fold_law.proofs.Agreed.{agreed}
 use Rattle.fold_law.proofs.Folded.{folded}

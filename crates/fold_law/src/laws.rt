@@ -1,4 +1,4 @@
-//! Laws of positions that are folded.
+//! The law of positions that are folded.
 
 ghost use Rattle.std.specs.Prelude.{◌≡◌, ℕ, Bool, true, false, List, Some, slice_get, slice_index_or};
 ghost use Rattle.program_model.specs.declared.body.Body.{Body};
@@ -12,15 +12,6 @@ ghost use Rattle.dalvik_defs.specs.Outer.{outer_of};
 ghost use Rattle.pass_defs.specs.Foldable.{IsFoldable};
 ghost use Rattle.facts.specs.declared.facts.Facts.{Facts};
 ghost use Rattle.fold_law.specs.Asked.{IsSettled, NothingLeft};
-ghost use Rattle.fold_law.specs.Kinds.{KindsAgree};
-
-/// No position of an admitted method is foldable in a program of which constant propagation leaves nothing to write, where the
-/// kinds of the method agree with what the facts know at positions that a solution would fold.
-pub fn folded_law()
-    ensures { (p : Program) (h : Hierarchy) (o : Outside) (t : Facts) (admitted : List Bool) → IsSettled p h o t → NothingLeft p h t admitted
-        → (k j : ℕ) (c : Class) (m : Method) (b : Body) → slice_get p.classes k ≡ Some c → slice_get c.methods j ≡ Some m → slice_index_or admitted m.name false ≡ true → m.body ≡ Some b
-        → KindsAgree p h o t (record { class = k; place = j }) m b → (n : ℕ) → IsFoldable (named p) (outer_of p o) (method_at p m.name) n → ⊥ }
-{}
 
 /// No position of an admitted method is foldable in a program of which constant propagation leaves nothing to write.
 pub fn nothing_foldable_law()

@@ -1,4 +1,4 @@
--- What the kinds of a typing say of positions that a solution would fold (this project's profile).
+-- What the kinds of a typing say of positions that a solution would fold.
 use Rattle.std.specs.Prelude.{◌≡◌, ℕ, true, Option, Some, slice_get, Contains}
 use Rattle.insn_set.specs.declared.form.Insn.{Insn}
 use Rattle.program_model.specs.declared.body.Body.{Body}

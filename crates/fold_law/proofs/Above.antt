@@ -1,6 +1,6 @@
 -- What stands directly above a class of a well-formed program is a class type.
-use Rattle.std.proofs.Common.{◌≡◌, inl, inr, ℕ, Bool, true, false, List, [], ◌∷◌, refl, sym, ap, ◌∙◌, subst}
-use Rattle.std.specs.Prelude.{◌&&◌, map, not, slice_get, Contains}
+use Rattle.std.proofs.Common.{◌≡◌, inl, inr, ℕ, true, false, List, [], ◌∷◌, refl, sym, ap, ◌∙◌, subst}
+use Rattle.std.specs.Prelude.{◌&&◌, map, not, Contains}
 use Rattle.std.specs.List.{list_all}
 use Rattle.lemmas.proofs.Bools.{clash}
 use Rattle.program_model.specs.Texts.{first_unit, has_type, is_class, letter_of, type_text}
@@ -14,7 +14,7 @@ use Rattle.dalvik_defs.specs.Names.{is_class_type, Text}
 use Rattle.dalvik_defs.specs.Naming.{named, named_class, type_at}
 use Rattle.dalvik_defs.specs.declared.program.NamedClass.{NamedClass}
 use Rattle.name_bridge.proofs.Found.{type_same}
-use Rattle.removal_bridge.proofs.Listed.{Image, image}
+use Rattle.removal_bridge.proofs.Listed.{image}
 use Rattle.removal_law.proofs.Lists.{In}
 use Rattle.fold_law.proofs.Methods.{in_first}
 

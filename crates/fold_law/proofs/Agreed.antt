@@ -54,7 +54,8 @@ module _ (p : Program) (h : Hierarchy) (o : Outside) (t : Facts) (settled : IsSe
   there_is = own.bodies_are ∙ ap (option_map (body_of p)) has_body
 
   -- the method, as it is named
-  mine : (c : Class) → slice_get p.classes at.class ≡ Some c → slice_get c.methods at.place ≡ Some m → (x : BodyOf (named p) key (body_of p b)) × (x.class ≡ named_class p c) × (x.method ≡ named_method p m)
+  mine : (c : Class) → slice_get p.classes at.class ≡ Some c → slice_get c.methods at.place ≡ Some m
+      → (x : BodyOf (named p) key (body_of p b)) × (x.class ≡ named_class p c) × (x.method ≡ named_method p m)
   mine c is_class is_method =
       let k = own_key p settled.asked.sound at.class at.place c m is_class is_method in (
         record {
@@ -78,11 +79,15 @@ module _ (p : Program) (h : Hierarchy) (o : Outside) (t : Facts) (settled : IsSe
   asked_typing y types =
       let w = own.owner in
       let z = mine w.class w.is_class w.is_method in
-      let least = least_method p h settled.asked.formed settled.resolved at y types w.class m b w.is_class has_method has_body in
-      (z.0, w.class, subst (λ k. IsTyping (named p) k z.0.method (body_of p b) (method_table p w.class y)) (sym z.1)
-      (subst (λ k. IsTyping (named p) (named_class p w.class) k (body_of p b) (method_table p w.class y)) (sym z.2) least.typing))
+      let least = least_method p h settled.asked.formed settled.resolved at y types w.class m b w.is_class has_method has_body in (
+        z.0,
+        w.class,
+        subst (λ k. IsTyping (named p) k z.0.method (body_of p b) (method_table p w.class y)) (sym z.1)
+            (subst (λ k. IsTyping (named p) (named_class p w.class) k (body_of p b) (method_table p w.class y)) (sym z.2) least.typing),
+      )
 
-  number_agrees : (n : ℕ) (i : Insn) (k : Number) → slice_get b.insns n ≡ Some i → IsAlwaysReached (named p) (outer_of p o) key n → FoldsToNumber (named p) (outer_of p o) key (body_of p b) n (form_of p i)
+  number_agrees : (n : ℕ) (i : Insn) (k : Number) → slice_get b.insns n ≡ Some i → IsAlwaysReached (named p) (outer_of p o) key n
+      → FoldsToNumber (named p) (outer_of p o) key (body_of p b) n (form_of p i)
       → number_at p t at.class m.name (insn_before b.insns n) n i ≡ Some k → Agrees p h at b n i k
   number_agrees n i k has_insn reached f is =
       let w = register_is p i f.to f.result in

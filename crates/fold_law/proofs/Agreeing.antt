@@ -1,5 +1,5 @@
 -- Kinds agree with what facts know, which are under a solution also where it says no more than kinds let be there.
-use Rattle.std.proofs.Common.{◌∷◌, List, [], ◌≡◌, ◌⊎◌, inl, inr, ℕ, zero, suc, ◌+◌, ◌-◌, ◌<◌, Bool, true, false, true≢false, Option, Some, None, refl, sym, ap, ◌∙◌, subst, arith, eqb-true}
+use Rattle.std.proofs.Common.{◌∷◌, List, [], ◌≡◌, ◌⊎◌, inl, inr, ℕ, zero, suc, ◌+◌, ◌-◌, Bool, true, false, true≢false, Option, Some, None, refl, sym, ap, ◌∙◌, subst, eqb-true}
 use Rattle.std.specs.Prelude.{Contains, ◌&&◌, map, ◌||◌, ◌==◌, not, if◌then◌else◌, is_some, slice_get}
 use Rattle.std.specs.Option.{option_map, unwrap_or}
 use Rattle.std.specs.FinMap as finite
@@ -32,8 +32,7 @@ use Rattle.verify.specs.declared.kinds.Kind as verify
 use Rattle.verify.specs.declared.kinds.Kind.TheVariants as kind
 use Rattle.dalvik_defs.specs.Face.{bodies_of}
 use Rattle.dalvik_defs.specs.Find.{finds_field, Found}
-use Rattle.dalvik_defs.specs.Flags.{is_static}
-use Rattle.dalvik_defs.specs.Names.{is_array, is_reference, is_wide, is_word as is_word_type, Text}
+use Rattle.dalvik_defs.specs.Names.{is_reference, Text}
 use Rattle.dalvik_defs.specs.Naming.{body_of, field_at, form_of, method_at, named, type_at}
 use Rattle.dalvik_defs.specs.Outer.{outer_of}
 use Rattle.dalvik_defs.specs.declared.forms.Form.{Form}
@@ -65,7 +64,7 @@ use Rattle.pass_defs.specs.Foldable.{constant_of, FoldsToNumber, FoldsToOutcome,
 use Rattle.pass_defs.specs.Kinds as name_kind
 use Rattle.pass_defs.specs.Kinds.{is_below, Kind}
 use Rattle.pass_defs.specs.Registers.{all_below, Kinds, kind_at, kinds_below}
-use Rattle.pass_defs.specs.Typed.{called, is_wrong, IsTyping, state_at, Table, words_of, wrong_field, wrong_first}
+use Rattle.pass_defs.specs.Typed.{called, is_wrong, IsTyping, state_at, Table, wrong_field, wrong_first}
 use Rattle.bodies_kept.proofs.Rooted.{rooted}
 use Rattle.program_laws.proofs.Transitive.{transitive}
 use Rattle.program_laws.proofs.WellFormed.{well_placed}
@@ -76,11 +75,9 @@ use Rattle.program_laws.specs.Results.{AllTakeInPlace}
 use Rattle.removal_law.proofs.Declared.{method_same}
 use Rattle.form_laws.specs.Typed.{has_front, IsOrdered, taken_table}
 use Rattle.removal_bridge.proofs.Formed.{regular_program}
-use Rattle.removal_bridge.proofs.TypedFormed as stuck
 use Rattle.removal_law.specs.Reach.{IsRegular}
 use Rattle.facts_kept.proofs.Bodies.{got_state}
 use Rattle.facts_kept.proofs.Places.{own_key}
-use Rattle.facts_kept.proofs.Beneath.{reference_only}
 use Rattle.facts_kept.proofs.Letters.{letter_same}
 use Rattle.reach_bridge.proofs.Held.{stands}
 use Rattle.removal_law.proofs.Lists.{here, In}
@@ -107,12 +104,14 @@ use Rattle.fold_law.proofs.Typings.{AreTypings, BodyOf, is_any, met, met_registe
 use Rattle.fold_law.proofs.Known as shown
 use Rattle.fold_law.proofs.Joined.{all_least, all_null, below_on, met_below, one_in_join}
 use Rattle.fold_law.proofs.Known.{gives, left_under, low, put_itself, put_there}
+use Rattle.fold_law.proofs.Lowering.{entered}
 use Rattle.fold_law.proofs.Letters.{IsFor, letter_object, letter_wide, letter_word, slot_type}
 use Rattle.fold_law.proofs.Methods.{found_signature, in_first}
 use Rattle.fold_law.proofs.Numbers.{IsAbout, OneWide, OneWord, Zero}
 use Rattle.fold_law.proofs.Pure.{apart, no_wide, no_word, same_word}
 use Rattle.fold_law.proofs.Restricted.{restricted_closed, Stands, stood}
 use Rattle.fold_law.proofs.Suits.{any_is, null_suits}
+use Rattle.fold_law.proofs.Tamed.{reference_kind}
 use Rattle.fold_law.proofs.Tables.{class_stands, method_stands, tables_typed, tables_with, table_with, taken_typing, was_there}
 
 -- ---- values under what kinds let be there
@@ -224,21 +223,6 @@ operand_kind q c m a (form.SparseSwitch on keys targets) h al r i = by (in_first
     by (inr k) = elim k [ ]
 operand_kind q c m a f h al r i = absurd (true≢false (sym h))
 
--- the kind of a reference type is one of references
-reference_kind : (q : NamedProgram) (t : Text) → is_reference t ≡ true → name_kind.is_initialised (name_kind.kind_of q t) ≡ true
-reference_kind q t e = by (is_word_type t) (is_wide t) (is_reference t) (reference_only q t e).0 (reference_only q t e).1 e
-  where
-    reference : (c d : Bool) → name_kind.is_initialised (if c then name_kind.Array t else if d then name_kind.Class t else name_kind.Reference) ≡ true
-    reference true d = refl
-    reference false true = refl
-    reference false false = refl
-
-    by : (c d e : Bool) → c ≡ false → d ≡ false → e ≡ true → name_kind.is_initialised (if c then name_kind.Word else if d then name_kind.Low else if e then name_kind.kind_of_reference q t else name_kind.Undefined) ≡ true
-    by true d e i j k = absurd (true≢false i)
-    by false true e i j k = absurd (true≢false j)
-    by false false true i j k = reference (is_array t) (name_kind.is_plain q t)
-    by false false false i j k = absurd (true≢false (sym k))
-
 -- the number of words that a value holds of, as a kind lets it be
 module _ (p : Program) where
   abbrev Moved : verify.Kind → Type 0
@@ -285,7 +269,8 @@ module _ (p : Program) where
   word_or_null (kind.Array n i) h f = inl (array_initialised n i)
   word_or_null kind.Reference h f = inl refl
 
-  word_in_kind : (k : verify.Kind) (n : ℕ) → Moved k → is_fresh k ≡ false → ((i : Option ℕ) → k ≡ kind.Array 0 i → ⊥) → (name_kind.is_initialised (kind_named p k) ≡ true → n ≡ 0) → in_kind k (Word n) ≡ true
+  word_in_kind : (k : verify.Kind) (n : ℕ) → Moved k → is_fresh k ≡ false → ((i : Option ℕ) → k ≡ kind.Array 0 i → ⊥) → (name_kind.is_initialised (kind_named p k) ≡ true → n ≡ 0)
+      → in_kind k (Word n) ≡ true
   word_in_kind k n h f d z = of (word_or_null k h f) (n == 0) refl
     where
       of : (name_kind.is_initialised (kind_named p k) ≡ true) ⊎ ((is_word k || is_free k) ≡ true) → (b : Bool) → (n == 0) ≡ b
@@ -326,13 +311,6 @@ module _ (p : Program) (h : Hierarchy) (o : Outside) (t : Facts) (settled : IsSe
   abbrev places : AllTakeInPlace q
   places = well_placed p settled.asked.formed
 
-  entered : (k : MethodKey) (b : NamedBody) (x : BodyOf q k b) → is_static x.method.flags ≡ false → 0 < b.ins
-  entered k b x e =
-      let long : b.ins ≡ (if is_static x.method.flags then 0 else 1) + words_of x.method.signature.parameters =
-      (stuck.regular_program p settled.asked.formed settled.asked.once settled.typed).entries x.class x.method b (class_stands q k b x) (method_stands q k b x) x.has_body in
-      let s : b.ins ≡ 1 + words_of x.method.signature.parameters = long ∙ ap (λ (v : Bool). (if v then 0 else 1) + words_of x.method.signature.parameters) e in
-      omega (arith, s)
-
   -- ---- by one typing of the method
 
   module _ (x : BodyOf q key nb) (table : Table) (typing : IsTyping q x.class x.method nb table) where
@@ -357,7 +335,7 @@ module _ (p : Program) (h : Hierarchy) (o : Outside) (t : Facts) (settled : IsSe
       less = restricted q tables c
 
       less_closed : IsSolution q (outer_of p o) less
-      less_closed = restricted_closed q regular entered tables are (outer_of p o) c closed
+      less_closed = restricted_closed q regular (entered p h o t settled) tables are (outer_of p o) c closed
 
       record Suited : Type 0 where
         pub kinds : Kinds
@@ -371,7 +349,7 @@ module _ (p : Program) (h : Hierarchy) (o : Outside) (t : Facts) (settled : IsSe
           by : (y : Option (ℕ → Flat)) → less.registers key n ≡ y → is_some y ≡ true → Suited
           by None e s = absurd (true≢false (sym s))
           by (Some d) e s =
-              let z = stood q regular entered tables are (outer_of p o) c closed key n nb d there_is e in
+              let z = stood q regular (entered p h o t settled) tables are (outer_of p o) c closed key n nb d there_is e in
               let same : d ≡ a = some_same d a (sym z.there ∙ there) in
               let w : Stands kept n a = subst (λ (d : ℕ → Flat). Stands kept n d) same (subst (λ (u : Table). Stands u n d) own_table z.stood) in
               record { kinds = w.kinds; state = w.state; suit = w.suit; less_there = e ∙ ap Some same }
@@ -421,7 +399,8 @@ module _ (p : Program) (h : Hierarchy) (o : Outside) (t : Facts) (settled : IsSe
       known = shown.known p o t settled.asked settled.plain settled.low at m b has_method has_body n i has_insn f wide result
 
       -- a value that is 0, or under what the solution knows and what kinds leave of it
-      about_knows : (w : Bool) (k : Number) (v : Parts) → IsAbout v w k → w ≡ wide → (v ≡ least_value) ⊎ (IsUnder v known_flat × IsUnder v (met_flat (suited n reached f.table f.closed f.registers f.there).kinds)) → Knows k
+      about_knows : (w : Bool) (k : Number) (v : Parts) → IsAbout v w k → w ≡ wide
+          → (v ≡ least_value) ⊎ (IsUnder v known_flat × IsUnder v (met_flat (suited n reached f.table f.closed f.registers f.there).kinds)) → Knows k
       about_knows w _ v (Zero _) e u = subst (λ (z : Bool). Knows (zero_number z)) (sym e) Nothing
       about_knows _ _ v (OneWord d same) e (inl l) = no_word d (sym same ∙ l)
       about_knows _ _ v (OneWord d same) e (inr u) =
@@ -447,7 +426,8 @@ module _ (p : Program) (h : Hierarchy) (o : Outside) (t : Facts) (settled : IsSe
           let g = gives p o t settled.asked settled.plain settled.low at m b has_method has_body n i has_insn f wide result in
           about_knows wide k g.value (subst (IsAbout g.value wide) (some_same g.number k (sym g.is ∙ e)) g.about) refl (by g.value g.from)
         where
-          by : (v : Parts) → (v ≡ least_value) ⊎ ((y : Frame) × (frame_at t.frames.items m.name n ≡ Some y) × (v ≡ value_at (unwrap_or (step.after p i (given p t at.class before i) y.registers) finite.empty) f.to))
+          by : (v : Parts)
+              → (v ≡ least_value) ⊎ ((y : Frame) × (frame_at t.frames.items m.name n ≡ Some y) × (v ≡ value_at (unwrap_or (step.after p i (given p t at.class before i) y.registers) finite.empty) f.to))
               → (v ≡ least_value) ⊎ (IsUnder v known_flat × IsUnder v (met_flat (suited n reached f.table f.closed f.registers f.there).kinds))
           by v (inl l) = inl l
           by v (inr r) = inr (under_both v r.0 r.1 r.2)
@@ -461,7 +441,8 @@ module _ (p : Program) (h : Hierarchy) (o : Outside) (t : Facts) (settled : IsSe
       abbrev reads : Kinds
       reads = (suited n reached f.table f.closed f.registers f.there).kinds
 
-      narrow_is : (to from : ℕ) (j : Slot) → is_wide_slot j ≡ false → (d : Solution) (a : ℕ → Flat) → f.to ≡ to → left_of p d key.class (option_map (form_of p) before) (insn.Move j to from) a f.to ≡ a from
+      narrow_is : (to from : ℕ) (j : Slot) → is_wide_slot j ≡ false → (d : Solution) (a : ℕ → Flat) → f.to ≡ to
+          → left_of p d key.class (option_map (form_of p) before) (insn.Move j to from) a f.to ≡ a from
       narrow_is to from slot.Word e d a same = ap (name.put flat a to (a from)) same ∙ put_itself a to (a from)
       narrow_is to from slot.Object e d a same = ap (name.put flat a to (a from)) same ∙ put_itself a to (a from)
       narrow_is to from slot.Wide e d a same = absurd (true≢false e)
@@ -541,7 +522,8 @@ module _ (p : Program) (h : Hierarchy) (o : Outside) (t : Facts) (settled : IsSe
           ⊎ (name.field_value flat q f.table k ≡ Any)
       field_met k = by (finds_field q k)
         where
-          by : (y : Option (Text × NamedField)) → ((elim y as (λ y. Flat) [ Some g ↦ met (name_kind.kind_of q k.kind) (f.table.fields (name.own_key k g)) | None ↦ Any ]) ≡ met (name_kind.kind_of q k.kind) (elim y as (λ y. Flat) [ Some g ↦ f.table.fields (name.own_key k g) | None ↦ Any ]))
+          by : (y : Option (Text × NamedField))
+              → ((elim y as (λ y. Flat) [ Some g ↦ met (name_kind.kind_of q k.kind) (f.table.fields (name.own_key k g)) | None ↦ Any ]) ≡ met (name_kind.kind_of q k.kind) (elim y as (λ y. Flat) [ Some g ↦ f.table.fields (name.own_key k g) | None ↦ Any ]))
               ⊎ ((elim y as (λ y. Flat) [ Some g ↦ f.table.fields (name.own_key k g) | None ↦ Any ]) ≡ Any)
           by None = inr refl
           by (Some g) = inl refl
@@ -594,7 +576,8 @@ module _ (p : Program) (h : Hierarchy) (o : Outside) (t : Facts) (settled : IsSe
 
       -- ---- moves of results
 
-      taken_is : (s : Slot) (to : ℕ) (d : Solution) (a : ℕ → Flat) → f.to ≡ to → left_of p d key.class (option_map (form_of p) before) (insn.MoveResult s to) a f.to ≡ name.call_result flat q d key.class (option_map (form_of p) before)
+      taken_is : (s : Slot) (to : ℕ) (d : Solution) (a : ℕ → Flat) → f.to ≡ to
+          → left_of p d key.class (option_map (form_of p) before) (insn.MoveResult s to) a f.to ≡ name.call_result flat q d key.class (option_map (form_of p) before)
       taken_is s to d a same =
           ap (name.put_sized flat (name.is_wide_slot flat s) a to (name.call_result flat q d key.class (option_map (form_of p) before))) same
           ∙ put_there (name.is_wide_slot flat s) a to (name.call_result flat q d key.class (option_map (form_of p) before))
@@ -614,7 +597,8 @@ module _ (p : Program) (h : Hierarchy) (o : Outside) (t : Facts) (settled : IsSe
         place_fits = and_left (result_fits s reads.result) true (subst (λ (j : Insn). is_allowed q x.class x.method reads (form_of p j) ≡ true) is allowed)
 
         -- what a call leaves comes behind it
-        called_below : (j : ℕ) (kind : InvokeKind) (method : ℕ) (args : List ℕ) → slice_get b.insns j ≡ Some (insn.Invoke kind method args) → is_some (state_at table j) ≡ true → state_at table (suc j) ≡ Some reads
+        called_below : (j : ℕ) (kind : InvokeKind) (method : ℕ) (args : List ℕ) → slice_get b.insns j ≡ Some (insn.Invoke kind method args) → is_some (state_at table j) ≡ true
+            → state_at table (suc j) ≡ Some reads
             → is_below q (name_kind.kind_of q (method_at p method).signature.result) reads.result ≡ true
         called_below j kind method args e some state = by (state_at table j) refl some
           where
@@ -648,7 +632,8 @@ module _ (p : Program) (h : Hierarchy) (o : Outside) (t : Facts) (settled : IsSe
               let w = was_there nb table n z.kinds z.state in
               at_place n call w.0 (w.1 (ap takes_result (got_map (form_of p) b.insns n i has_insn) ∙ ap (λ (j : Insn). takes_result (Some (form_of p j))) is))
             where
-              at_place : (k : ℕ) → insn_before b.insns k ≡ Some (insn.Invoke kind method args) → state_at table k ≡ Some reads → has_front true table k ≡ true → is_below q (name_kind.kind_of q called_type) reads.result ≡ true
+              at_place : (k : ℕ) → insn_before b.insns k ≡ Some (insn.Invoke kind method args) → state_at table k ≡ Some reads → has_front true table k ≡ true
+                  → is_below q (name_kind.kind_of q called_type) reads.result ≡ true
               at_place zero e s g = none_some (insn.Invoke kind method args) e
               at_place (suc j) e s g = called_below j kind method args e g s
 
@@ -716,7 +701,8 @@ module _ (p : Program) (h : Hierarchy) (o : Outside) (t : Facts) (settled : IsSe
 
       -- ---- what the kinds say of each form
 
-      agrees_here : (asks : Option typings.Table) → (is_narrow_move i ≡ true → (cls : Class) × (y : typings.Table) × (asks ≡ Some y) × (table ≡ method_table p cls y) × TypesFor p h at y) → (k : Number) → Knows k → is_typed_so asks n i (Some k) ≡ true
+      agrees_here : (asks : Option typings.Table) → (is_narrow_move i ≡ true → (cls : Class) × (y : typings.Table) × (asks ≡ Some y) × (table ≡ method_table p cls y) × TypesFor p h at y)
+          → (k : Number) → Knows k → is_typed_so asks n i (Some k) ≡ true
       agrees_here asks g k z = by i refl
         where
           one : (s : Slot) (to from : ℕ) → i ≡ insn.Move s to from → is_wide_slot s ≡ false → is_narrow_move (insn.Move s to from) ≡ true → typing_fits asks n (insn.Move s to from) (Some k) ≡ true
@@ -734,7 +720,8 @@ module _ (p : Program) (h : Hierarchy) (o : Outside) (t : Facts) (settled : IsSe
       fits_here : (k : Number) → Knows k → fits p before i k ≡ true
       fits_here k z = subst (λ (j : Insn). fits p before j k ≡ true) refl (by i refl)
         where
-          nothing : (j : Insn) (to : ℕ) → i ≡ j → result_of j ≡ Some (to, false) → ((a : ℕ → Flat) → left_of p f.table key.class (option_map (form_of p) before) j a ≡ name.put flat a to Any) → {P : Type 0} → P
+          nothing : (j : Insn) (to : ℕ) → i ≡ j → result_of j ≡ Some (to, false)
+              → ((a : ℕ → Flat) → left_of p f.table key.class (option_map (form_of p) before) j a ≡ name.put flat a to Any) → {P : Type 0} → P
           nothing j to e d same = unknown (ap (λ (j : Insn). left_of p f.table key.class (option_map (form_of p) before) j f.registers f.to) e ∙ ap (λ (y : ℕ → Flat). y f.to) (same f.registers)
               ∙ ap (name.put flat f.registers to Any) (to_is j to false e d) ∙ put_itself f.registers to Any)
 
@@ -751,7 +738,8 @@ module _ (p : Program) (h : Hierarchy) (o : Outside) (t : Facts) (settled : IsSe
       pub number_fits : (k : Number) → number_at p t at.class m.name before n i ≡ Some k → fits p before i k ≡ true
       number_fits k e = fits_here k (knows k e)
 
-      pub number_typed : (asks : Option typings.Table) → (is_narrow_move i ≡ true → (cls : Class) × (y : typings.Table) × (asks ≡ Some y) × (table ≡ method_table p cls y) × TypesFor p h at y) → (k : Number)
+      pub number_typed : (asks : Option typings.Table)
+          → (is_narrow_move i ≡ true → (cls : Class) × (y : typings.Table) × (asks ≡ Some y) × (table ≡ method_table p cls y) × TypesFor p h at y) → (k : Number)
           → number_at p t at.class m.name before n i ≡ Some k → is_typed_so asks n i (Some k) ≡ true
       number_typed asks g k e = agrees_here asks g k (knows k e)
 

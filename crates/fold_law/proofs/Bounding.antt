@@ -1,6 +1,6 @@
 -- What kinds leave of a flat table by number that a solution bounds is one that bounds an analysis, too, where what calls pass suits the
 -- kinds with which methods begin.
-use Rattle.std.proofs.Common.{◌≡◌, ◌⊎◌, inl, inr, ℕ, zero, suc, ◌+◌, ◌-◌, ◌<◌, ◌≤◌, Bool, true, false, true≢false, List, [], ◌∷◌, length, Option, Some, None, refl, sym, ap, ◌∙◌, subst, arith}
+use Rattle.std.proofs.Common.{◌≡◌, ◌⊎◌, inl, inr, ℕ, zero, suc, ◌+◌, ◌-◌, ◌<◌, ◌≤◌, Bool, true, false, true≢false, List, [], length, Option, Some, None, refl, sym, ap, ◌∙◌, subst, arith}
 use Rattle.std.proofs.lemmas.Bool.{cases_lt}
 use Rattle.std.specs.Prelude.{◌&&◌, ◌++◌, if◌then◌else◌, is_some, map, replicate, slice_get, Contains}
 use Rattle.std.specs.Option.{option_map}
@@ -22,7 +22,7 @@ use Rattle.program_model.specs.declared.program.Method.{Method}
 use Rattle.program_model.specs.declared.program.MethodAt.{MethodAt}
 use Rattle.program_model.specs.declared.program.Program.{Program}
 use Rattle.class_defs.specs.Finding as look_up
-use Rattle.class_defs.proofs.WellFormed.{below, class_parts, Sound}
+use Rattle.class_defs.proofs.WellFormed.{below, class_parts}
 use Rattle.call_graph.specs.Least.{IsLeastSet}
 use Rattle.call_graph.specs.declared.live_set.LiveSet.{LiveSet}
 use Rattle.call_targets.specs.Targeted.{call_at, interface_of, IsEntered, IsLink}
@@ -52,7 +52,7 @@ use Rattle.run_laws.specs.Regular as sound
 use Rattle.removal_law.proofs.Trees.{class_name}
 use Rattle.pass_defs.specs.Demands.{is_allowed, meets, of_type}
 use Rattle.pass_defs.specs.Facts as name
-use Rattle.pass_defs.specs.Flat.{Flat, Any, Bottom, flat_stored, FlatBelow}
+use Rattle.pass_defs.specs.Flat.{Flat, Any, flat_stored, FlatBelow}
 use Rattle.pass_defs.specs.Kinds.{is_below, Kind, kind_of, Undefined}
 use Rattle.pass_defs.specs.Leaves.{may_leave}
 use Rattle.pass_defs.specs.Quiet.{takes_result}
@@ -68,7 +68,7 @@ use Rattle.reach_bridge.proofs.Held.{stands}
 use Rattle.removal_law.specs.Reach.{IsRegular}
 use Rattle.removal_law.proofs.Lists.{In}
 use Rattle.removal_bridge.proofs.WalkedForms.{same_caught}
-use Rattle.flat_bounds.specs.Bounds.{answer_flat, before_of, BoundCall, BoundFlows, edges_by, field_flat, FlatAt, FlatTable, IsFlatBound, IsReached, IsReadied, taken_flat}
+use Rattle.flat_bounds.specs.Bounds.{before_of, BoundCall, BoundFlows, edges_by, field_flat, FlatAt, FlatTable, IsFlatBound, IsReached, IsReadied, taken_flat}
 use Rattle.flat_bounds.specs.Under.{AreUnder, ArriveUnder, IsUnder}
 use Rattle.flat_bounds.proofs.Under.{under_below, under_least}
 use Rattle.closed_facts.specs.Found.{field_in, finds_bound, own_number}
@@ -84,13 +84,13 @@ use Rattle.flat_bridge.proofs.Linked.{link_found}
 use Rattle.flat_bridge.proofs.Opened.{defined_itself, placed}
 use Rattle.flat_bridge.proofs.Putting.{puts_form, puts_low}
 use Rattle.flat_bridge.proofs.Fits.{insn_fit}
-use Rattle.flat_bridge.proofs.Standing.{Owned, owned}
+use Rattle.flat_bridge.proofs.Standing.{owned}
 use Rattle.fold_law.specs.Asked.{IsWithin}
 use Rattle.fold_law.proofs.Typings.{AreTypings, begun_kind, BodyOf, first_argument, IsFronted, met, met_registers, met_table, suits}
 use Rattle.fold_law.proofs.Above.{above_types}
 use Rattle.fold_law.proofs.Holding.{first_of, first_suits, put_suits}
 use Rattle.fold_law.proofs.Passing.{call_suits}
-use Rattle.fold_law.proofs.Joined.{all_least, all_suit, below_itself, below_on, met_below, one_in_join, only_any}
+use Rattle.fold_law.proofs.Joined.{all_least, all_suit, below_on, met_below, one_in_join, only_any}
 use Rattle.fold_law.proofs.Methods.{body_of_key, found_signature, key_is}
 use Rattle.fold_law.proofs.Parts.{after_below, part_below, stored_part}
 use Rattle.fold_law.proofs.Restricted.{next_onward, Stands, stands_so}
@@ -126,7 +126,8 @@ module _ (p : Program) (o : Outside) (asked : IsAsked p o) (regular : IsRegular 
   abbrev pub tamed : FlatTable
   tamed = record (numbered p tame) { registers = λ m n. cut (bounded.registers m n) (tame.registers (method_at p m) n) }
 
-  met_there : (k : MethodKey) (n : ℕ) (b : NamedBody) (a : ℕ → Flat) (s : Kinds) → bodies_of q k ≡ Some b → less.registers k n ≡ Some a → state_at (tables k) n ≡ Some s → tame.registers k n ≡ Some (mets s a)
+  met_there : (k : MethodKey) (n : ℕ) (b : NamedBody) (a : ℕ → Flat) (s : Kinds) → bodies_of q k ≡ Some b → less.registers k n ≡ Some a → state_at (tables k) n ≡ Some s
+      → tame.registers k n ≡ Some (mets s a)
   met_there k n b a s e l i =
       ap (λ y. elim y as (λ y. Option (ℕ → Flat)) [ Some b ↦ met_registers (tables k) n (less.registers k n) | None ↦ less.registers k n ]) e
       ∙ ap (met_registers (tables k) n) l ∙ ap (λ y. elim y as (λ y. Option (ℕ → Flat)) [ Some s ↦ Some (λ r. met (kind_at s.registers r) (a r)) | None ↦ Some a ]) i
@@ -212,7 +213,8 @@ module _ (p : Program) (o : Outside) (asked : IsAsked p o) (regular : IsRegular 
   fields_below : (k : FieldKey) → FlatBelow (name.field_value flat q tame k) (name.field_value flat q less k)
   fields_below k = by (finds_field q k)
     where
-      by : (y : Option (Text × NamedField)) → FlatBelow (elim y as (λ y. Flat) [ Some f ↦ met (kind_of q k.kind) (less.fields (name.own_key k f)) | None ↦ Any ]) (elim y as (λ y. Flat) [ Some f ↦ less.fields (name.own_key k f) | None ↦ Any ])
+      by : (y : Option (Text × NamedField))
+          → FlatBelow (elim y as (λ y. Flat) [ Some f ↦ met (kind_of q k.kind) (less.fields (name.own_key k f)) | None ↦ Any ]) (elim y as (λ y. Flat) [ Some f ↦ less.fields (name.own_key k f) | None ↦ Any ])
       by None = tt
       by (Some f) = met_below (kind_of q k.kind) (less.fields (name.own_key k f))
 
@@ -233,13 +235,15 @@ module _ (p : Program) (o : Outside) (asked : IsAsked p o) (regular : IsRegular 
   answers_below class None = tt
   answers_below class (Some (form.Invoke kind k args)) = by (may_leave q class kind k)
     where
-      by : (v : Bool) → FlatBelow (if v then Any else name.all_joined flat (map result_tame (may_find q class kind k))) (if v then Any else name.all_joined flat (map result_less (may_find q class kind k)))
+      by : (v : Bool)
+          → FlatBelow (if v then Any else name.all_joined flat (map result_tame (may_find q class kind k))) (if v then Any else name.all_joined flat (map result_less (may_find q class kind k)))
       by true = tt
       by false = all_least result_tame (may_find q class kind k) (name.all_joined flat (map result_less (may_find q class kind k)))
           (λ g i. below_on (result_tame g) (result_less g) (name.all_joined flat (map result_less (may_find q class kind k))) (met_below (kind_of q g.key.signature.result) (less.results g.key)) (one_in_join result_less (may_find q class kind k) g i))
   answers_below class (Some f) = tt
 
-  answers_suit : (class : Text) (kind : InvokeKind) (k : MethodKey) (args : List ℕ) → suits (kind_of q k.signature.result) true (name.call_result flat q tame class (Some (form.Invoke kind k args))) ≡ true
+  answers_suit : (class : Text) (kind : InvokeKind) (k : MethodKey) (args : List ℕ)
+      → suits (kind_of q k.signature.result) true (name.call_result flat q tame class (Some (form.Invoke kind k args))) ≡ true
   answers_suit class kind k args = by (may_leave q class kind k)
     where
       one : (g : Found) → In g (may_find q class kind k) → suits (kind_of q k.signature.result) true (result_tame g) ≡ true
@@ -255,7 +259,8 @@ module _ (p : Program) (o : Outside) (asked : IsAsked p o) (regular : IsRegular 
   tame_field None = refl
   tame_field (Some f) = refl
 
-  tame_taken : (text : Text) (class : ℕ) → class_text p class ≡ text → (before : Option Insn) (i : Insn) → numbers_fit i p ≡ true → taken_flat p tamed class before i ≡ taken_named p tame text (option_map (form_of p) before) (form_of p i)
+  tame_taken : (text : Text) (class : ℕ) → class_text p class ≡ text → (before : Option Insn) (i : Insn) → numbers_fit i p ≡ true
+      → taken_flat p tamed class before i ≡ taken_named p tame text (option_map (form_of p) before) (form_of p i)
   unfolding numbers_fit
   tame_taken text class e before (insn.InstanceGet item to on field) fit = tame_field (own_number p field) ∙ sym (field_same p asked.sound tame field (below field (length p.fields) fit))
   tame_taken text class e before (insn.StaticGet item to field) fit = tame_field (own_number p field) ∙ sym (field_same p asked.sound tame field (below field (length p.fields) fit))
@@ -267,7 +272,8 @@ module _ (p : Program) (o : Outside) (asked : IsAsked p o) (regular : IsRegular 
   bound_field None = refl
   bound_field (Some f) = within.fields f
 
-  bound_taken : (text : Text) (class : ℕ) → class_text p class ≡ text → (before : Option Insn) (i : Insn) → numbers_fit i p ≡ true → taken_flat p bounded class before i ≡ taken_named p less text (option_map (form_of p) before) (form_of p i)
+  bound_taken : (text : Text) (class : ℕ) → class_text p class ≡ text → (before : Option Insn) (i : Insn) → numbers_fit i p ≡ true
+      → taken_flat p bounded class before i ≡ taken_named p less text (option_map (form_of p) before) (form_of p i)
   unfolding numbers_fit
   bound_taken text class e before (insn.InstanceGet item to on field) fit = bound_field (own_number p field) ∙ sym (field_same p asked.sound less field (below field (length p.fields) fit))
   bound_taken text class e before (insn.StaticGet item to field) fit = bound_field (own_number p field) ∙ sym (field_same p asked.sound less field (below field (length p.fields) fit))
@@ -289,8 +295,10 @@ module _ (p : Program) (o : Outside) (asked : IsAsked p o) (regular : IsRegular 
       (and_left (all_below q y.registers l.registers && is_below q y.result l.result && is_below q y.caught l.caught) (is_below q y.receiver l.receiver) e))
 
   -- the kind of a result is at or above that of the type which the call in front names
-  called_below : (k : MethodKey) (body : Body) (y : BodyOf q k (body_of p body)) (j : ℕ) (t : Table) → IsTyping q y.class y.method (body_of p body) t → (s : Kinds) (kind : InvokeKind) (method : ℕ) (args : List ℕ)
-      → slice_get body.insns j ≡ Some (insn.Invoke kind method args) → is_some (state_at t j) ≡ true → state_at t (suc j) ≡ Some s → is_below q (kind_of q (method_at p method).signature.result) s.result ≡ true
+  called_below : (k : MethodKey) (body : Body) (y : BodyOf q k (body_of p body)) (j : ℕ) (t : Table) → IsTyping q y.class y.method (body_of p body) t
+      → (s : Kinds) (kind : InvokeKind) (method : ℕ) (args : List ℕ)
+      → slice_get body.insns j ≡ Some (insn.Invoke kind method args) → is_some (state_at t j) ≡ true → state_at t (suc j) ≡ Some s
+      → is_below q (kind_of q (method_at p method).signature.result) s.result ≡ true
   called_below k body y j t typing s kind method args e some state = by (state_at t j) refl some
     where
       by : (x : Option Kinds) → state_at t j ≡ x → is_some x ≡ true → is_below q (kind_of q (method_at p method).signature.result) s.result ≡ true
@@ -305,7 +313,8 @@ module _ (p : Program) (o : Outside) (asked : IsAsked p o) (regular : IsRegular 
       → suits s.result true (name.call_result flat q tame k.class (option_map (form_of p) (before_of body n))) ≡ true
   result_suits k body n y s f = by n (before_of body n) refl f.state f.front
     where
-      by : (n : ℕ) (x : Option Insn) → before_of body n ≡ x → state_at f.table n ≡ Some s → has_front true f.table n ≡ true → suits s.result true (name.call_result flat q tame k.class (option_map (form_of p) x)) ≡ true
+      by : (n : ℕ) (x : Option Insn) → before_of body n ≡ x → state_at f.table n ≡ Some s → has_front true f.table n ≡ true
+          → suits s.result true (name.call_result flat q tame k.class (option_map (form_of p) x)) ≡ true
       by n None e i g = any_suits s.result true
       by zero (Some (insn.Invoke kind method args)) e i g = none_some (insn.Invoke kind method args) e
       by (suc j) (Some (insn.Invoke kind method args)) e i g =
@@ -315,7 +324,8 @@ module _ (p : Program) (o : Outside) (asked : IsAsked p o) (regular : IsRegular 
 
   -- ---- what flows
 
-  onward_met : (at : MethodAt) (n : ℕ) (x : Registers) (v : Parts) (t : ℕ × Registers) (here : FlatAt p tamed at n) → AreUnder x here.registers → IsUnder v (taken_flat p tamed at.class (before_of here.body n) here.insn)
+  onward_met : (at : MethodAt) (n : ℕ) (x : Registers) (v : Parts) (t : ℕ × Registers) (here : FlatAt p tamed at n) → AreUnder x here.registers
+      → IsUnder v (taken_flat p tamed at.class (before_of here.body n) here.insn)
       → Contains (edges_by p v n here.insn x) t → ArriveUnder t.1 (tamed.registers here.method.name t.0)
   onward_met at n x v t here h k c =
       let z = spot at n here in
@@ -357,13 +367,15 @@ module _ (p : Program) (o : Outside) (asked : IsAsked p o) (regular : IsRegular 
           (λ r. below_on (left r) (left_less r) (d r)
           (after_below q tame less key.class before (mets z.kinds z.registers) z.registers (λ r. met_part (kind_at z.kinds.registers r) (z.registers r)) fields_below (answers_below key.class before) f r) (low r))
 
-  thrown_met : (at : MethodAt) (n t : ℕ) (x : Registers) (here : FlatAt p tamed at n) → AreUnder x here.registers → Contains (thrown_to here.body.regions n here.insn) t → ArriveUnder x (tamed.registers here.method.name t)
+  thrown_met : (at : MethodAt) (n t : ℕ) (x : Registers) (here : FlatAt p tamed at n) → AreUnder x here.registers → Contains (thrown_to here.body.regions n here.insn) t
+      → ArriveUnder x (tamed.registers here.method.name t)
   thrown_met at n t x here h c =
       let z = spot at n here in
       arrive z (bounded.registers here.method.name t) refl (bound.flows.thrown at n t x (below_here at n here z) (under_less at n here z x h) c)
       (subst (λ (l : List ℕ). Contains l t) (sym (same_caught p here.body here.insn n)) c)
     where
-      arrive : (z : Spot at n here) (y : Option (ℕ → Flat)) → bounded.registers here.method.name t ≡ y → ArriveUnder x y → Contains (caught (body_of p here.body) (form_of p here.insn) n) t → ArriveUnder x (tamed.registers here.method.name t)
+      arrive : (z : Spot at n here) (y : Option (ℕ → Flat)) → bounded.registers here.method.name t ≡ y → ArriveUnder x y → Contains (caught (body_of p here.body) (form_of p here.insn) n) t
+          → ArriveUnder x (tamed.registers here.method.name t)
       arrive z None e g next = absurd g
       arrive z (Some d) e g next =
           let key : MethodKey = method_at p here.method.name in
@@ -379,7 +391,8 @@ module _ (p : Program) (o : Outside) (asked : IsAsked p o) (regular : IsRegular 
 
   -- ---- what is returned
 
-  returns_met : (at : MethodAt) (n from : ℕ) (s : Slot) (v : Parts) (here : FlatAt p tamed at n) → here.insn ≡ insn.Return s from → IsUnder v (here.registers from) → IsUnder v (tamed.results here.method.name)
+  returns_met : (at : MethodAt) (n from : ℕ) (s : Slot) (v : Parts) (here : FlatAt p tamed at n) → here.insn ≡ insn.Return s from → IsUnder v (here.registers from)
+      → IsUnder v (tamed.results here.method.name)
   returns_met at n from s v here e h =
       let z = spot at n here in
       let key : MethodKey = method_at p here.method.name in
@@ -459,7 +472,8 @@ module _ (p : Program) (o : Outside) (asked : IsAsked p o) (regular : IsRegular 
           state None = refl
           state (Some s) = refl
 
-          of : (y : Option NamedBody) → is_some (elim y as (λ y. Option (ℕ → Flat)) [ Some b ↦ met_registers (tables (method_at p m)) 0 (less.registers (method_at p m) 0) | None ↦ less.registers (method_at p m) 0 ]) ≡ true
+          of : (y : Option NamedBody)
+              → is_some (elim y as (λ y. Option (ℕ → Flat)) [ Some b ↦ met_registers (tables (method_at p m)) 0 (less.registers (method_at p m) 0) | None ↦ less.registers (method_at p m) 0 ]) ≡ true
           of None = ap is_some l
           of (Some b) = ap (λ y. is_some (met_registers (tables (method_at p m)) 0 y)) l ∙ state (state_at (tables (method_at p m)) 0)
 
@@ -473,10 +487,12 @@ module _ (p : Program) (o : Outside) (asked : IsAsked p o) (regular : IsRegular 
   argument_at (suc n) ks i = ap (kind_at (replicate (suc n) Undefined ++ ks)) (let e : suc n + i ≡ suc (n + i) = omega arith in e) ∙ argument_at n ks i
 
   -- what suits the kind of an argument suits that with which the method begins in the typing
-  begun_so : (k : MethodKey) (b : NamedBody) (x : BodyOf q k b) (i : ℕ) (v : Flat) → suits (kind_at (argument_kinds q x.class x.method) i) true v ≡ true → suits (begun_kind (tables k) (first_argument b + i)) true v ≡ true
+  begun_so : (k : MethodKey) (b : NamedBody) (x : BodyOf q k b) (i : ℕ) (v : Flat) → suits (kind_at (argument_kinds q x.class x.method) i) true v ≡ true
+      → suits (begun_kind (tables k) (first_argument b + i)) true v ≡ true
   begun_so k b x i v h = by (state_at (tables k) 0) refl (typings.typed k b x).entry
     where
-      by : (y : Option Kinds) → state_at (tables k) 0 ≡ y → state_below q (Some (begun q x.class x.method b)) (state_at (tables k) 0) ≡ true → suits (begun_kind (tables k) (first_argument b + i)) true v ≡ true
+      by : (y : Option Kinds) → state_at (tables k) 0 ≡ y → state_below q (Some (begun q x.class x.method b)) (state_at (tables k) 0) ≡ true
+          → suits (begun_kind (tables k) (first_argument b + i)) true v ≡ true
       by None e w = absurd (true≢false (sym (sym (ap (state_below q (Some (begun q x.class x.method b))) e) ∙ w)))
       by (Some l) e w =
           let low = sym (ap (state_below q (Some (begun q x.class x.method b))) e) ∙ w in
@@ -486,7 +502,8 @@ module _ (p : Program) (o : Outside) (asked : IsAsked p o) (regular : IsRegular 
           (subst (λ (c : Kind). suits c true v ≡ true) (sym (argument_at (b.registers - b.ins) (argument_kinds q x.class x.method) i)) h))
 
   call_met : (at : MethodAt) (n method : ℕ) (kind : InvokeKind) (args : List ℕ) (m : ℕ) (coded : Bool) (g : Found) (here : FlatAt p tamed at n) → here.insn ≡ insn.Invoke kind method args
-      → Contains (may_find q (method_at p here.method.name).class kind (method_at p method)) g → g.key ≡ method_at p m → ((z : Spot at n here) → BoundCall bounded m coded args z.registers) → BoundCall tamed m coded args here.registers
+      → Contains (may_find q (method_at p here.method.name).class kind (method_at p method)) g → g.key ≡ method_at p m → ((z : Spot at n here) → BoundCall bounded m coded args z.registers)
+      → BoundCall tamed m coded args here.registers
   call_met at n method kind args m coded g here is found key low = record {
     passes = λ word r v get h. subst (λ (k : MethodKey). IsUnder v (tame.parameters k word)) key (passed word r v get h);
     enters = λ c. reach_met m ((low (spot at n here)).enters c);
@@ -548,7 +565,8 @@ module _ (p : Program) (o : Outside) (asked : IsAsked p o) (regular : IsRegular 
   field_kind : (f : ℕ) → tame.fields (field_at p f) ≡ met (kind_of q (field_at p f).kind) (less.fields (field_at p f))
   field_kind f = refl
 
-  puts_met : (at : MethodAt) (n from field own : ℕ) (item : Item) (v : Parts) (here : FlatAt p tamed at n) → number.Puts item from field here.insn → own_number p field ≡ Some own → IsUnder v (here.registers from)
+  puts_met : (at : MethodAt) (n from field own : ℕ) (item : Item) (v : Parts) (here : FlatAt p tamed at n) → number.Puts item from field here.insn → own_number p field ≡ Some own
+      → IsUnder v (here.registers from)
       → IsUnder (stored_value item v) (tamed.fields own)
   puts_met at n from field own item v here puts e h =
       let z = spot at n here in

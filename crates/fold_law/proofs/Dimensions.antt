@@ -1,5 +1,5 @@
 -- The arrays of the least typings by number have a dimension.
-use Rattle.std.proofs.Common.{◌≡◌, ℕ, zero, suc, Bool, true, false, true≢false, List, [], ◌∷◌, map, Option, Some, None, refl, sym, ap, ◌∙◌, subst}
+use Rattle.std.proofs.Common.{◌≡◌, ℕ, zero, suc, true, false, true≢false, [], ◌∷◌, map, Option, Some, None, refl, sym, ap, ◌∙◌, subst}
 use Rattle.std.specs.Prelude.{slice_get, option_and_then}
 use Rattle.lemmas.proofs.Options.{none_some, some_same}
 use Rattle.hierarchy.specs.Shapes.{IsResolved}
@@ -18,12 +18,11 @@ use Rattle.verify.specs.declared.kinds.Kind as number
 use Rattle.verify.specs.declared.kinds.Kind.TheVariants as kind
 use Rattle.verify.specs.declared.setting.Setting.{Setting}
 use Rattle.verify.specs.declared.tables.Tables.{Tables}
-use Rattle.verify.specs.declared.typed.Verifier.{Verifier}
 use Rattle.verify.specs.Entry.{begun}
 use Rattle.verify.specs.Flow.{place_at}
 use Rattle.verify.specs.Frames.{kind_at, Kinds}
 use Rattle.verify.specs.Kinds.{is_null}
-use Rattle.verify.specs.Methods.{constructs, HasTyping, IsFor, receiver_of, TypesFor}
+use Rattle.verify.specs.Methods.{constructs, HasTyping, receiver_of, TypesFor}
 use Rattle.verify.specs.Names.{parameters_of}
 use Rattle.verify.specs.Supers.{Finds}
 use Rattle.verify.specs.Typings.{Below, IsLeastTyping, IsUnder, kind_before, kind_in, Table}

@@ -76,12 +76,14 @@ module _ (p : NamedProgram) where
   arguments_loose : (c : NamedClass) (m : NamedMethod) (n : ℕ) (a : ℕ → Flat) → (is_constructor m ≡ true → a n ≡ Any) → (i : ℕ) → suits (kind_at (argument_kinds p c m) i) false (a (n + i)) ≡ true
   arguments_loose c m n a h i = by (is_static m.flags) i
     where
-      by : (b : Bool) (i : ℕ) → suits (kind_at (elim b as (λ b. List Kind) [ true ↦ parameter_kinds p m.signature.parameters | false ↦ receiver_kind c m ∷ parameter_kinds p m.signature.parameters ]) i) false (a (n + i)) ≡ true
+      by : (b : Bool) (i : ℕ)
+          → suits (kind_at (elim b as (λ b. List Kind) [ true ↦ parameter_kinds p m.signature.parameters | false ↦ receiver_kind c m ∷ parameter_kinds p m.signature.parameters ]) i) false (a (n + i)) ≡ true
       by true i = parameters_loose m.signature.parameters i (a (n + i))
       by false zero = receiver_loose c m (a (n + 0)) (λ e. ap a (omega arith) ∙ h e)
       by false (suc i) = parameters_loose m.signature.parameters i (a (n + suc i))
 
-  pub begun_loose : (c : NamedClass) (m : NamedMethod) (b : NamedBody) (a : ℕ → Flat) → (is_constructor m ≡ true → a (b.registers - b.ins) ≡ Any) → (s : ℕ) → suits (kind_at (begun p c m b).registers s) false (a s) ≡ true
+  pub begun_loose : (c : NamedClass) (m : NamedMethod) (b : NamedBody) (a : ℕ → Flat) → (is_constructor m ≡ true → a (b.registers - b.ins) ≡ Any) → (s : ℕ)
+      → suits (kind_at (begun p c m b).registers s) false (a s) ≡ true
   begun_loose c m b a h s = behind_suits (b.registers - b.ins) false (argument_kinds p c m) a (arguments_loose c m (b.registers - b.ins) a h) s
 
   -- and with what suits the kinds of arguments, also where numbers are asked about

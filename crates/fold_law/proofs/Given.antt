@@ -138,7 +138,8 @@ module _ (p : Program) (o : Outside) (asked : IsAsked p o) (plain : FindsPlainly
       of_field at None e = tt
       of_field at (Some f) e = under.fields at f e
 
-      of_class : (at : ℕ × ℕ) (x : Option Class) → slice_get p.classes at.0 ≡ x → IsUnder (known.field_in t x at.1) (field_flat b (option_map (λ f. f.name) (option_and_then (λ c. slice_get c.fields at.1) x)))
+      of_class : (at : ℕ × ℕ) (x : Option Class) → slice_get p.classes at.0 ≡ x
+          → IsUnder (known.field_in t x at.1) (field_flat b (option_map (λ f. f.name) (option_and_then (λ c. slice_get c.fields at.1) x)))
       of_class at None e = tt
       of_class at (Some k) e = of_field at (slice_get k.fields at.1) (ap (λ (x : Option Class). option_and_then (λ c. slice_get c.fields at.1) x) e)
 
@@ -161,7 +162,8 @@ module _ (p : Program) (o : Outside) (asked : IsAsked p o) (plain : FindsPlainly
     any_way e v = subst (IsUnder v) (sym (leaving_any p o asked c text method kind args e)) tt
 
     -- what a method returns that it may find
-    one_under : (at : MethodAt) → IsThere p at → ((g : Found) → names.found_at p at ≡ Some g → Contains (may_find (named p) text kind key) g) → IsUnder (found_value p t (Some at)) (answer text method kind args)
+    one_under : (at : MethodAt) → IsThere p at → ((g : Found) → names.found_at p at ≡ Some g → Contains (may_find (named p) text kind key) g)
+        → IsUnder (found_value p t (Some at)) (answer text method kind args)
     one_under at stands among = by stands.method.body refl
       where
         m : Method
@@ -183,7 +185,8 @@ module _ (p : Program) (o : Outside) (asked : IsAsked p o) (plain : FindsPlainly
             (found_below p o asked c text method m.name kind args g.found (among g.found g.is) g.key))
 
     -- what a look-up finds of which the call knows by names
-    search_under : (x : Option MethodAt) (z : find.Search) → z ≡ search_at p (search_of x) → ((at : MethodAt) → x ≡ Some at → IsThere p at) → (is_nothing z ≡ true → misses (named p) text kind key ≡ true)
+    search_under : (x : Option MethodAt) (z : find.Search) → z ≡ search_at p (search_of x) → ((at : MethodAt) → x ≡ Some at → IsThere p at)
+        → (is_nothing z ≡ true → misses (named p) text kind key ≡ true)
         → ((g : Found) → z ≡ find.Finds g → Contains (may_find (named p) text kind key) g) → IsUnder (found_value p t x) (answer text method kind args)
     search_under None z e stands missed finds = any_way (missed_leaves p o asked text method kind (missed (ap is_nothing e))) any_value
     search_under (Some at) z e stands missed finds = one_under at (stands at refl) (λ g is. finds g (e ∙ ap names.finds is))
@@ -233,7 +236,8 @@ module _ (p : Program) (o : Outside) (asked : IsAsked p o) (plain : FindsPlainly
     abbrev super_search : find.Search
     super_search = find.finds_super (named p) text (method_at p method)
 
-    super_is : (y : look_up.Search) → cond (is_037 p.version) (cond (member.is_interface (slice_get p.classes top)) (finds_among p (top ∷ []) q.name q.proto) (finds_above p class q)) (finds_above p class q) ≡ y
+    super_is : (y : look_up.Search)
+        → cond (is_037 p.version) (cond (member.is_interface (slice_get p.classes top)) (finds_among p (top ∷ []) q.name q.proto) (finds_above p class q)) (finds_above p class q) ≡ y
         → super_search ≡ search_at p y
     super_is y e = super_by_number p s asked.once owner.name class (class_parts p s class owner is_owner).name (own_place p asked.once class owner is_owner) owner is_owner method low
         ∙ ap (search_at p) (ap (look_up.finds_super_of p class) entry ∙ ap (λ (x : Option ℕ). cond (is_037 p.version) (finds_super_037 p class q x) (finds_above p class q)) place ∙ e)

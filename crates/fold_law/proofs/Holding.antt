@@ -1,7 +1,6 @@
 -- What a field is put, and what it begins with, suits the kind of its type.
-use Rattle.std.proofs.Common.{◌≡◌, ℕ, Bool, true, false, true≢false, List, [], ◌∷◌, Option, Some, None, refl, sym, ap, ◌∙◌, subst}
-use Rattle.std.specs.Prelude.{◌&&◌, ◌||◌, if◌then◌else◌, not, slice_get, Contains}
-use Rattle.std.specs.Option.{option_map}
+use Rattle.std.proofs.Common.{◌≡◌, ℕ, Bool, true, false, true≢false, Option, Some, None, refl, sym, ap, subst}
+use Rattle.std.specs.Prelude.{◌&&◌, if◌then◌else◌, not, slice_get}
 use Rattle.lemmas.proofs.Bools.{and_left, clash, or_false_left, or_false_right}
 use Rattle.lemmas.proofs.Lists.{got_map}
 use Rattle.insn_set.specs.declared.ops.Item.{Item}
@@ -9,7 +8,6 @@ use Rattle.insn_set.specs.declared.ops.Item.TheVariants as item
 use Rattle.program_model.specs.declared.program.Class.{Class}
 use Rattle.program_model.specs.declared.program.Field.{Field}
 use Rattle.program_model.specs.declared.program.Program.{Program}
-use Rattle.class_defs.proofs.WellFormed.{Sound}
 use Rattle.dalvik_defs.specs.Face.{place_of}
 use Rattle.dalvik_defs.specs.Fields.{first_of as begins_as, first_value}
 use Rattle.dalvik_defs.specs.Flags.{is_static}
@@ -83,7 +81,8 @@ module _ (q : NamedProgram) where
       by false false true x y e = reference (is_array t) (is_plain q t) x y e
       by false false false x y e = refl
 
-  pub put_suits : (c : NamedClass) (m : NamedMethod) (s : Kinds) (i : Item) (from : ℕ) (k : FieldKey) (f : Form) → name.Puts flat i from k f → is_allowed q c m s f ≡ true → is_wrong q c m s f ≡ false → (v : Flat)
+  pub put_suits : (c : NamedClass) (m : NamedMethod) (s : Kinds) (i : Item) (from : ℕ) (k : FieldKey) (f : Form) → name.Puts flat i from k f → is_allowed q c m s f ≡ true
+      → is_wrong q c m s f ≡ false → (v : Flat)
       → suits (kind_at s.registers from) true v ≡ true → suits (kind_of q k.kind) true (flat_stored i v) ≡ true
   put_suits c m s i from k _ (name.Instance on) al wrong v h =
       stored_suits i k.kind v (or_false_left (wrong_item i k.kind) (wrong_field q false k) wrong)
@@ -119,7 +118,8 @@ module _ (q : NamedProgram) where
       by true e = subst (λ (k : Kind). suits k true (KnownWide 0) ≡ true) (sym (wide_type q t e)) refl
       by false e = narrow (is_word t) (is_wide t) (is_reference t)
 
-  pub first_suits : (k : FieldKey) (d : NamedField) → ((v : NamedValue) → d.first ≡ Some v → sound.suits k.kind (first_value v) ≡ true) → suits (kind_of q k.kind) true (name.first_fact flat (name.begun_with k d)) ≡ true
+  pub first_suits : (k : FieldKey) (d : NamedField) → ((v : NamedValue) → d.first ≡ Some v → sound.suits k.kind (first_value v) ≡ true)
+      → suits (kind_of q k.kind) true (name.first_fact flat (name.begun_with k d)) ≡ true
   first_suits k d h = by (is_static d.flags)
     where
       first : (y : Option NamedValue) → d.first ≡ y → suits (kind_of q k.kind) true (name.first_fact flat (elim y as (λ y. Value) [ Some v ↦ first_value v | None ↦ zero_of k.kind ])) ≡ true
@@ -131,7 +131,8 @@ module _ (q : NamedProgram) where
       by false = zero_suits k.kind
 
 -- the first value of a field suits its type
-pub first_of : (p : Program) → sound.IsRegular (named p) → (i j : ℕ) (f : Field) (c : Class) → slice_get p.classes i ≡ Some c → slice_get c.fields j ≡ Some f → (v : NamedValue) → (named_field p f).first ≡ Some v
+pub first_of : (p : Program) → sound.IsRegular (named p) → (i j : ℕ) (f : Field) (c : Class) → slice_get p.classes i ≡ Some c → slice_get c.fields j ≡ Some f → (v : NamedValue)
+    → (named_field p f).first ≡ Some v
     → sound.suits (field_at p f.name).kind (first_value v) ≡ true
 first_of p run i j f c is_class is_field v e =
     run.firsts (named_class p c) (named_field p f) v (contained (named_class p c) (named p).classes (at_stands (named p).classes i (named_class p c) (got_map (named_class p) p.classes i c is_class)))

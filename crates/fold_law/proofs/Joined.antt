@@ -161,7 +161,8 @@ module _ (q : NamedProgram) (t : Text) where
       reference false true h k = null_joined x y h k
       reference false false h k = null_joined x y h k
 
-      by : (a b c : Bool) → suits (if a then Word else if b then Low else if c then kind_of_reference q t else Undefined) true x ≡ true → suits (if a then Word else if b then Low else if c then kind_of_reference q t else Undefined) true y ≡ true
+      by : (a b c : Bool) → suits (if a then Word else if b then Low else if c then kind_of_reference q t else Undefined) true x ≡ true
+          → suits (if a then Word else if b then Low else if c then kind_of_reference q t else Undefined) true y ≡ true
           → suits (if a then Word else if b then Low else if c then kind_of_reference q t else Undefined) true (flat_joined x y) ≡ true
       by true b c h k = word_joined x y h k
       by false true c h k = refl

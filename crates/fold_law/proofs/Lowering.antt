@@ -1,5 +1,5 @@
 -- Facts are under a solution also where it says that no number is there which the kinds of a typing don't let be there.
-use Rattle.std.proofs.Common.{◌≡◌, ℕ, ◌+◌, ◌<◌, Bool, true, false, Some, ap, ◌∙◌, arith}
+use Rattle.std.proofs.Common.{◌≡◌, ℕ, ◌+◌, ◌<◌, Bool, false, Some, ap, ◌∙◌, arith}
 use Rattle.std.specs.Prelude.{if◌then◌else◌}
 use Rattle.program_model.specs.declared.pass.Outside.{Outside}
 use Rattle.program_model.specs.declared.program.Program.{Program}
@@ -12,18 +12,17 @@ use Rattle.dalvik_defs.specs.declared.names.MethodKey.{MethodKey}
 use Rattle.dalvik_defs.specs.declared.program.NamedBody.{NamedBody}
 use Rattle.dalvik_defs.specs.declared.program.NamedProgram.{NamedProgram}
 use Rattle.facts.specs.declared.facts.Facts.{Facts}
-use Rattle.pass_defs.specs.Constants.{IsSolution, Solution}
 use Rattle.pass_defs.specs.Flat.{Flat}
-use Rattle.pass_defs.specs.Typed.{Table, words_of}
+use Rattle.pass_defs.specs.Typed.{words_of}
 use Rattle.removal_bridge.proofs.Formed as shown
 use Rattle.removal_bridge.proofs.TypedFormed as stuck
 use Rattle.removal_law.specs.Reach.{IsRegular}
 use Rattle.run_laws.specs.Regular as sound
 use Rattle.flat_bridge.specs.Numbered.{numbered}
 use Rattle.fold_law.specs.Asked.{IsBounded, IsSettled}
-use Rattle.fold_law.proofs.Typings.{AreTypings, BodyOf, met_table, restricted}
+use Rattle.fold_law.proofs.Typings.{BodyOf, met_table, restricted}
 use Rattle.fold_law.proofs.Bounding.{tamed, tamed_bound, tamed_within}
-use Rattle.fold_law.proofs.Restricted.{restricted_closed, Stands, stood}
+use Rattle.fold_law.proofs.Restricted.{restricted_closed, stood}
 use Rattle.fold_law.proofs.Tables.{class_stands, method_stands}
 use Rattle.fold_law.proofs.Within.{low_within, MetLow}
 
@@ -37,7 +36,8 @@ module _ (p : Program) (h : Hierarchy) (o : Outside) (t : Facts) (settled : IsSe
   run : sound.IsRegular q
   run = stuck.regular_program p settled.asked.formed settled.asked.once settled.typed
 
-  entered : (k : MethodKey) (b : NamedBody) (x : BodyOf q k b) → is_static x.method.flags ≡ false → 0 < b.ins
+  -- a method with a receiver has an argument
+  pub entered : (k : MethodKey) (b : NamedBody) (x : BodyOf q k b) → is_static x.method.flags ≡ false → 0 < b.ins
   entered k b x e =
       let long : b.ins ≡ (if is_static x.method.flags then 0 else 1) + words_of x.method.signature.parameters = run.entries x.class x.method b (class_stands q k b x) (method_stands q k b x) x.has_body in
       let s : b.ins ≡ 1 + words_of x.method.signature.parameters = long ∙ ap (λ (v : Bool). (if v then 0 else 1) + words_of x.method.signature.parameters) e in

@@ -66,7 +66,8 @@ body_of_key p k b e = by (class_named p k.class) refl e
     at c i None j a = none_some b a
     at c i (Some m) j a = record { class = c; method = m; is_class = i; is_method = j; has_body = a }
 
-    by : (x : Option NamedClass) → class_named p k.class ≡ x → option_and_then (λ m. m.body) (elim x as (λ x. Option NamedMethod) [ Some c ↦ method_in c k.name k.signature | None ↦ None ]) ≡ Some b → BodyOf p k b
+    by : (x : Option NamedClass) → class_named p k.class ≡ x
+        → option_and_then (λ m. m.body) (elim x as (λ x. Option NamedMethod) [ Some c ↦ method_in c k.name k.signature | None ↦ None ]) ≡ Some b → BodyOf p k b
     by None i a = none_some b a
     by (Some c) i a = at c i (method_in c k.name k.signature) refl a
 
@@ -111,7 +112,8 @@ module _ (p : NamedProgram) (regular : IsRegular p) where
   first_more k [] ds g e = none_some g e
   first_more k (c ∷ cs) ds g e = by (passing (λ m. true) c (method_in c k.name k.signature)) e (first_more k cs ds g)
     where
-      by : (o : Option Found) → option_or o (first_method (λ m. true) k.name k.signature cs) ≡ Some g → (first_method (λ m. true) k.name k.signature cs ≡ Some g → first_method (λ m. true) k.name k.signature (cs ++ ds) ≡ Some g)
+      by : (o : Option Found) → option_or o (first_method (λ m. true) k.name k.signature cs) ≡ Some g
+          → (first_method (λ m. true) k.name k.signature cs ≡ Some g → first_method (λ m. true) k.name k.signature (cs ++ ds) ≡ Some g)
           → option_or o (first_method (λ m. true) k.name k.signature (cs ++ ds)) ≡ Some g
       by None i more = more i
       by (Some f) i more = i
@@ -187,7 +189,8 @@ module _ (p : NamedProgram) (regular : IsRegular p) where
       by true j = method_of_ordinary k.name k.signature g (candidate p everything keeps regular k.name k.signature (k.class ∷ []) g j) c
       by false j = elim j [ ]
 
-  receiver_ordinary : (k : MethodKey) (g : Found) → In g (flat_map (λ t. found_by (finds_at p t k) ++ candidates_of p t k.name k.signature) (receivers p k.class)) → is_constructor_name g.key.name ≡ true → ⊥
+  receiver_ordinary : (k : MethodKey) (g : Found) → In g (flat_map (λ t. found_by (finds_at p t k) ++ candidates_of p t k.name k.signature) (receivers p k.class))
+      → is_constructor_name g.key.name ≡ true → ⊥
   receiver_ordinary k g i c =
       let w = out_of_flat (λ t. found_by (finds_at p t k) ++ candidates_of p t k.name k.signature) g (receivers p k.class) i in
       by w.0 (in_either g (found_by (finds_at p w.0 k)) (candidates_of p w.0 k.name k.signature) w.1.1)
@@ -299,7 +302,8 @@ module _ (p : NamedProgram) (regular : IsRegular p) where
         (and_left (not (is_static w.method.flags) && not (is_private w.method.flags)) (not (is_special w.method.name)) w.virtual))
 
     -- what is found along a class and its superclasses is what has its name
-    along_same : (t : Text) (k : MethodKey) (g : Found) → first_method (λ m. true) k.name k.signature (chain_of p t) ≡ Some g → (b : NamedBody) (x : BodyOf p g.key b) → is_static x.method.flags ≡ is_static g.flags
+    along_same : (t : Text) (k : MethodKey) (g : Found) → first_method (λ m. true) k.name k.signature (chain_of p t) ≡ Some g → (b : NamedBody) (x : BodyOf p g.key b)
+        → is_static x.method.flags ≡ is_static g.flags
     along_same t k g e b x =
         let w = first_where (λ m. true) k.name k.signature (chain_of p t) g e in
         let named = chain_named p everything keeps (length p.classes) t w.class w.stands in
@@ -338,11 +342,13 @@ module _ (p : NamedProgram) (regular : IsRegular p) where
     candidate_held : (k : MethodKey) (g : Found) → In g (super_candidates p k) → (b : NamedBody) (x : BodyOf p g.key b) → is_static x.method.flags ≡ false
     candidate_held k g i = by (is_037 p.version && is_some (interface_named p k.class)) i
       where
-        by : (v : Bool) → In g (elim v as (λ v. List Found) [ true ↦ candidates p (k.class ∷ []) k.name k.signature | false ↦ [] ]) → (b : NamedBody) (x : BodyOf p g.key b) → is_static x.method.flags ≡ false
+        by : (v : Bool) → In g (elim v as (λ v. List Found) [ true ↦ candidates p (k.class ∷ []) k.name k.signature | false ↦ [] ]) → (b : NamedBody) (x : BodyOf p g.key b)
+            → is_static x.method.flags ≡ false
         by true j = virtual_held k.name k.signature g (candidate p everything keeps regular k.name k.signature (k.class ∷ []) g j)
         by false j = elim j [ ]
 
-    receiver_held : (k : MethodKey) (g : Found) → In g (flat_map (λ t. found_by (finds_at p t k) ++ candidates_of p t k.name k.signature) (receivers p k.class)) → (b : NamedBody) (x : BodyOf p g.key b) → is_static x.method.flags ≡ false
+    receiver_held : (k : MethodKey) (g : Found) → In g (flat_map (λ t. found_by (finds_at p t k) ++ candidates_of p t k.name k.signature) (receivers p k.class))
+        → (b : NamedBody) (x : BodyOf p g.key b) → is_static x.method.flags ≡ false
     receiver_held k g i =
         let w = out_of_flat (λ t. found_by (finds_at p t k) ++ candidates_of p t k.name k.signature) g (receivers p k.class) i in
         by w.0 (in_either g (found_by (finds_at p w.0 k)) (candidates_of p w.0 k.name k.signature) w.1.1)
@@ -352,7 +358,8 @@ module _ (p : NamedProgram) (regular : IsRegular p) where
         by t (inr j) = virtual_held k.name k.signature g (candidate p everything keeps regular k.name k.signature (flat_map (λ c. c.interfaces) (chain_of p t)) g j)
 
     -- what a call may find is static where the call is
-    pub static_as : (class : Text) (c : NamedClass) (kind : InvokeKind) (k : MethodKey) (g : Found) → In g (may_find p class kind k) → c.name ≡ class → wrong_method p kind k ≡ false → wrong_super p c kind k ≡ false
+    pub static_as : (class : Text) (c : NamedClass) (kind : InvokeKind) (k : MethodKey) (g : Found) → In g (may_find p class kind k) → c.name ≡ class → wrong_method p kind k ≡ false
+        → wrong_super p c kind k ≡ false
         → (b : NamedBody) (x : BodyOf p g.key b) → is_static x.method.flags ≡ is_static_call kind
     static_as class c call.Static k g i named right super b x =
         let w = static_found k g (found_one (finds_statically p k) g i) in
@@ -423,10 +430,12 @@ module _ (p : NamedProgram) (regular : IsRegular p) where
     walk_reference zero s t e h = clash (text_eq s t) h e
     walk_reference (suc n) s t e h = by (sym (ap (λ (b : Bool). elim b as (λ b. Bool) [ true ↦ true | false ↦ list_any (λ u. walks (own_above p) n u t) (own_above p s) ]) e) ∙ h) (walk_reference n)
       where
-        by : list_any (λ u. walks (own_above p) n u t) (own_above p s) ≡ true → ((s t : Text) → text_eq s t ≡ false → walks (own_above p) n s t ≡ true → is_class_type t ≡ true) → is_class_type t ≡ true
+        by : list_any (λ u. walks (own_above p) n u t) (own_above p s) ≡ true → ((s t : Text) → text_eq s t ≡ false → walks (own_above p) n s t ≡ true → is_class_type t ≡ true)
+            → is_class_type t ≡ true
         by a more = of (class_named p s) refl a
           where
-            each : (c : NamedClass) → class_named p s ≡ Some c → (us : List Text) → ((u : Text) → In u us → In u (c.superclass ∷ c.interfaces)) → list_any (λ u. walks (own_above p) n u t) us ≡ true → is_class_type t ≡ true
+            each : (c : NamedClass) → class_named p s ≡ Some c → (us : List Text) → ((u : Text) → In u us → In u (c.superclass ∷ c.interfaces))
+                → list_any (λ u. walks (own_above p) n u t) us ≡ true → is_class_type t ≡ true
             each c i [] up a = absurd (true≢false (sym a))
             each c i (u ∷ us) up a = here_or (walks (own_above p) n u t) refl a (each c i us (λ v j. up v (there u us j)))
               where
@@ -434,11 +443,13 @@ module _ (p : NamedProgram) (regular : IsRegular p) where
                 same true d w = subst (λ (v : Text). is_class_type v ≡ true) (text_sound u t d) (above c u (class_in p s c i) (up u (here us)))
                 same false d w = more u t d w
 
-                here_or : (b : Bool) → walks (own_above p) n u t ≡ b → (b || list_any (λ u. walks (own_above p) n u t) us) ≡ true → (list_any (λ u. walks (own_above p) n u t) us ≡ true → is_class_type t ≡ true) → is_class_type t ≡ true
+                here_or : (b : Bool) → walks (own_above p) n u t ≡ b → (b || list_any (λ u. walks (own_above p) n u t) us) ≡ true
+                    → (list_any (λ u. walks (own_above p) n u t) us ≡ true → is_class_type t ≡ true) → is_class_type t ≡ true
                 here_or true w j more = same (text_eq u t) refl w
                 here_or false w j more = more j
 
-            of : (y : Option NamedClass) → class_named p s ≡ y → list_any (λ u. walks (own_above p) n u t) (elim y as (λ y. List Text) [ Some c ↦ c.superclass ∷ c.interfaces | None ↦ [] ]) ≡ true → is_class_type t ≡ true
+            of : (y : Option NamedClass) → class_named p s ≡ y
+                → list_any (λ u. walks (own_above p) n u t) (elim y as (λ y. List Text) [ Some c ↦ c.superclass ∷ c.interfaces | None ↦ [] ]) ≡ true → is_class_type t ≡ true
             of None i a = absurd (true≢false (sym a))
             of (Some c) i a = each c i (c.superclass ∷ c.interfaces) (λ u j. j) a
 
@@ -465,7 +476,8 @@ module _ (p : NamedProgram) (regular : IsRegular p) where
         let w = out_of_flat (λ t. found_by (finds_at p t k) ++ candidates_of p t k.name k.signature) g (receivers p k.class) i in
         by w.0 (in_first w.0 k.class (filter (λ u. is_within p u k.class && not (text_eq u k.class)) (map (λ c. c.name) p.classes)) w.1.0) (in_either g (found_by (finds_at p w.0 k)) (candidates_of p w.0 k.name k.signature) w.1.1)
       where
-        by : (t : Text) → (k.class ≡ t) ⊎ In t (filter (λ u. is_within p u k.class && not (text_eq u k.class)) (map (λ c. c.name) p.classes)) → In g (found_by (finds_at p t k)) ⊎ In g (candidates_of p t k.name k.signature) → is_reference k.class ≡ true
+        by : (t : Text) → (k.class ≡ t) ⊎ In t (filter (λ u. is_within p u k.class && not (text_eq u k.class)) (map (λ c. c.name) p.classes))
+            → In g (found_by (finds_at p t k)) ⊎ In g (candidates_of p t k.name k.signature) → is_reference k.class ≡ true
         by t (inl e) h = subst (λ (u : Text). is_reference u ≡ true) (sym e) (from_chain k g t h)
         by t (inr j) h = within_reference t k.class (passing_in (λ u. is_within p u k.class && not (text_eq u k.class)) t (map (λ c. c.name) p.classes) j)
 
@@ -484,10 +496,13 @@ module _ (p : NamedProgram) (regular : IsRegular p) where
     pub super_reference : (class : Text) (k : MethodKey) (g : Found) → In g (may_find p class call.Super k) → (finds_super p class k ≡ Finds g) ⊎ (is_reference k.class ≡ true)
     super_reference class k g i = by (in_either g (found_by (finds_super p class k)) (super_candidates p k) i)
       where
-        candidate_class : (b : Bool) → (is_037 p.version && is_some (interface_named p k.class)) ≡ b → In g (elim b as (λ b. List Found) [ true ↦ candidates p (k.class ∷ []) k.name k.signature | false ↦ [] ]) → is_reference k.class ≡ true
+        candidate_class : (b : Bool) → (is_037 p.version && is_some (interface_named p k.class)) ≡ b
+            → In g (elim b as (λ b. List Found) [ true ↦ candidates p (k.class ∷ []) k.name k.signature | false ↦ [] ]) → is_reference k.class ≡ true
         candidate_class true e j = named (class_named p k.class) refl (and_right (is_037 p.version) (is_some (interface_named p k.class)) e)
           where
-            named : (y : Option NamedClass) → class_named p k.class ≡ y → is_some (elim y as (λ y. Option NamedClass) [ Some c ↦ elim (is_interface c.flags) as (λ b. Option NamedClass) [ true ↦ Some c | false ↦ None ] | None ↦ None ]) ≡ true → is_reference k.class ≡ true
+            named : (y : Option NamedClass) → class_named p k.class ≡ y
+                → is_some (elim y as (λ y. Option NamedClass) [ Some c ↦ elim (is_interface c.flags) as (λ b. Option NamedClass) [ true ↦ Some c | false ↦ None ] | None ↦ None ]) ≡ true
+                → is_reference k.class ≡ true
             named None d u = absurd (true≢false (sym u))
             named (Some c) d u = class_reference k.class (regular.names k.class (ap (λ y. elim y as (λ y. Bool) [ Some c ↦ true | None ↦ false ]) d))
         candidate_class false e j = elim j [ ]

@@ -158,7 +158,8 @@ module _ (p : Program) (i : Insn) (to : ℕ) (wide : Bool) (result : result_of i
   shorter : (c d : Insn) → units_of d (pos 0) ≤ units_of c (pos 0) → units_of c (pos 0) ≤ units (form_of p i) → units_of d (pos 0) ≤ units_of i (pos 0)
   shorter c d h k = let l = units_named p i (to, wide) result in omega (arith, h, k, l)
 
-  word_constant : (n : ℕ) → wide ≡ false → IsUnder v (KnownWord n) → is_encodable (insn.Const to (cast_signed w32 n)) ≡ true → units_of (insn.Const to (cast_signed w32 n)) (pos 0) ≤ units (form_of p i) → HasConstant i v wide
+  word_constant : (n : ℕ) → wide ≡ false → IsUnder v (KnownWord n) → is_encodable (insn.Const to (cast_signed w32 n)) ≡ true
+      → units_of (insn.Const to (cast_signed w32 n)) (pos 0) ≤ units (form_of p i) → HasConstant i v wide
   word_constant n e h encodable short = subst (HasConstant i v) (sym e) (by it.either)
     where
       it : HasNumber v false (Word n)
@@ -178,7 +179,8 @@ module _ (p : Program) (i : Insn) (to : ℕ) (wide : Bool) (result : result_of i
       by (inr s) = one (Word n) (insn.Const to (cast_signed w32 n)) s refl
           (record { encodable = encodable; short = shorter (insn.Const to (cast_signed w32 n)) (insn.Const to (cast_signed w32 n)) (itself (units_of (insn.Const to (cast_signed w32 n)) (pos 0))) short })
 
-  wide_constant : (n : ℕ) → wide ≡ true → IsUnder v (KnownWide n) → is_encodable (insn.ConstWide to (cast_signed w64 n)) ≡ true → units_of (insn.ConstWide to (cast_signed w64 n)) (pos 0) ≤ units (form_of p i) → HasConstant i v wide
+  wide_constant : (n : ℕ) → wide ≡ true → IsUnder v (KnownWide n) → is_encodable (insn.ConstWide to (cast_signed w64 n)) ≡ true
+      → units_of (insn.ConstWide to (cast_signed w64 n)) (pos 0) ≤ units (form_of p i) → HasConstant i v wide
   wide_constant n e h encodable short = subst (HasConstant i v) (sym e) (by it.either)
     where
       it : HasNumber v true (Wide n)
@@ -215,7 +217,8 @@ module _ (p : Program) (i : Insn) (to : ℕ) (wide : Bool) (result : result_of i
           (same (to + 1) ∙ writes_named p i (to, wide) (to + 1) result ∙ ap (λ (b : Bool). in_operand b to (to + 1)) e ∙ no_next to)
 
   -- where a flat value has a constant that does for the form, a value under it has one
-  pub constant_there : (f : Flat) (c : Form) → constant_of to f ≡ Some c → IsUnder v f → ((r : ℕ) → writes c r ≡ writes (form_of p i) r) → is_encodable (bare c) ≡ true → units c ≤ units (form_of p i) → HasConstant i v wide
+  pub constant_there : (f : Flat) (c : Form) → constant_of to f ≡ Some c → IsUnder v f → ((r : ℕ) → writes c r ≡ writes (form_of p i) r) → is_encodable (bare c) ≡ true
+      → units c ≤ units (form_of p i) → HasConstant i v wide
   constant_there (KnownWord n) c e h same encodable short =
       let is : form.Const to (cast_signed w32 n) ≡ c = some_same (form.Const to (cast_signed w32 n)) c e in
       word_constant n (narrow n (λ r. ap (λ (f : Form). writes f r) is ∙ same r)) h (ap (λ (f : Form). is_encodable (bare f)) is ∙ encodable)

@@ -94,7 +94,8 @@ put_below x a to v w h k r = by (nat_eq r to)
     by true = k
     by false = h r
 
-sized_below : (wide : Bool) (x a : ℕ → Flat) (to : ℕ) (v w : Flat) → ((r : ℕ) → FlatBelow (x r) (a r)) → FlatBelow v w → (r : ℕ) → FlatBelow (name.put_sized flat wide x to v r) (name.put_sized flat wide a to w r)
+sized_below : (wide : Bool) (x a : ℕ → Flat) (to : ℕ) (v w : Flat) → ((r : ℕ) → FlatBelow (x r) (a r)) → FlatBelow v w → (r : ℕ)
+    → FlatBelow (name.put_sized flat wide x to v r) (name.put_sized flat wide a to w r)
 sized_below false x a to v w h k = put_below x a to v w h k
 sized_below true x a to v w h k = put_below (name.put flat x to v) (name.put flat a to w) (to + 1) Any Any (put_below x a to v w h k) tt
 

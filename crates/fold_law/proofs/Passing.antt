@@ -1,8 +1,8 @@
 -- What a call passes suits the kinds with which a method begins that it may find.
-use Rattle.std.proofs.Common.{◌≡◌, ◌⊎◌, inl, inr, ℕ, zero, suc, Bool, true, false, true≢false, List, [], ◌∷◌, ◌++◌, Option, Some, None, refl, sym, ap, ◌∙◌, subst}
-use Rattle.std.specs.Prelude.{◌&&◌, ◌||◌, not, if◌then◌else◌, drop, filter, flat_map, length, map, nat_eq, slice_get, Contains}
-use Rattle.std.specs.List.{list_all, list_any}
-use Rattle.lemmas.proofs.Bools.{and_left, and_right, clash, or_false_left, or_false_right, or_left, untrue}
+use Rattle.std.proofs.Common.{◌≡◌, ◌⊎◌, inl, inr, ℕ, zero, suc, Bool, true, false, true≢false, List, [], ◌∷◌, ◌++◌, Some, refl, sym, ap, ◌∙◌, subst}
+use Rattle.std.specs.Prelude.{◌&&◌, ◌||◌, not, if◌then◌else◌, drop, length, map, nat_eq, slice_get, Contains}
+use Rattle.std.specs.List.{list_all}
+use Rattle.lemmas.proofs.Bools.{and_left, and_right, clash, or_false_left, or_false_right, untrue}
 use Rattle.lemmas.proofs.Options.{none_some, some_same}
 use Rattle.insn_set.specs.declared.ops.InvokeKind.{InvokeKind}
 use Rattle.insn_set.specs.declared.ops.InvokeKind.TheVariants as call
@@ -10,7 +10,6 @@ use Rattle.dalvik_defs.specs.Silence.{key_in}
 use Rattle.dalvik_defs.specs.Find.{defined_method, finds_super, Finds, Found, Search}
 use Rattle.dalvik_defs.specs.Flags.{is_interface, is_static}
 use Rattle.dalvik_defs.specs.Names.{is_array, is_class_type, is_reference, is_wide, is_word, Text}
-use Rattle.dalvik_defs.specs.Under.{class_named, defines}
 use Rattle.dalvik_defs.specs.declared.forms.Form.TheVariants as form
 use Rattle.dalvik_defs.specs.declared.names.MethodKey.{MethodKey}
 use Rattle.dalvik_defs.specs.declared.names.Signature.{Signature}
@@ -18,20 +17,20 @@ use Rattle.dalvik_defs.specs.declared.program.NamedBody.{NamedBody}
 use Rattle.dalvik_defs.specs.declared.program.NamedClass.{NamedClass}
 use Rattle.dalvik_defs.specs.declared.program.NamedMethod.{NamedMethod}
 use Rattle.dalvik_defs.specs.declared.program.NamedProgram.{NamedProgram}
-use Rattle.pass_defs.specs.Demands.{Behind, Constructed, Demand, Fits, found_class, is_allowed, is_constructed, is_constructor_name, meets, Pair, passed, passed_wide, receiver_demands}
+use Rattle.pass_defs.specs.Demands.{Behind, Constructed, Demand, Fits, found_class, is_allowed, is_constructed, is_constructor_name, meets, Pair, passed, passed_wide}
 use Rattle.pass_defs.specs.Flat.{Any, Flat}
-use Rattle.pass_defs.specs.Kinds.{Array, Class, fits, Fresh, FreshThis, High, is_initialised, is_plain, Kind, kind_of, kind_of_reference, Low, Reference, Undefined, Word}
+use Rattle.pass_defs.specs.Kinds.{Array, Class, fits, Fresh, FreshThis, is_plain, Kind, kind_of, kind_of_reference, Low, Reference, Undefined, Word}
 use Rattle.pass_defs.specs.Registers.{kind_at, Kinds}
 use Rattle.pass_defs.specs.Typed.{argument_kinds, finds_static, halves, is_constructor, is_static_call, is_wrong, parameter_kinds, passed_words, receiver_kind, wrong_method, wrong_super}
 use Rattle.reach_bridge.proofs.Held.{stands}
 use Rattle.removal_law.proofs.Lists.{In}
 use Rattle.removal_law.specs.Reach.{IsRegular}
-use Rattle.facts_kept.proofs.Beneath.{reference_only, wide_type}
-use Rattle.fold_law.proofs.Typings.{BodyOf, is_any, null_fits, suits}
+use Rattle.facts_kept.proofs.Beneath.{wide_type}
+use Rattle.fold_law.proofs.Typings.{BodyOf, null_fits, suits}
 use Rattle.pass_defs.specs.Calls.{may_find}
 use Rattle.fold_law.proofs.Methods.{call_reference, constructs, constructs_named, key_reference, static_as, super_reference, is_plain_call, found_signature, key_is, method_key}
 use Rattle.fold_law.proofs.Suits.{any_is, any_suits, null_suits}
-use Rattle.fold_law.proofs.Tamed.{fits_suits}
+use Rattle.fold_law.proofs.Tamed.{fits_suits, reference_kind}
 
 -- the rest of what is all so
 all_behind : {A : Type 0} (f : A → Bool) (xs ys : List A) → list_all f (xs ++ ys) ≡ true → list_all f ys ≡ true
@@ -48,7 +47,8 @@ module _ (p : NamedProgram) where
       reference false true = refl
       reference false false = refl
 
-      by : (a b c : Bool) → b ≡ false → halves (if a then Word else if b then Low else if c then kind_of_reference p t else Undefined) ≡ (if a then Word else if b then Low else if c then kind_of_reference p t else Undefined) ∷ []
+      by : (a b c : Bool) → b ≡ false
+          → halves (if a then Word else if b then Low else if c then kind_of_reference p t else Undefined) ≡ (if a then Word else if b then Low else if c then kind_of_reference p t else Undefined) ∷ []
       by true b c e = refl
       by false true c e = absurd (true≢false e)
       by false false true e = reference (is_array t) (is_plain p t)
@@ -64,8 +64,10 @@ module _ (p : NamedProgram) where
     passed_suits (t ∷ ts) [] e i r g = none_some r g
     passed_suits (t ∷ ts) (s ∷ []) e i r g = by (is_wide t) refl e i g (passed_suits ts [])
       where
-        by : (b : Bool) → is_wide t ≡ b → list_all met (elim b as (λ b. List (ℕ × Demand)) [ true ↦ passed_wide s [] ++ passed ts (drop 1 []) | false ↦ (s, Fits t) ∷ passed ts [] ]) ≡ true → (i : ℕ) → slice_get (s ∷ []) i ≡ Some r
-            → (list_all met (passed ts []) ≡ true → (i r : ℕ) → slice_get [] i ≡ Some r → suits (kind_at (parameter_kinds p ts) i) true (x r) ≡ true) → suits (kind_at (halves (kind_of p t) ++ parameter_kinds p ts) i) true (x r) ≡ true
+        by : (b : Bool) → is_wide t ≡ b → list_all met (elim b as (λ b. List (ℕ × Demand)) [ true ↦ passed_wide s [] ++ passed ts (drop 1 []) | false ↦ (s, Fits t) ∷ passed ts [] ]) ≡ true
+            → (i : ℕ) → slice_get (s ∷ []) i ≡ Some r
+            → (list_all met (passed ts []) ≡ true → (i r : ℕ) → slice_get [] i ≡ Some r → suits (kind_at (parameter_kinds p ts) i) true (x r) ≡ true)
+            → suits (kind_at (halves (kind_of p t) ++ parameter_kinds p ts) i) true (x r) ≡ true
         by true w d zero g more = subst (λ (k : Kind). suits (kind_at (halves k ++ parameter_kinds p ts) 0) true (x r) ≡ true) (sym (wide_type p t w)) refl
         by true w d (suc i) g more = none_some r g
         by false w d zero g more = subst (λ (l : List Kind). suits (kind_at (l ++ parameter_kinds p ts) 0) true (x r) ≡ true) (sym (halves_narrow t w))
@@ -73,9 +75,11 @@ module _ (p : NamedProgram) where
         by false w d (suc i) g more = none_some r g
     passed_suits (t ∷ ts) (s ∷ v ∷ rs) e i r g = by (is_wide t) refl e i g (passed_suits ts rs) (passed_suits ts (v ∷ rs))
       where
-        by : (b : Bool) → is_wide t ≡ b → list_all met (elim b as (λ b. List (ℕ × Demand)) [ true ↦ passed_wide s (v ∷ rs) ++ passed ts (drop 1 (v ∷ rs)) | false ↦ (s, Fits t) ∷ passed ts (v ∷ rs) ]) ≡ true → (i : ℕ)
+        by : (b : Bool) → is_wide t ≡ b
+            → list_all met (elim b as (λ b. List (ℕ × Demand)) [ true ↦ passed_wide s (v ∷ rs) ++ passed ts (drop 1 (v ∷ rs)) | false ↦ (s, Fits t) ∷ passed ts (v ∷ rs) ]) ≡ true → (i : ℕ)
             → slice_get (s ∷ v ∷ rs) i ≡ Some r → (list_all met (passed ts rs) ≡ true → (i r : ℕ) → slice_get rs i ≡ Some r → suits (kind_at (parameter_kinds p ts) i) true (x r) ≡ true)
-            → (list_all met (passed ts (v ∷ rs)) ≡ true → (i r : ℕ) → slice_get (v ∷ rs) i ≡ Some r → suits (kind_at (parameter_kinds p ts) i) true (x r) ≡ true) → suits (kind_at (halves (kind_of p t) ++ parameter_kinds p ts) i) true (x r) ≡ true
+            → (list_all met (passed ts (v ∷ rs)) ≡ true → (i r : ℕ) → slice_get (v ∷ rs) i ≡ Some r → suits (kind_at (parameter_kinds p ts) i) true (x r) ≡ true)
+            → suits (kind_at (halves (kind_of p t) ++ parameter_kinds p ts) i) true (x r) ≡ true
         by true w d zero g pairs more = subst (λ (k : Kind). suits (kind_at (halves k ++ parameter_kinds p ts) 0) true (x r) ≡ true) (sym (wide_type p t w)) refl
         by true w d (suc zero) g pairs more = subst (λ (k : Kind). suits (kind_at (halves k ++ parameter_kinds p ts) 1) true (x r) ≡ true) (sym (wide_type p t w)) refl
         by true w d (suc (suc i)) g pairs more = subst (λ (k : Kind). suits (kind_at (halves k ++ parameter_kinds p ts) (suc (suc i))) true (x r) ≡ true) (sym (wide_type p t w))
@@ -95,21 +99,7 @@ module _ (p : NamedProgram) where
 
     -- what fits a reference type is null as a number
     fits_null : (t : Text) (r : ℕ) → is_reference t ≡ true → fits p (kind_at ks r) t ≡ true → null_fits (x r) ≡ true
-    fits_null t r e f = sym (null_suits (kind_of p t) (x r) (reference_kind e)) ∙ fits_suits p (kind_at ks r) t (x r) f (h r)
-      where
-        reference_kind : is_reference t ≡ true → is_initialised (kind_of p t) ≡ true
-        reference_kind i = by (is_word t) (is_wide t) (is_reference t) (reference_only p t i).0 (reference_only p t i).1 i
-          where
-            reference : (a b : Bool) → is_initialised (if a then Array t else if b then Class t else Reference) ≡ true
-            reference true b = refl
-            reference false true = refl
-            reference false false = refl
-
-            by : (a b d : Bool) → a ≡ false → b ≡ false → d ≡ true → is_initialised (if a then Word else if b then Low else if d then kind_of_reference p t else Undefined) ≡ true
-            by true b d i j k = absurd (true≢false i)
-            by false true d i j k = absurd (true≢false j)
-            by false false true i j k = reference (is_array t) (is_plain p t)
-            by false false false i j k = absurd (true≢false (sym k))
+    fits_null t r e f = sym (null_suits (kind_of p t) (x r) (reference_kind p t e)) ∙ fits_suits p (kind_at ks r) t (x r) f (h r)
 
     plain_receiver : (d : NamedClass) (m : NamedMethod) (v : Flat) → is_constructor m ≡ false → null_fits v ≡ true → suits (receiver_kind d m) true v ≡ true
     plain_receiver d m v e n = by (is_constructor m) (is_interface d.flags) e
@@ -135,7 +125,8 @@ module _ (p : NamedProgram) (regular : IsRegular p) (methods : (c : NamedClass) 
   behind kind j rs e i r get = subst (λ (z : Signature). suits (kind_at (parameter_kinds p z.parameters) i) true (x r) ≡ true) (sym (signature kind j)) (passed_suits p c s.registers x h k.signature.parameters rs e i r get)
 
   -- the receiver
-  receiver : (kind : InvokeKind) → is_static_call kind ≡ false → Contains (may_find p class kind k) g → (r : ℕ) → is_constructor_name k.name ≡ false → null_fits (x r) ≡ true → suits (receiver_kind y.class y.method) true (x r) ≡ true
+  receiver : (kind : InvokeKind) → is_static_call kind ≡ false → Contains (may_find p class kind k) g → (r : ℕ) → is_constructor_name k.name ≡ false → null_fits (x r) ≡ true
+      → suits (receiver_kind y.class y.method) true (x r) ≡ true
   receiver kind e i r name n = plain_receiver p c s.registers x h y.class y.method (x r)
       (untrue (is_constructor y.method) (λ f. clash (is_constructor_name k.name)
       (constructs_named p regular class k g kind (constructs p regular class kind k g i (ap is_constructor_name (sym (method_key p g.key b y)) ∙ and_left (is_constructor_name y.method.name) (not (is_static y.method.flags)) f)) e) name)) n
@@ -155,7 +146,8 @@ module _ (p : NamedProgram) (regular : IsRegular p) (methods : (c : NamedClass) 
       by zero get = subst (λ (u : ℕ). suits (receiver_kind y.class y.method) true (x u) ≡ true) (some_same r0 r get) first
       by (suc i) get = behind kind j rs rest i r get
 
-  plain : (kind : InvokeKind) (r0 : ℕ) (rs : List ℕ) → is_plain_call kind ≡ true → is_static_call kind ≡ false → Contains (may_find p class kind k) g → In g (may_find p class kind k) → is_static y.method.flags ≡ is_static_call kind
+  plain : (kind : InvokeKind) (r0 : ℕ) (rs : List ℕ) → is_plain_call kind ≡ true → is_static_call kind ≡ false → Contains (may_find p class kind k) g → In g (may_find p class kind k)
+      → is_static y.method.flags ≡ is_static_call kind
       → (asks (r0, if is_constructor_name k.name then Constructed k.class else Fits k.class) && list_all asks (passed k.signature.parameters rs)) ≡ true → (i r : ℕ) → slice_get (r0 ∷ rs) i ≡ Some r
       → suits (kind_at (argument_kinds p y.class y.method) i) true (x r) ≡ true
   plain kind r0 rs plainly e there j same al i r get =
@@ -166,7 +158,8 @@ module _ (p : NamedProgram) (regular : IsRegular p) (methods : (c : NamedClass) 
       by true d f = any_receiver r0 (constructed_any p c s.registers x h k.class (kind_at s.registers r0) (x r0) f (h r0))
       by false d f = receiver kind e there r0 d (fits_null p c s.registers x h k.class r0 (call_reference p regular above class kind k g plainly j) f)
 
-  pub call_suits : (kind : InvokeKind) (args : List ℕ) → is_allowed p c m s (form.Invoke kind k args) ≡ true → is_wrong p c m s (form.Invoke kind k args) ≡ false → Contains (may_find p class kind k) g → (i r : ℕ) → slice_get args i ≡ Some r
+  pub call_suits : (kind : InvokeKind) (args : List ℕ) → is_allowed p c m s (form.Invoke kind k args) ≡ true → is_wrong p c m s (form.Invoke kind k args) ≡ false
+      → Contains (may_find p class kind k) g → (i r : ℕ) → slice_get args i ≡ Some r
       → suits (kind_at (argument_kinds p y.class y.method) i) true (x r) ≡ true
   call_suits kind args al wrong there i r get = by kind args al right_method right_super there (stands (may_find p class kind k) g there) get
     where
@@ -176,7 +169,8 @@ module _ (p : NamedProgram) (regular : IsRegular p) (methods : (c : NamedClass) 
       right_super : wrong_super p c kind k ≡ false
       right_super = or_false_right (wrong_method p kind k) (wrong_super p c kind k) (or_false_left (wrong_method p kind k || wrong_super p c kind k) (not (nat_eq (length args) (passed_words kind k))) wrong)
 
-      by : (kind : InvokeKind) (args : List ℕ) → is_allowed p c m s (form.Invoke kind k args) ≡ true → wrong_method p kind k ≡ false → wrong_super p c kind k ≡ false → Contains (may_find p class kind k) g → In g (may_find p class kind k)
+      by : (kind : InvokeKind) (args : List ℕ) → is_allowed p c m s (form.Invoke kind k args) ≡ true → wrong_method p kind k ≡ false → wrong_super p c kind k ≡ false
+          → Contains (may_find p class kind k) g → In g (may_find p class kind k)
           → slice_get args i ≡ Some r → suits (kind_at (argument_kinds p y.class y.method) i) true (x r) ≡ true
       by call.Static args al u v there j get =
           subst (λ (w : Bool). suits (kind_at (elim w as (λ w. List Kind) [ true ↦ parameter_kinds p y.method.signature.parameters | false ↦ receiver_kind y.class y.method ∷ parameter_kinds p y.method.signature.parameters ]) i) true (x r) ≡ true)

@@ -173,7 +173,8 @@ initialiser_named p v i e = by (class_named p v) e
     one t true h = ap (λ (k : MethodKey). k.name) (sym (some_same (initialiser_key t) i h))
     one t false h = none_some i h
 
-    in_class : (c : NamedClass) (x : Option NamedMethod) → elim x as (λ x. Option MethodKey) [ Some m ↦ elim (is_initialiser m) as (λ b. Option MethodKey) [ true ↦ Some (initialiser_key c.name) | false ↦ None ] | None ↦ None ] ≡ Some i
+    in_class : (c : NamedClass) (x : Option NamedMethod)
+        → elim x as (λ x. Option MethodKey) [ Some m ↦ elim (is_initialiser m) as (λ b. Option MethodKey) [ true ↦ Some (initialiser_key c.name) | false ↦ None ] | None ↦ None ] ≡ Some i
         → i.name ≡ initialiser_name
     in_class c None h = none_some i h
     in_class c (Some m) h = one c.name (is_initialiser m) h
@@ -222,7 +223,8 @@ module _ (p : NamedProgram) (regular : IsRegular p) (entered : (k : MethodKey) (
       low Low e = refl
       low k e = clash false e refl
 
-  arrives : (k : MethodKey) (q : ℕ) (b : NamedBody) → bodies_of p k ≡ Some b → (a : ℕ → Flat) (l : Kinds) → state_at (tables k) q ≡ Some l → ((i : ℕ) → suits (kind_at l.registers i) false (a i) ≡ true)
+  arrives : (k : MethodKey) (q : ℕ) (b : NamedBody) → bodies_of p k ≡ Some b → (a : ℕ → Flat) (l : Kinds) → state_at (tables k) q ≡ Some l
+      → ((i : ℕ) → suits (kind_at l.registers i) false (a i) ≡ true)
       → name.Arrives flat a (c.registers k q) → name.Arrives flat a (r.registers k q)
   arrives k q b e a l i h g = subst (name.Arrives flat a) (sym (there_is k q b e)) (by (c.registers k q) refl g)
     where
@@ -230,7 +232,8 @@ module _ (p : NamedProgram) (regular : IsRegular p) (entered : (k : MethodKey) (
       by None j g = absurd g
       by (Some d) j g = subst (name.Arrives flat a) (sym (stood_on (tables k) q d (record { kinds = l; state = i; suit = λ s. below_suits (kind_at l.registers s) (a s) (d s) (h s) (g s) }))) g
 
-  goes : (k : MethodKey) (n q : ℕ) (at : Here r k n) → Contains (name.nexts flat at.form n at.registers) q → name.Arrives flat (name.after flat p r k.class (name.form_before at.body n) at.form at.registers) (r.registers k q)
+  goes : (k : MethodKey) (n q : ℕ) (at : Here r k n) → Contains (name.nexts flat at.form n at.registers) q
+      → name.Arrives flat (name.after flat p r k.class (name.form_before at.body n) at.form at.registers) (r.registers k q)
   goes k n q at h =
       let z = body_of_key p k at.body at.has_body in
       let t = typings.typed k at.body z in
@@ -281,7 +284,8 @@ module _ (p : NamedProgram) (regular : IsRegular p) (entered : (k : MethodKey) (
               let low = begin.arguments 0 (entered k b y held) in
               ap a (omega arith) ∙ any_below (a (b.registers - b.ins + 0)) (subst (λ (v : Flat). FlatBelow v (a (b.registers - b.ins + 0))) (made b y m) low)
 
-          by_state : (o : Option Kinds) → state_at (tables k) 0 ≡ o → state_below p (Some (begun p (body_of_key p k b i).class (body_of_key p k b i).method b)) (state_at (tables k) 0) ≡ true → name.IsEntered flat r k
+          by_state : (o : Option Kinds) → state_at (tables k) 0 ≡ o
+              → state_below p (Some (begun p (body_of_key p k b i).class (body_of_key p k b i).method b)) (state_at (tables k) 0) ≡ true → name.IsEntered flat r k
           by_state None u w = absurd (true≢false (sym (sym (ap (state_below p (Some (begun p (body_of_key p k b i).class (body_of_key p k b i).method b))) u) ∙ w)))
           by_state (Some l) u w =
               let y = body_of_key p k b i in
@@ -324,11 +328,13 @@ module _ (p : NamedProgram) (regular : IsRegular p) (entered : (k : MethodKey) (
       u : Stands (tables k) n at.registers
       u = (stood k n at.body at.registers at.has_body at.reached).stood
 
-      allowed : (f : Form) → at.form ≡ f → is_allowed p (body_of_key p k at.body at.has_body).class (body_of_key p k at.body at.has_body).method (stood k n at.body at.registers at.has_body at.reached).stood.kinds f ≡ true
+      allowed : (f : Form) → at.form ≡ f
+          → is_allowed p (body_of_key p k at.body at.has_body).class (body_of_key p k at.body at.has_body).method (stood k n at.body at.registers at.has_body at.reached).stood.kinds f ≡ true
       allowed f e = let y = body_of_key p k at.body at.has_body in let v = (stood k n at.body at.registers at.has_body at.reached).stood in
           subst (λ f. is_allowed p y.class y.method v.kinds f ≡ true) e (allowed_at p y.class y.method at.body (tables k) (typings.typed k at.body y) n at.form v.kinds at.has_form v.state)
 
-      right : (f : Form) → at.form ≡ f → is_wrong p (body_of_key p k at.body at.has_body).class (body_of_key p k at.body at.has_body).method (stood k n at.body at.registers at.has_body at.reached).stood.kinds f ≡ false
+      right : (f : Form) → at.form ≡ f
+          → is_wrong p (body_of_key p k at.body at.has_body).class (body_of_key p k at.body at.has_body).method (stood k n at.body at.registers at.has_body at.reached).stood.kinds f ≡ false
       right f e = let y = body_of_key p k at.body at.has_body in let v = (stood k n at.body at.registers at.has_body at.reached).stood in
           subst (λ f. is_wrong p y.class y.method v.kinds f ≡ false) e (right_at p y.class y.method at.body (tables k) (typings.typed k at.body y) n at.form v.kinds at.has_form v.state)
 

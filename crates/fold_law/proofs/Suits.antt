@@ -140,7 +140,8 @@ module _ (p : NamedProgram) where
 
 -- ---- registers that are written
 
-set_keeps : (P : ℕ → Kind → Type 0) → ((s : ℕ) → P s Undefined) → (ks : List Kind) (r : ℕ) (k : Kind) → ((s : ℕ) → (s ≡ r → ⊥) → P s (kind_at ks s)) → P r k → (s : ℕ) → P s (kind_at (slice_set ks r k) s)
+set_keeps : (P : ℕ → Kind → Type 0) → ((s : ℕ) → P s Undefined) → (ks : List Kind) (r : ℕ) (k : Kind) → ((s : ℕ) → (s ≡ r → ⊥) → P s (kind_at ks s)) → P r k → (s : ℕ)
+    → P s (kind_at (slice_set ks r k) s)
 set_keeps P u [] r k h q s = u s
 set_keeps P u (x ∷ ks) zero k h q zero = q
 set_keeps P u (x ∷ ks) zero k h q (suc s) = h (suc s) (λ e. omega (arith, e))
@@ -174,7 +175,8 @@ module _ (b : Bool) where
   split_suits : (ks : List Kind) (x : ℕ → Flat) (r : ℕ) → All ks x → All (split r ks) x
   split_suits ks x r h = cleared_suits (cleared (r + 1) High ks) x (r - 1) Low (cleared_suits ks x (r + 1) High h)
 
-  one_suits : (ks : List Kind) (x y : ℕ → Flat) (r : ℕ) (k : Kind) → kind_eq k Low ≡ false → All ks x → ((s : ℕ) → nat_eq s r ≡ false → y s ≡ x s) → suits k b (y r) ≡ true → All (written_kinds r k ks) y
+  one_suits : (ks : List Kind) (x y : ℕ → Flat) (r : ℕ) (k : Kind) → kind_eq k Low ≡ false → All ks x → ((s : ℕ) → nat_eq s r ≡ false → y s ≡ x s) → suits k b (y r) ≡ true
+      → All (written_kinds r k ks) y
   one_suits ks x y r k narrow h same q = subst (λ (ls : List Kind). All ls y) (sym (narrow_written r k ks narrow))
       (set_keeps (λ s k. suits k b (y s) ≡ true) (λ s. refl) (split r ks) r k (λ s e. subst (λ (v : Flat). suits (kind_at (split r ks) s) b v ≡ true) (sym (same s (other s r e))) (split_suits ks x r h s)) q)
 

@@ -45,7 +45,8 @@ taken_at front (f ∷ fs) (a ∷ t) (suc n) = taken_at (is_some a) fs t n ∙ ap
     front_next (suc n) = refl
 
 -- a state that is there was there, and had a front where a result is taken
-pub was_there : (b : NamedBody) (t : Table) (n : ℕ) (a : Kinds) → state_at (taken_table true b.forms t) n ≡ Some a → (state_at t n ≡ Some a) × (takes_result (form_at b n) ≡ true → has_front true t n ≡ true)
+pub was_there : (b : NamedBody) (t : Table) (n : ℕ) (a : Kinds) → state_at (taken_table true b.forms t) n ≡ Some a
+    → (state_at t n ≡ Some a) × (takes_result (form_at b n) ≡ true → has_front true t n ≡ true)
 was_there b t n a e = by (has_front true t n) (takes_result (form_at b n)) (state_at t n) (sym (taken_at true b.forms t n) ∙ e)
   where
     by : (front takes : Bool) (o : Option Kinds) → ◌≡◌ {A = Option Kinds} (if takes && not front then None else o) (Some a) → (o ≡ Some a) × (takes ≡ true → front ≡ true)
@@ -82,7 +83,8 @@ module _ (q : NamedProgram) (ordered : IsOrdered q) (places : AllTakeInPlace q) 
   same_lowered : (c : NamedClass) (m : NamedMethod) (b : NamedBody) (t : Table) → IsLowered q c m b b t
   same_lowered c m b t = record { forms = λ n f g a i j s h. inl (some_same g f (sym j ∙ i)); long = refl; regions = refl; registers = refl; ins = refl }
 
-  pub taken_typing : (c : NamedClass) (m : NamedMethod) (b : NamedBody) (t : Table) → Contains q.classes c → Contains c.methods m → m.body ≡ Some b → IsTyping q c m b t → IsTyping q c m b (taken_table true b.forms t)
+  pub taken_typing : (c : NamedClass) (m : NamedMethod) (b : NamedBody) (t : Table) → Contains q.classes c → Contains c.methods m → m.body ≡ Some b → IsTyping q c m b t
+      → IsTyping q c m b (taken_table true b.forms t)
   taken_typing c m b t i j has h = lowered_typing q ordered c m b b (places c m b i j has) t h (same_lowered c m b t)
 
   own_typing : (k : MethodKey) (b : NamedBody) (x : BodyOf q k b) → (t : Table) × IsTyping q x.class x.method b t
@@ -100,14 +102,16 @@ module _ (q : NamedProgram) (ordered : IsOrdered q) (places : AllTakeInPlace q) 
   typed_for k None e b x = none_some b (sym e ∙ body_back q k b x)
   typed_for k (Some d) e b x = let y = body_of_key q k d e in let t = own_typing k d y in typing_of q k d b y x (taken_table true d.forms t.0) (taken_for k d y t.0 t.1)
 
-  front_of : (k : MethodKey) (d : NamedBody) (y : BodyOf q k d) (t : Table) → IsTyping q y.class y.method d t → (b : NamedBody) (x : BodyOf q k b) (n : ℕ) (s : Kinds) → takes_result (form_at b n) ≡ true
+  front_of : (k : MethodKey) (d : NamedBody) (y : BodyOf q k d) (t : Table) → IsTyping q y.class y.method d t → (b : NamedBody) (x : BodyOf q k b) (n : ℕ) (s : Kinds)
+      → takes_result (form_at b n) ≡ true
       → state_at (taken_table true d.forms t) n ≡ Some s → IsFronted q k b x n s
   front_of k d y t h b x n s takes e =
       let same : b ≡ d = some_same b d (sym (body_back q k b x) ∙ body_back q k d y) in
       let w = was_there d t n s e in
       record { table = t; typing = typing_of q k d b y x t h; state = w.0; front = w.1 (ap (λ (z : NamedBody). takes_result (form_at z n)) (sym same) ∙ takes) }
 
-  fronted_for : (k : MethodKey) (o : Option NamedBody) (e : bodies_of q k ≡ o) (b : NamedBody) (x : BodyOf q k b) (n : ℕ) (s : Kinds) → takes_result (form_at b n) ≡ true → state_at (table_for k o e) n ≡ Some s → IsFronted q k b x n s
+  fronted_for : (k : MethodKey) (o : Option NamedBody) (e : bodies_of q k ≡ o) (b : NamedBody) (x : BodyOf q k b) (n : ℕ) (s : Kinds) → takes_result (form_at b n) ≡ true
+      → state_at (table_for k o e) n ≡ Some s → IsFronted q k b x n s
   unfolding table_for
   fronted_for k None e b x n s takes h = none_some b (sym e ∙ body_back q k b x)
   fronted_for k (Some d) e b x n s takes h = let y = body_of_key q k d e in let t = own_typing k d y in front_of k d y t.0 t.1 b x n s takes h
@@ -130,7 +134,8 @@ module _ (q : NamedProgram) (ordered : IsOrdered q) (places : AllTakeInPlace q) 
       by k d y true e = let z = moved k e in typing_of q k b d z.0 y kept (taken_for k b z.0 t z.1)
       by k d y false e = typed_for k (bodies_of q k) refl d y
 
-      front : (k : MethodKey) (d : NamedBody) (y : BodyOf q k d) (n : ℕ) (s : Kinds) → takes_result (form_at d n) ≡ true → (v : Bool) → method_eq k key ≡ v → state_at (if v then kept else table_for k (bodies_of q k) refl) n ≡ Some s → IsFronted q k d y n s
+      front : (k : MethodKey) (d : NamedBody) (y : BodyOf q k d) (n : ℕ) (s : Kinds) → takes_result (form_at d n) ≡ true → (v : Bool) → method_eq k key ≡ v
+          → state_at (if v then kept else table_for k (bodies_of q k) refl) n ≡ Some s → IsFronted q k d y n s
       front k d y n s takes true e h = let z = moved k e in front_of k b z.0 t z.1 d y n s takes h
       front k d y n s takes false e h = fronted_for k (bodies_of q k) refl d y n s takes h
 

@@ -9,7 +9,7 @@ use Rattle.pass_defs.specs.Demands.{Demand, Fits, meets, of_type, Pair}
 use Rattle.pass_defs.specs.Registers.{kind_at}
 use Rattle.dalvik_defs.specs.declared.program.NamedClass.{NamedClass}
 use Rattle.pass_defs.specs.Kinds.{Array, Class, fits, fits_array, Fresh, FreshThis, High, is_below, is_initialised, is_number, is_plain, Kind, kind_of, kind_of_reference, Low, Null, Reference, Undefined, Word, Zero}
-use Rattle.facts_kept.proofs.Beneath.{initialised_under, wide_type}
+use Rattle.facts_kept.proofs.Beneath.{initialised_under, reference_only, wide_type}
 use Rattle.fold_law.proofs.Typings.{met, null_fits, suits, word_fits}
 use Rattle.fold_law.proofs.Parts.{Gone, IsPart, Same}
 use Rattle.fold_law.proofs.Suits.{any_suits, null_suits, number_suits}
@@ -94,6 +94,21 @@ met_rises k v w b = by (suits k true v) refl
 -- ---- types
 
 module _ (q : NamedProgram) where
+  -- the kind of a reference type is one of references
+  pub reference_kind : (t : Text) → is_reference t ≡ true → is_initialised (kind_of q t) ≡ true
+  reference_kind t e = by (is_word t) (is_wide t) (is_reference t) (reference_only q t e).0 (reference_only q t e).1 e
+    where
+      reference : (c d : Bool) → is_initialised (if c then Array t else if d then Class t else Reference) ≡ true
+      reference true d = refl
+      reference false true = refl
+      reference false false = refl
+
+      by : (c d e : Bool) → c ≡ false → d ≡ false → e ≡ true → is_initialised (if c then Word else if d then Low else if e then kind_of_reference q t else Undefined) ≡ true
+      by true d e i j k = absurd (true≢false i)
+      by false true e i j k = absurd (true≢false j)
+      by false false true i j k = reference (is_array t) (is_plain q t)
+      by false false false i j k = absurd (true≢false (sym k))
+
   -- what fits a type that isn't wide, and suits its own kind, suits the kind of the type
   pub fits_suits : (k : Kind) (t : Text) (v : Flat) → fits q k t ≡ true → suits k true v ≡ true → suits (kind_of q t) true v ≡ true
   fits_suits k t v f h = by (is_word t) (is_wide t) (is_reference t) refl refl

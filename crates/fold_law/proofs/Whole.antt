@@ -35,7 +35,8 @@ module _ (p : Program) (w : is_well_formed p ≡ true) (k j : ℕ) (c : Class) (
   pub placed : (P : MethodAt → Type 0) → P (record { class = word k; place = word j }) → P (record { class = k; place = j })
   placed P h = subst (λ (i : ℕ). P (record { class = i; place = j })) whole_class (subst (λ (i : ℕ). P (record { class = word k; place = i })) whole_place h)
 
-pub folded_nowhere : (p : Program) (h : Hierarchy) (o : Outside) (t : Facts) (admitted : List Bool) → IsSettled p h o t → NothingLeft p h t admitted → (k j : ℕ) (c : Class) (m : Method) (b : Body) → slice_get p.classes k ≡ Some c
+pub folded_nowhere : (p : Program) (h : Hierarchy) (o : Outside) (t : Facts) (admitted : List Bool) → IsSettled p h o t → NothingLeft p h t admitted
+    → (k j : ℕ) (c : Class) (m : Method) (b : Body) → slice_get p.classes k ≡ Some c
     → slice_get c.methods j ≡ Some m → slice_index_or admitted m.name false ≡ true → m.body ≡ Some b → KindsAgree p h o t (record { class = k; place = j }) m b
     → (n : ℕ) → IsFoldable (named p) (outer_of p o) (method_at p m.name) n → ⊥
 folded_nowhere p h o t admitted settled left k j c m b is_class is_method admits has_body kinds n f =

@@ -1,15 +1,10 @@
 -- Facts that are under a flat table are under one that it is within.
-use Rattle.std.proofs.Common.{◌≡◌, ℕ, ◌<◌, Option, Some, None, refl, sym, subst}
-use Rattle.program_model.specs.Lookups.{method_at}
-use Rattle.program_model.specs.declared.body.Body.{Body}
+use Rattle.std.proofs.Common.{◌≡◌, ℕ, Option, Some, None, refl, sym, subst}
 use Rattle.program_model.specs.declared.pass.Outside.{Outside}
-use Rattle.program_model.specs.declared.program.Field.{Field}
-use Rattle.program_model.specs.declared.program.Method.{Method}
-use Rattle.program_model.specs.declared.program.MethodAt.{MethodAt}
 use Rattle.program_model.specs.declared.program.Program.{Program}
 use Rattle.dom_frame.specs.Registers.{Registers}
 use Rattle.facts.specs.declared.facts.Facts.{Facts}
-use Rattle.closed_facts.specs.Tables.{field_at, parameter_at, registers_at, result_at}
+use Rattle.closed_facts.specs.Tables.{field_at, parameter_at, result_at}
 use Rattle.dalvik_defs.specs.Naming.{named}
 use Rattle.dalvik_defs.specs.Outer.{outer_of}
 use Rattle.dalvik_defs.specs.declared.names.MethodKey.{MethodKey}

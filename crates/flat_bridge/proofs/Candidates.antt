@@ -50,7 +50,7 @@ abbrev pub IsRooted : NamedProgram → Type 0
 IsRooted p = (t : Text) (c : NamedClass) → class_named p t ≡ Some c → is_interface c.flags ≡ true → class_named p c.superclass ≡ None
 
 module _ (p : NamedProgram) (s : Family) (above : KeepsAbove p s) (regular : IsRegular p) where
-  stays : (t u : Text) → class_named p t ≡ None → Path p t u → t ≡ u
+  pub stays : (t u : Text) → class_named p t ≡ None → Path p t u → t ≡ u
   stays t u e (Path.Itself x) = refl
   stays t u e (Path.Through x v w i more) = elim (subst (In v) (own_above_none p s above p x e) i) [ ]
 

@@ -187,16 +187,16 @@ module _ (p : Program) (o : Outside) (asked : IsAsked p o) (s : Family) (closed 
   -- ---- the code of a live method
 
   module _ (at : MethodAt) (m : Method) (e : look.method_at p at ≡ Some m) (live : s.methods (method_at p m.name) ≡ true) (b : Body) (is : m.body ≡ Some b) where
-    k : MethodKey
+    abbrev k : MethodKey
     k = method_at p m.name
 
-    nb : NamedBody
+    abbrev nb : NamedBody
     nb = body_of p b
 
     has : HasBody (named p) s k nb
     has = (live, (owned p asked.sound asked.once at m e).bodies_are ∙ ap (option_map (body_of p)) is)
 
-    owner : Owner p at m
+    abbrev owner : Owner p at m
     owner = owner_of p at m e
 
     form_in : (i : Insn) → In i b.insns → In (form_of p i) nb.forms

@@ -1,14 +1,17 @@
--- A solution by number is a flat bound, but for the entries.
+-- A solution by number is a flat bound.
 use Rattle.program_model.specs.declared.pass.Outside.{Outside}
 use Rattle.program_model.specs.declared.program.Program.{Program}
 use Rattle.dalvik_defs.specs.Naming.{named}
 use Rattle.dalvik_defs.specs.Outer.{outer_of}
 use Rattle.pass_defs.specs.Constants.{Solution, IsSolution}
-use Rattle.flat_bounds.specs.Bounds.{BoundAnswers, BoundCalls, BoundFields}
-use Rattle.flat_bridge.specs.Numbered.{numbered, IsAsked}
+use Rattle.flat_bounds.specs.Bounds.{BoundAnswers, BoundCalls, BoundFields, IsFlatBound}
+use Rattle.flat_bridge.specs.Numbered.{numbered, IsAsked, IsGiven}
 use Rattle.flat_bridge.proofs.Answering.{answers_named, answers_others}
 use Rattle.flat_bridge.proofs.Begun.{firsts_under}
 use Rattle.flat_bridge.proofs.Calling.{named_under}
+use Rattle.flat_bridge.proofs.Entries.{entries_under}
+use Rattle.flat_bridge.proofs.Flowing.{flows_under}
+use Rattle.flat_bridge.proofs.Given.{asked_of}
 use Rattle.flat_bridge.proofs.Leaving.{answers_leave}
 use Rattle.flat_bridge.proofs.Linked.{leaves_any, linked_below, linked_under}
 use Rattle.flat_bridge.proofs.Opened.{opened_any}
@@ -33,3 +36,9 @@ module _ (p : Program) (o : Outside) (asked : IsAsked p o) (t : Solution) where
 
     pub fields_under : BoundFields p o (numbered p t)
     fields_under = record { firsts = firsts_under p o asked t closed; opened = opened_any p o asked t closed; puts = puts_under p o asked t closed }
+
+    all_under : IsFlatBound p o (numbered p t)
+    all_under = record { flows = flows_under p o asked t closed; calls = calls_under; answers = answers_under; fields = fields_under; entries = entries_under p o asked t closed }
+
+pub is_bound : (p : Program) (o : Outside) (t : Solution) → IsGiven p o → IsSolution (named p) (outer_of p o) t → IsFlatBound p o (numbered p t)
+is_bound p o t given closed = all_under p o (asked_of p o given) t closed

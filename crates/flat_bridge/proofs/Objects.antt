@@ -53,7 +53,7 @@ use Rattle.name_bridge.proofs.Found.{first_by_number, text_same, virtual_answers
 use Rattle.name_bridge.proofs.Tables.{method_class, method_is, method_name, method_proto, type_once}
 use Rattle.facts_kept.proofs.Defining.{listed_number}
 use Rattle.pass_defs.specs.Calls.{candidates_of, inherits, is_within}
-use Rattle.pass_defs.specs.Live.{answers_to, Family, HasMethods, IsClosedFamily, unconditional}
+use Rattle.pass_defs.specs.Live.{answers_to, Family, HasMethods, IsClosedFamily, KeepsAbove, unconditional}
 use Rattle.removal_law.specs.Reach.{ends, IsRegular}
 use Rattle.removal_law.proofs.Levels.{enough_steps}
 use Rattle.removal_law.proofs.Lists.{In, here, there, all_in, clash, contained, in_map}
@@ -189,7 +189,7 @@ module _ (p : Program) (o : Outside) (asked : IsAsked p o) where
   reaches_is : (m : ℕ) (t : Text) (c : NamedClass) → class_named (named p) t ≡ Some c → reaches_framework (suc m) (named p) t ≡ (touches_framework (named p) c || list_any (reaches_framework m (named p)) (c.superclass ∷ c.interfaces))
   reaches_is m t c e = ap (λ o. elim o as (λ o. Bool) [ Some c ↦ touches_framework (named p) c || list_any (reaches_framework m (named p)) (c.superclass ∷ c.interfaces) | None ↦ false ]) e
 
-  module _ (s : Family) (closed : IsClosedFamily (named p) (outer_of p o) unconditional s) where
+  module _ (s : Family) (above : KeepsAbove (named p) s) where
     -- a type of the framework other than Object that stands above a class
     reaches : (m : ℕ) (t u : Text) (c : NamedClass) → ends (named p) m t ≡ true → class_named (named p) t ≡ Some c → Path (named p) t u → defines (named p) u ≡ false → text_eq u object_type ≡ false
         → reaches_framework m (named p) t ≡ true
@@ -199,7 +199,7 @@ module _ (p : Program) (o : Outside) (asked : IsAsked p o) where
         reaches_is m x c is ∙ by (class_named (named p) v) refl (λ d f. reaches m v w d (all_in (ends (named p) m) (own_above (named p) x) e v i) f more out other)
       where
         up : In v (c.superclass ∷ c.interfaces)
-        up = subst (In v) (own_above_some (named p) s closed.above (named p) x c is) i
+        up = subst (In v) (own_above_some (named p) s above (named p) x c is) i
 
         here_out : v ≡ w → (not (defines (named p) v) && not (text_eq v object_type)) ≡ true
         here_out same = ap (λ t. not (defines (named p) t) && not (text_eq t object_type)) same ∙ both (not (defines (named p) w)) (not (text_eq w object_type)) (ap not out) (ap not other)
@@ -207,7 +207,7 @@ module _ (p : Program) (o : Outside) (asked : IsAsked p o) where
         by : (x : Option NamedClass) → class_named (named p) v ≡ x → ((d : NamedClass) → class_named (named p) v ≡ Some d → reaches_framework m (named p) v ≡ true)
             → (touches_framework (named p) c || list_any (reaches_framework m (named p)) (c.superclass ∷ c.interfaces)) ≡ true
         by None f ih = or_left (touches_framework (named p) c) (list_any (reaches_framework m (named p)) (c.superclass ∷ c.interfaces))
-            (any_here (λ t. not (defines (named p) t) && not (text_eq t object_type)) v (c.superclass ∷ c.interfaces) up (here_out (stays (named p) s closed.above (regular p o asked) v w f more)))
+            (any_here (λ t. not (defines (named p) t) && not (text_eq t object_type)) v (c.superclass ∷ c.interfaces) up (here_out (stays (named p) s above (regular p o asked) v w f more)))
         by (Some d) f ih = or_right (touches_framework (named p) c) (list_any (reaches_framework m (named p)) (c.superclass ∷ c.interfaces)) (any_here (reaches_framework m (named p)) v (c.superclass ∷ c.interfaces) up (ih d f))
 
     -- ---- the number of Object
@@ -292,6 +292,7 @@ module _ (p : Program) (o : Outside) (asked : IsAsked p o) where
             class_by_number p asked.sound kind short ∙ ap (option_and_then (class_at p)) place ∙ ap (option_map (named_class p)) d.is in
             reaches (length (named p).classes) (type_at p kind) (type_at p top) (named_class p d.class) (whole (type_at p kind)) is (climbs_path kind top way) (undefined top low away) (strange low)
 
+  module _ (s : Family) (closed : IsClosedFamily (named p) (outer_of p o) unconditional s) where
     -- ---- calls on objects
 
     module _ (tables : Tables) (are : AreTables p o tables) where
@@ -430,7 +431,7 @@ module _ (p : Program) (o : Outside) (asked : IsAsked p o) where
         where
           by : MayCall p tables.object kind c.name → (is_outward (named p) (type_at p kind) || spelled.is_common (text_at p c.name.name) (signature_at p c.name.proto)) ≡ true
           by (inl w) = or_left (is_outward (named p) (type_at p kind)) (spelled.is_common (text_at p c.name.name) (signature_at p c.name.proto))
-              (may_outward kind c.class w.top c.is_class (inr w.climbs) (subst (λ z. is_outer p z w.top ≡ true) object_is w.outer))
+              (may_outward s closed.above kind c.class w.top c.is_class (inr w.climbs) (subst (λ z. is_outer p z w.top ≡ true) object_is w.outer))
           by (inr h) = or_right (is_outward (named p) (type_at p kind)) (spelled.is_common (text_at p c.name.name) (signature_at p c.name.proto)) (common_test p c.name.name c.name.proto ∙ h)
 
       -- what it calls by a method of a class above it, where a type of the framework stands above it
@@ -438,7 +439,7 @@ module _ (p : Program) (o : Outside) (asked : IsAsked p o) where
           → IsFrom p tables.object kind above → Inherited p tables.shut.items class above y → Stands p o s y
       called_stand kind class top above y made place from outer over i =
           let w = i.from.by in
-          let outward = may_outward kind class top place (number_from kind top from) (subst (λ z. is_outer p z top ≡ true) object_is outer) in
+          let outward = may_outward s closed.above kind class top place (number_from kind top from) (subst (λ z. is_outer p z top ≡ true) object_is outer) in
           inherited_stand i.from.method.name kind class w.name w.is_name place made
           (or_left (is_outward (named p) (type_at p kind)) (spelled.is_common (text_at p w.name.name) (signature_at p w.name.proto)) outward) above i.above i.defined i.place i.is_class (number_from kind above over)
           y (stands (open_facts p tables.shut.items (inherited p class i.above w.name.name w.name.proto)) y w.is)

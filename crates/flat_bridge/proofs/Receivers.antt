@@ -51,7 +51,7 @@ module _ (p : Program) (o : Outside) (asked : IsAsked p o) where
   pub regular : IsRegular (named p)
   regular = regular_program p asked.formed asked.once asked.grounded
 
-  keeps : KeepsAbove (named p) everything
+  pub keeps : KeepsAbove (named p) everything
   keeps = record { above = λ t c is live u i d. refl; initialisers = λ t k live e. refl; defaults = λ t c m new is live flag starts i h. refl }
 
   -- ---- a climb by number is a walk by name

@@ -1,14 +1,20 @@
 -- A constants solution of a program, by number: what it says of the name of each number.
-use Rattle.std.specs.Prelude.{◌≡◌, ℕ, true, false, [], Some, None, slice_get}
+use Rattle.std.specs.Prelude.{◌≡◌, ℕ, true, false, List, [], Some, None, slice_get}
 use Rattle.insn_set.specs.declared.form.Insn.{Insn}
+use Rattle.insn_set.specs.declared.form.Insn.TheVariants as insn
+use Rattle.insn_set.specs.declared.ops.InvokeKind.TheVariants as call
 use Rattle.program_model.specs.declared.body.Body.{Body}
 use Rattle.program_model.specs.declared.pass.Outside.{Outside}
 use Rattle.program_model.specs.declared.program.Method.{Method}
 use Rattle.program_model.specs.declared.program.MethodAt.{MethodAt}
 use Rattle.program_model.specs.declared.program.Program.{Program}
 use Rattle.program_model.specs.Lookups as look
+use Rattle.program_model.specs.MemberRules.{is_static}
 use Rattle.program_model.specs.ProgramRules.{is_well_formed}
 use Rattle.class_defs.specs.ClassGraph.{IsAncestor, IsTwice}
+use Rattle.class_defs.specs.Finding.{finds_static, is_037}
+use Rattle.class_defs.specs.Members.{is_interface}
+use Rattle.class_defs.specs.Places.{super_place}
 use Rattle.class_defs.proofs.WellFormed.{Sound}
 use Rattle.dalvik_defs.specs.Face.{place_of}
 use Rattle.dalvik_defs.specs.Fields.{first_of}
@@ -21,6 +27,8 @@ use Rattle.dalvik_defs.specs.declared.program.NamedField.{NamedField}
 use Rattle.pass_defs.specs.Analysis.{IsRanged}
 use Rattle.pass_defs.specs.Facts.{call_result}
 use Rattle.pass_defs.specs.Constants.{flat, Solution}
+use Rattle.premises.specs.Numbers.{AllHaveWords}
+use Rattle.premises.specs.Plain.{ListsPlainly}
 use Rattle.flat_bounds.specs.Bounds.{FlatTable}
 use Rattle.flat_law.proofs.Steps.{HasSmall}
 
@@ -41,7 +49,35 @@ numbered p t = record {
 abbrev pub AreSmall : Program → Type 0
 AreSmall p = (at : MethodAt) (m : Method) (body : Body) (n : ℕ) (i : Insn) → look.method_at p at ≡ Some m → m.body ≡ Some body → slice_get body.insns n ≡ Some i → HasSmall i
 
--- what is asked of a program and of what its outside keeps
+-- where an instruction calls a static method, it finds one
+abbrev pub CallsStatic : Program → Insn → Type 0
+CallsStatic p i = (method : ℕ) (args : List ℕ) (at : MethodAt) (m : Method) → i ≡ insn.Invoke call.Static method args → finds_static p method ≡ Some at → look.method_at p at ≡ Some m
+    → is_static m.flags ≡ true
+
+-- so it is in all code of a program
+abbrev pub CallAllStatic : Program → Type 0
+CallAllStatic p = (at : MethodAt) (m : Method) (body : Body) (n : ℕ) (i : Insn) → look.method_at p at ≡ Some m → m.body ≡ Some body → slice_get body.insns n ≡ Some i → CallsStatic p i
+
+-- in version 037 the superclass of an interface is no class of the program
+abbrev pub AreRooted : Program → Type 0
+AreRooted p = is_037 p.version ≡ true → (c u : ℕ) → is_interface (slice_get p.classes c) ≡ true → super_place p c ≡ Some u → ⊥
+
+-- What is asked of a program and of what its outside keeps: the program is well-formed, no class of it is there twice or above itself,
+-- its numbers have their bits, lists of interfaces name interfaces alone, interfaces stand on no class, static calls find static
+-- methods, and nothing is kept under a condition.
+pub record IsGiven (p : Program) (o : Outside) : Type 0 where
+  pub formed : is_well_formed p ≡ true
+  pub once : (class : ℕ) → IsTwice p class → ⊥
+  pub grounded : (class : ℕ) → IsAncestor p class class → ⊥
+  pub words : AllHaveWords p
+  pub plain : ListsPlainly p
+  pub rooted : AreRooted p
+  pub statics : CallAllStatic p
+  pub no_classes : o.classes_if ≡ []
+  pub no_methods : o.methods_if ≡ []
+  pub no_fields : o.fields_if ≡ []
+
+-- the same with what follows from it
 pub record IsAsked (p : Program) (o : Outside) : Type 0 where
   pub formed : is_well_formed p ≡ true
   pub sound : Sound p
@@ -51,6 +87,9 @@ pub record IsAsked (p : Program) (o : Outside) : Type 0 where
   pub small : AreSmall p
   -- a word that a field begins with has 32 bits
   pub firsts : (k : FieldKey) (d : NamedField) → defined_field (named p) k ≡ Some d → IsRanged (first_of k (place_of k.class d))
+  pub plain : ListsPlainly p
+  pub rooted : AreRooted p
+  pub statics : CallAllStatic p
   pub no_classes : o.classes_if ≡ []
   pub no_methods : o.methods_if ≡ []
   pub no_fields : o.fields_if ≡ []

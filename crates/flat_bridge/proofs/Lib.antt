@@ -26,3 +26,4 @@ pub mod Living
 pub mod EnteredFor
 pub mod Entries
 pub mod Given
+pub mod Statics

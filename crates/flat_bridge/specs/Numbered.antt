@@ -20,13 +20,15 @@ use Rattle.dalvik_defs.specs.Face.{place_of}
 use Rattle.dalvik_defs.specs.Fields.{first_of}
 use Rattle.dalvik_defs.specs.Find.{defined_field}
 use Rattle.dalvik_defs.specs.Names.{Text, object_type}
-use Rattle.dalvik_defs.specs.Naming.{field_at, form_of, method_at, named, type_at}
+use Rattle.dalvik_defs.specs.Naming.{body_of, field_at, form_of, method_at, named, type_at}
 use Rattle.dalvik_defs.specs.Under.{defines}
 use Rattle.dalvik_defs.specs.declared.names.FieldKey.{FieldKey}
 use Rattle.dalvik_defs.specs.declared.program.NamedField.{NamedField}
 use Rattle.pass_defs.specs.Analysis.{IsRanged}
 use Rattle.pass_defs.specs.Facts.{call_result}
 use Rattle.pass_defs.specs.Constants.{flat, Solution}
+use Rattle.pass_defs.specs.Typed.{IsTyped}
+use Rattle.pass_defs.specs.Walks.{IsReached}
 use Rattle.premises.specs.Numbers.{AllHaveWords}
 use Rattle.premises.specs.Plain.{ListsPlainly}
 use Rattle.flat_bounds.specs.Bounds.{FlatTable}
@@ -58,21 +60,27 @@ CallsStatic p i = (method : ℕ) (args : List ℕ) (at : MethodAt) (m : Method) 
 abbrev pub CallAllStatic : Program → Type 0
 CallAllStatic p = (at : MethodAt) (m : Method) (body : Body) (n : ℕ) (i : Insn) → look.method_at p at ≡ Some m → m.body ≡ Some body → slice_get body.insns n ≡ Some i → CallsStatic p i
 
+-- so it is in all code of it to which no walk comes
+abbrev pub OthersCallStatic : Program → Type 0
+OthersCallStatic p = (at : MethodAt) (m : Method) (body : Body) (n : ℕ) (i : Insn) → look.method_at p at ≡ Some m → m.body ≡ Some body → slice_get body.insns n ≡ Some i
+    → (IsReached (body_of p body) n → ⊥) → CallsStatic p i
+
 -- in version 037 the superclass of an interface is no class of the program
 abbrev pub AreRooted : Program → Type 0
 AreRooted p = is_037 p.version ≡ true → (c u : ℕ) → is_interface (slice_get p.classes c) ≡ true → super_place p c ≡ Some u → ⊥
 
--- What is asked of a program and of what its outside keeps: the program is well-formed, no class of it is there twice or above itself,
--- its numbers have their bits, lists of interfaces name interfaces alone, interfaces stand on no class, static calls find static
--- methods, and nothing is kept under a condition.
+-- What is asked of a program and of what its outside keeps: the program is well-formed and typed, no class of it is there twice or above
+-- itself, its numbers have their bits, lists of interfaces name interfaces alone, interfaces stand on no class, static calls to which no
+-- walk comes find static methods, as the typing says of the others, and nothing is kept under a condition.
 pub record IsGiven (p : Program) (o : Outside) : Type 0 where
   pub formed : is_well_formed p ≡ true
+  pub typed : IsTyped (named p)
   pub once : (class : ℕ) → IsTwice p class → ⊥
   pub grounded : (class : ℕ) → IsAncestor p class class → ⊥
   pub words : AllHaveWords p
   pub plain : ListsPlainly p
   pub rooted : AreRooted p
-  pub statics : CallAllStatic p
+  pub statics : OthersCallStatic p
   pub no_classes : o.classes_if ≡ []
   pub no_methods : o.methods_if ≡ []
   pub no_fields : o.fields_if ≡ []

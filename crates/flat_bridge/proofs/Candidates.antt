@@ -1,6 +1,6 @@
 -- Where lists of interfaces name interfaces alone and interfaces have no superclass of the program, a virtual method of a class or an
 -- interface above an object's class is one that the object answers to, if no class along its superclasses has one of the name.
-use Rattle.std.proofs.Common.{◌≡◌, ℕ, zero, suc, Bool, true, false, List, [], ◌∷◌, ◌++◌, length, Option, Some, None, refl, sym, ap, ◌∙◌, subst}
+use Rattle.std.proofs.Common.{◌≡◌, ℕ, zero, suc, true, false, List, [], ◌∷◌, ◌++◌, length, Option, Some, None, refl, sym, ap, ◌∙◌, subst}
 use Rattle.std.specs.Prelude.{◌&&◌, not, flat_map}
 use Rattle.std.specs.Option.{option_or}
 use Rattle.lemmas.proofs.Options.{none_some, some_same}
@@ -8,7 +8,6 @@ use Rattle.dalvik_defs.specs.Flags.{is_interface}
 use Rattle.dalvik_defs.specs.Names.{Text, is_common}
 use Rattle.dalvik_defs.specs.Under.{class_named, defines, own_above}
 use Rattle.dalvik_defs.specs.Find.{Found, candidates, candidates_from, chain_from, chain_of, first_method, interface_named, is_037, is_virtual_method, method_in, own_candidate, passing, without_repeats}
-use Rattle.dalvik_defs.specs.declared.names.MethodKey.{MethodKey}
 use Rattle.dalvik_defs.specs.declared.names.Signature.{Signature}
 use Rattle.dalvik_defs.specs.declared.program.NamedClass.{NamedClass}
 use Rattle.dalvik_defs.specs.declared.program.NamedProgram.{NamedProgram}

@@ -1,5 +1,5 @@
 -- What the code of a live method names and calls by number is live by names.
-use Rattle.std.proofs.Common.{◌≡◌, ℕ, zero, suc, ◌<◌, inl, inr, Bool, true, false, nat_eq, List, [], ◌∷◌, ◌++◌, length, map, Option, Some, None, refl, sym, ap, ◌∙◌, subst, lt-ltb}
+use Rattle.std.proofs.Common.{◌≡◌, ℕ, zero, suc, ◌<◌, inl, inr, Bool, true, false, nat_eq, List, [], ◌∷◌, length, map, Option, Some, None, refl, sym, ap, ◌∙◌, subst, lt-ltb}
 use Rattle.std.specs.Prelude.{◌&&◌, cond, flat_map, is_some, slice_get, option_and_then, Contains, Decides}
 use Rattle.std.specs.List.{list_all, list_any}
 use Rattle.std.specs.Option.{option_map}
@@ -25,12 +25,10 @@ use Rattle.class_defs.specs.ClassGraph.{IsTwice}
 use Rattle.class_defs.specs.Finding.{candidates, finds_above, finds_from, finds_static, finds_super_037, finds_super_of, is_037, lists_interface, one_or_none, reaches, search_of}
 use Rattle.class_defs.specs.Finding as look_up
 use Rattle.class_defs.specs.Members.{is_interface}
-use Rattle.class_defs.specs.Places.{above_places, interface_places, listed, placed, places_of, super_place, walks}
+use Rattle.class_defs.specs.Places.{above_places, listed, placed, places_of, super_place, walks}
 use Rattle.class_defs.proofs.Positions.{both, number_of}
 use Rattle.class_defs.proofs.WellFormed.{and_left, and_right, class_parts, Sound}
 use Rattle.call_graph.specs.Above.{above_kinds, above_of, Climbs}
-use Rattle.call_graph.specs.Bases.{bases_of}
-use Rattle.call_graph.specs.Follows as follow
 use Rattle.call_graph.specs.Follows.{call_facts, can_be_made, class_of, found_facts, made_facts, made_of}
 use Rattle.call_graph.specs.Names.{body_names, handler_names, insn_names, region_names}
 use Rattle.call_graph.specs.Objects.{all_found}
@@ -44,7 +42,6 @@ use Rattle.dalvik_defs.specs.Find.{Found, interface_named}
 use Rattle.dalvik_defs.specs.Names.{Text}
 use Rattle.dalvik_defs.specs.Naming.{body_of, field_at, form_of, handler_of, method_at, named, region_of, signature_at, text_at, type_at}
 use Rattle.dalvik_defs.specs.Outer.{outer_of}
-use Rattle.dalvik_defs.specs.declared.forms.Form.{Form}
 use Rattle.dalvik_defs.specs.declared.forms.Form.TheVariants as form
 use Rattle.dalvik_defs.specs.declared.names.FieldKey.{FieldKey}
 use Rattle.dalvik_defs.specs.declared.names.MethodKey.{MethodKey}
@@ -59,7 +56,7 @@ use Rattle.facts_kept.proofs.Fits.{Owner, owner_of}
 use Rattle.facts_kept.proofs.Places.{own_key}
 use Rattle.pass_defs.specs.Calls.{found_by, may_find, super_candidates}
 use Rattle.pass_defs.specs.Live.{Family, HasBody, IsClosedFamily, is_concrete, unconditional}
-use Rattle.pass_defs.specs.Mentions.{a_field, a_method, a_type, fields_in, fields_in_body, types_in, types_in_body, types_of_field}
+use Rattle.pass_defs.specs.Mentions.{a_field, a_type, fields_in, fields_in_body, types_in, types_in_body, types_of_field}
 use Rattle.removal_law.specs.Reach.{OkType}
 use Rattle.removal_law.proofs.Finds.{in_flat, out_of_flat}
 use Rattle.removal_law.proofs.Lists.{In, here, there, clash, contained, in_back, in_either, in_front, in_map}
@@ -69,7 +66,7 @@ use Rattle.reach_bridge.proofs.Mentioned.{mention_of, nothing_in, only}
 use Rattle.reach_bridge.proofs.Numbers.{call_short}
 use Rattle.flat_bridge.specs.Numbered.{IsAsked}
 use Rattle.flat_bridge.proofs.Calling.{found_first, searched}
-use Rattle.flat_bridge.proofs.Forcing.{AllStand, Extra, FieldOk, found_stand, IsCalled, MethodOk, Says, Stands, stand_flat, stand_if, stand_none, stand_one, stand_same}
+use Rattle.flat_bridge.proofs.Forcing.{AllStand, Extra, FieldOk, found_stand, IsCalled, MethodOk, Says, stand_flat, stand_if, stand_none, stand_one}
 use Rattle.flat_bridge.proofs.Opening.{concrete_named}
 use Rattle.flat_bridge.proofs.Standing.{owned}
 use Rattle.flat_bridge.proofs.Ways.{interface_is}

@@ -1,5 +1,5 @@
 -- What an object of a made class finds by number for a kept virtual method of a class above it the framework may enter by names.
-use Rattle.std.proofs.Common.{◌≡◌, ℕ, ◌<◌, Bool, true, false, List, [], ◌∷◌, length, map, Option, Some, None, refl, sym, ap, ◌∙◌, subst}
+use Rattle.std.proofs.Common.{◌≡◌, ℕ, Bool, true, false, List, [], ◌∷◌, Option, Some, None, sym, ap, ◌∙◌, subst}
 use Rattle.std.specs.Prelude.{◌&&◌, ◌||◌, not, flat_map}
 use Rattle.std.specs.List.{list_any}
 use Rattle.lemmas.proofs.Bools.{or_left, or_right}
@@ -13,14 +13,13 @@ use Rattle.call_graph.specs.Bases.{object_number}
 use Rattle.call_graph.specs.declared.live_set.LiveSet.{LiveSet}
 use Rattle.call_targets.specs.Targeted as targeted
 use Rattle.dalvik_defs.specs.Find as find
-use Rattle.dalvik_defs.specs.Find.{Finds, finds_among, first_method, Found, found_in, is_virtual_method, method_in, Search}
+use Rattle.dalvik_defs.specs.Find.{Finds, finds_among, Found, found_in, is_virtual_method, method_in, Search}
 use Rattle.dalvik_defs.specs.Flags as flags
 use Rattle.dalvik_defs.specs.Names.{method_eq, Text}
 use Rattle.dalvik_defs.specs.Naming.{method_at, named, named_class, named_method, type_at}
 use Rattle.dalvik_defs.specs.Outer.{outer_of}
 use Rattle.dalvik_defs.specs.Under.{is_own_under}
 use Rattle.dalvik_defs.specs.declared.names.MethodKey.{MethodKey}
-use Rattle.dalvik_defs.specs.declared.program.NamedClass.{NamedClass}
 use Rattle.dalvik_defs.specs.declared.program.NamedMethod.{NamedMethod}
 use Rattle.dalvik_defs.specs.declared.program.NamedProgram.{NamedProgram}
 use Rattle.name_bridge.specs.Named as names

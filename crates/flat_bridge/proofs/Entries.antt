@@ -1,13 +1,11 @@
 -- A solution by number bounds the entries: what the framework enters, and the initialisers of what is made, entered and needed.
-use Rattle.std.proofs.Common.{◌≡◌, ℕ, ◌⊎◌, inl, inr, true, None}
+use Rattle.std.proofs.Common.{◌≡◌, ℕ, ◌⊎◌, inl, inr, true}
 use Rattle.std.specs.Prelude.{◌||◌, Contains}
 use Rattle.lemmas.proofs.Bools.{or_left}
-use Rattle.program_model.specs.Lookups.{class_place}
 use Rattle.program_model.specs.declared.pass.Outside.{Outside}
 use Rattle.program_model.specs.declared.program.MethodAt.{MethodAt}
 use Rattle.program_model.specs.declared.program.Program.{Program}
 use Rattle.class_defs.specs.Members as member
-use Rattle.call_graph.specs.Bases.{object_number}
 use Rattle.call_graph.specs.Least.{IsLeastSet}
 use Rattle.call_graph.specs.declared.live_set.LiveSet.{LiveSet}
 use Rattle.call_targets.specs.Targeted as targeted
@@ -21,7 +19,7 @@ use Rattle.pass_defs.specs.Constants.{IsSolution, Solution}
 use Rattle.pass_defs.specs.Flat.{Any}
 use Rattle.pass_defs.specs.Live.{everything}
 use Rattle.flat_bounds.specs.Bounds.{BoundEntries, FlatAt, IsReached, IsReadied}
-use Rattle.flat_bridge.specs.Numbered.{IsAsked, numbered}
+use Rattle.flat_bridge.specs.Numbered.{CallsStatic, IsAsked, numbered}
 use Rattle.flat_bridge.proofs.Entered.{kept_opens}
 use Rattle.flat_bridge.proofs.EnteredBack.{back_opens, may_common}
 use Rattle.flat_bridge.proofs.EnteredFor.{for_opens}
@@ -31,7 +29,8 @@ use Rattle.flat_bridge.proofs.Opening.{begun_under, static_opens}
 use Rattle.flat_bridge.proofs.Receivers.{keeps}
 use Rattle.flat_bridge.proofs.StartingNeeds.{needed_under}
 
-module _ (p : Program) (o : Outside) (asked : IsAsked p o) (t : Solution) (closed : IsSolution (named p) (outer_of p o) t) where
+module _ (p : Program) (o : Outside) (asked : IsAsked p o) (t : Solution) (closed : IsSolution (named p) (outer_of p o) t)
+    (statics : (at : MethodAt) (n : ℕ) (spot : FlatAt p (numbered p t) at n) → CallsStatic p spot.insn) where
   abbrev Opens : ℕ → Type 0
   Opens m = ((word : ℕ) → (numbered p t).parameters m word ≡ Any) × IsReached (numbered p t) m
 
@@ -50,7 +49,7 @@ module _ (p : Program) (o : Outside) (asked : IsAsked p o) (t : Solution) (close
   opens live least m (inr (inr (inr e))) = back_opens p o asked live (object_nowhere p o asked) m e (made_by p o asked live least e.kind e.stands.made.made) (back_may live m e) t closed
 
   needed : (at : MethodAt) (n c : ℕ) (spot : FlatAt p (numbered p t) at n) → Contains (needs p spot.insn) c → IsReadied p (numbered p t) c
-  needed at n c spot has = needed_under p o asked t closed at n c spot (asked.statics at spot.method spot.body n spot.insn spot.has_method spot.has_body spot.has_insn) has
+  needed at n c spot has = needed_under p o asked t closed at n c spot (statics at n spot) has
 
   pub entries_under : BoundEntries p o (numbered p t)
   entries_under = record { opens = opens; begun = begun_under p o asked t closed; needed = needed }

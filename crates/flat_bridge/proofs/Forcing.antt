@@ -5,7 +5,6 @@ use Rattle.std.specs.Prelude.{cond, flat_map, slice_get, option_and_then, Contai
 use Rattle.std.specs.Option.{option_map}
 use Rattle.std.proofs.lemmas.Option.{slice_get-map}
 use Rattle.lemmas.proofs.Lists.{got_short}
-use Rattle.lemmas.proofs.Options.{none_some}
 use Rattle.insn_set.specs.declared.ops.InvokeKind.{InvokeKind}
 use Rattle.program_model.specs.Lookups as look
 use Rattle.program_model.specs.Lookups.{class_place}
@@ -22,7 +21,7 @@ use Rattle.program_model.specs.declared.program.Program.{Program}
 use Rattle.class_defs.specs.Finding.{by_entry, field_by, first_among, resolution_of, resolves_field, resolves_method}
 use Rattle.class_defs.specs.Members.{own_method}
 use Rattle.class_defs.proofs.Positions.{number_test}
-use Rattle.class_defs.proofs.WellFormed.{class_parts, Sound}
+use Rattle.class_defs.proofs.WellFormed.{class_parts}
 use Rattle.call_graph.specs.Bases.{base_of_text, bases_of, last_named, or_none, same_text, without_brackets}
 use Rattle.call_graph.specs.Follows as follow
 use Rattle.call_graph.specs.Follows.{base_facts, call_facts, field_fact, field_types, field_types_of, found_facts, kind_facts, made_facts, method_fact, method_facts, method_types, method_types_of, named_facts, proto_facts, proto_of, resolved_field}
@@ -50,7 +49,7 @@ use Rattle.name_bridge.proofs.Found.{text_same, type_same}
 use Rattle.name_bridge.proofs.Resolved.{resolves_by_number}
 use Rattle.name_bridge.proofs.Tables.{field_is}
 use Rattle.pass_defs.specs.Live.{Family, HasBody, HasMentions, is_bound}
-use Rattle.pass_defs.specs.Mentions.{a_field, a_method, a_type, Mentions, types_of, types_of_field, types_of_method}
+use Rattle.pass_defs.specs.Mentions.{a_method, Mentions, types_of, types_of_field, types_of_method}
 use Rattle.removal_law.specs.Reach.{OkType}
 use Rattle.removal_law.proofs.Finds.{out_of_flat}
 use Rattle.removal_law.proofs.Lists.{In, here, there, contained, in_either, in_map}

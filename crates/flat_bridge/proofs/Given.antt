@@ -11,7 +11,6 @@ use Rattle.facts_kept.proofs.Small.{all_small, small}
 use Rattle.premises.specs.Numbers.{HasWords}
 use Rattle.flat_law.proofs.Steps.{HasSmall}
 use Rattle.flat_bridge.specs.Numbered.{AreSmall, IsAsked, IsGiven}
-use Rattle.flat_bridge.proofs.Statics.{all_static}
 
 -- the numbers of an instruction that have their bits are small
 small_insn : (i : Insn) → HasWords i → HasSmall i
@@ -38,7 +37,6 @@ module _ (p : Program) (o : Outside) (given : IsGiven p o) where
     firsts = firsts_ranged p (sound p given.formed) given.words;
     plain = given.plain;
     rooted = given.rooted;
-    statics = all_static p (sound p given.formed) given.once given.typed given.statics;
     no_classes = given.no_classes;
     no_methods = given.no_methods;
     no_fields = given.no_fields;

@@ -27,3 +27,4 @@ pub mod EnteredFor
 pub mod Entries
 pub mod Given
 pub mod Statics
+pub mod Walked

@@ -1,6 +1,6 @@
 -- All that follows by number from what the outside keeps is live by names, so made classes by number are made by names.
-use Rattle.std.proofs.Common.{◌≡◌, ℕ, ◌<◌, ◌⊎◌, inl, inr, Bool, true, false, nat_eq, List, [], ◌∷◌, ◌++◌, length, map, Option, Some, None, refl, sym, ap, ◌∙◌, subst}
-use Rattle.std.specs.Prelude.{codes, ◌&&◌, ◌||◌, not, cond, flat_map, is_some, slice_get, option_and_then, Contains, Decides}
+use Rattle.std.proofs.Common.{◌≡◌, ℕ, ◌<◌, inl, inr, Bool, true, false, nat_eq, List, [], ◌∷◌, ◌++◌, length, map, Option, Some, None, refl, sym, ap, ◌∙◌, subst}
+use Rattle.std.specs.Prelude.{codes, ◌&&◌, ◌||◌, not, cond, flat_map, is_some, slice_get, option_and_then, Decides}
 use Rattle.std.specs.List.{list_all, list_any}
 use Rattle.lemmas.proofs.Bools.{or_left}
 use Rattle.lemmas.proofs.Lists.{contains_here}
@@ -46,18 +46,14 @@ use Rattle.call_graph.specs.declared.named.Named.TheVariants as item
 use Rattle.call_graph.specs.declared.tables.Tables.{Tables}
 use Rattle.call_targets.specs.Targeted.{is_on}
 use Rattle.closed_facts.specs.Found.{field_in}
-use Rattle.dalvik_defs.specs.Find as find
-use Rattle.dalvik_defs.specs.Find.{defined_field, defined_method, is_virtual_method}
-use Rattle.dalvik_defs.specs.Flags as flags
+use Rattle.dalvik_defs.specs.Find.{defined_field, defined_method}
 use Rattle.dalvik_defs.specs.Initialised as first
 use Rattle.dalvik_defs.specs.Names.{base_of, constructor_name, field_eq, is_class_type, method_eq, Text, text_eq}
-use Rattle.dalvik_defs.specs.Naming.{field_at, mark_of, method_at, named, named_class, named_field, named_method, signature_at, text_at, type_at}
+use Rattle.dalvik_defs.specs.Naming.{field_at, method_at, named, named_class, named_field, named_method, type_at}
 use Rattle.dalvik_defs.specs.Outer.{outer_of}
-use Rattle.dalvik_defs.specs.Silence.{key_in}
 use Rattle.dalvik_defs.specs.Under.{class_named, defines}
 use Rattle.dalvik_defs.specs.declared.names.FieldKey.{FieldKey}
 use Rattle.dalvik_defs.specs.declared.names.MethodKey.{MethodKey}
-use Rattle.dalvik_defs.specs.declared.program.NamedClass.{NamedClass}
 use Rattle.name_bridge.proofs.Above.{defined, own_place}
 use Rattle.name_bridge.proofs.Candidates.{coded_test, version_test}
 use Rattle.name_bridge.proofs.Flags.{interface_flag}
@@ -72,7 +68,7 @@ use Rattle.pass_defs.specs.Live.{Family, is_concrete, is_constructor, IsClosedFa
 use Rattle.pass_defs.specs.Mentions.{in_class, in_field, in_method, types_of, types_of_field, types_of_method}
 use Rattle.removal_law.specs.Reach.{OkType}
 use Rattle.removal_law.proofs.Finds.{out_of_flat}
-use Rattle.removal_law.proofs.Lists.{In, here, there, all_in, clash, contained, in_back, in_either, in_front, in_map}
+use Rattle.removal_law.proofs.Lists.{In, here, there, all_in, contained, in_back, in_either, in_front, in_map}
 use Rattle.removal_law.proofs.Outward.{any_here, no_bracket}
 use Rattle.removal_law.proofs.Trees as tree
 use Rattle.removal_law.proofs.Walks as walk

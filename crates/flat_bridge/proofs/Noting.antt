@@ -22,7 +22,7 @@ use Rattle.dalvik_defs.specs.declared.encoded.NamedNote.{NamedNote, fold-roll-Na
 use Rattle.dalvik_defs.specs.declared.encoded.NamedElement.{NamedElement, fold-NamedElement, fold_out-NamedElement}
 use Rattle.pass_defs.specs.Live.{Family}
 use Rattle.pass_defs.specs.Mentions.{Mentions, none, all_of, a_type, a_field, a_method, value_layer, note_layer, in_value, in_note, in_marks, in_first}
-use Rattle.removal_law.proofs.Lists.{In, here, in_front, in_back, in_either}
+use Rattle.removal_law.proofs.Lists.{In, in_front, in_back, in_either}
 use Rattle.reach_bridge.proofs.Mentioned.{mention_of, nothing_in, only}
 use Rattle.flat_bridge.proofs.Forcing.{Says}
 

@@ -1,6 +1,6 @@
 -- What objects of made classes answer to by number, and what the framework calls back on them, is live by names.
-use Rattle.std.proofs.Common.{◌≡◌, ℕ, zero, suc, ◌<◌, ◌⊎◌, inl, inr, Bool, true, false, true≢false, nat_eq, List, [], ◌∷◌, length, map, Option, Some, None, refl, sym, ap, ◌∙◌, subst, arith}
-use Rattle.std.specs.Prelude.{◌&&◌, ◌||◌, ◌^◌, not, cond, flat_map, is_some, slice_get, slice_index_or, option_and_then, Contains}
+use Rattle.std.proofs.Common.{◌≡◌, ℕ, zero, suc, ◌<◌, inl, inr, Bool, true, false, nat_eq, List, [], ◌∷◌, length, Option, Some, None, refl, sym, ap, ◌∙◌, subst, arith}
+use Rattle.std.specs.Prelude.{◌&&◌, ◌||◌, not, cond, flat_map, is_some, slice_get, slice_index_or, option_and_then, Contains}
 use Rattle.std.specs.List.{list_all, list_any}
 use Rattle.std.specs.Option.{option_map, option_or}
 use Rattle.lemmas.proofs.Bools.{not_true, or_left, or_right, untrue}
@@ -16,7 +16,7 @@ use Rattle.program_model.specs.declared.program.Method.{Method}
 use Rattle.program_model.specs.declared.program.MethodAt.{MethodAt}
 use Rattle.program_model.specs.declared.program.Program.{Program}
 use Rattle.class_defs.specs.ClassGraph.{IsTwice}
-use Rattle.class_defs.specs.Finding.{candidates, finds_virtual, first_among, is_037}
+use Rattle.class_defs.specs.Finding.{candidates, finds_virtual, is_037}
 use Rattle.class_defs.specs.Members as member
 use Rattle.class_defs.specs.Members.{own_virtual}
 use Rattle.class_defs.specs.Places.{chain_of, interface_places, listed, placed, places_of, super_place}
@@ -25,22 +25,21 @@ use Rattle.class_defs.proofs.WellFormed.{and_left, and_right, below, class_parts
 use Rattle.call_graph.specs.Above.{above_kinds, above_of, Climbs, IsFrom, is_outer}
 use Rattle.call_graph.specs.Bases.{object_number, object_text, or_none, same_text}
 use Rattle.call_graph.specs.Follows.{class_of, found_facts}
-use Rattle.call_graph.specs.Least.{Inherited, InheritedBy, InheritedFrom}
+use Rattle.call_graph.specs.Least.{Inherited}
 use Rattle.call_graph.specs.Objects as object
-use Rattle.call_graph.specs.Objects.{answer_facts, answers_by, answers_or, CallsBack, inherited, IsOutward, MayCall, open_facts, open_of}
+use Rattle.call_graph.specs.Objects.{answer_facts, answers_by, answers_or, CallsBack, inherited, MayCall, open_facts, open_of}
 use Rattle.call_graph.specs.Tables.{AreTables}
 use Rattle.call_graph.specs.declared.facts.Fact.{Fact}
 use Rattle.call_graph.specs.declared.facts.Fact.TheVariants as fact
 use Rattle.call_graph.specs.declared.tables.Tables.{Tables}
 use Rattle.dalvik_defs.specs.Find as find
-use Rattle.dalvik_defs.specs.Find.{first_method, Found, found_in, is_virtual_method, method_in, own_candidate, passing}
+use Rattle.dalvik_defs.specs.Find.{first_method, Found, is_virtual_method, method_in, own_candidate, passing}
 use Rattle.dalvik_defs.specs.Flags as flags
 use Rattle.dalvik_defs.specs.Names as spelled
 use Rattle.dalvik_defs.specs.Names.{object_type, Text, text_eq}
-use Rattle.dalvik_defs.specs.Naming.{method_at, named, named_class, named_method, signature_at, text_at, type_at}
-use Rattle.dalvik_defs.specs.Outer.{methods_in, outer_of}
+use Rattle.dalvik_defs.specs.Naming.{method_at, named, named_class, signature_at, text_at, type_at}
+use Rattle.dalvik_defs.specs.Outer.{outer_of}
 use Rattle.dalvik_defs.specs.Under.{class_named, defines, is_outward, own_above, reaches_framework, touches_framework}
-use Rattle.dalvik_defs.specs.declared.names.MethodKey.{MethodKey}
 use Rattle.dalvik_defs.specs.declared.names.Signature.{Signature}
 use Rattle.dalvik_defs.specs.declared.program.NamedClass.{NamedClass}
 use Rattle.dalvik_defs.proofs.Calm.{text_sound}
@@ -52,11 +51,11 @@ use Rattle.name_bridge.proofs.Flags.{interface_flag}
 use Rattle.name_bridge.proofs.Found.{first_by_number, text_same, virtual_answers}
 use Rattle.name_bridge.proofs.Tables.{method_class, method_is, method_name, method_proto, type_once}
 use Rattle.facts_kept.proofs.Defining.{listed_number}
-use Rattle.pass_defs.specs.Calls.{candidates_of, inherits, is_within}
+use Rattle.pass_defs.specs.Calls.{inherits, is_within}
 use Rattle.pass_defs.specs.Live.{answers_to, Family, HasMethods, IsClosedFamily, KeepsAbove, unconditional}
-use Rattle.removal_law.specs.Reach.{ends, IsRegular}
+use Rattle.removal_law.specs.Reach.{ends}
 use Rattle.removal_law.proofs.Levels.{enough_steps}
-use Rattle.removal_law.proofs.Lists.{In, here, there, all_in, clash, contained, in_map}
+use Rattle.removal_law.proofs.Lists.{In, here, there, all_in, clash, contained}
 use Rattle.removal_law.proofs.Declared.{not_false}
 use Rattle.removal_law.proofs.Outward.{any_here}
 use Rattle.removal_law.proofs.Trees.{own_above_some}
@@ -65,14 +64,13 @@ use Rattle.removal_law.proofs.Walks as walk
 use Rattle.reach_bridge.proofs.Based.{few_types}
 use Rattle.reach_bridge.proofs.Held.{of_image, placed_at, stands}
 use Rattle.reach_bridge.proofs.Mentioned.{nothing_in, only}
-use Rattle.premises.specs.Plain.{ListsPlainly}
 use Rattle.flat_bridge.specs.Numbered.{IsAsked}
 use Rattle.flat_bridge.proofs.Calling.{found_named}
 use Rattle.flat_bridge.proofs.Candidates.{answer_above, IsPlain, IsRooted, Path, stays}
 use Rattle.flat_bridge.proofs.Coding.{names_in}
 use Rattle.flat_bridge.proofs.Entered.{over_object}
-use Rattle.flat_bridge.proofs.Forcing.{AllStand, found_stand, IsCalled, place_stand, Stands, stand_flat, stand_if, stand_none, stand_one, stand_same}
-use Rattle.flat_bridge.proofs.Receivers.{climb_under, no_class, object_at, place_short, regular, step_named, within}
+use Rattle.flat_bridge.proofs.Forcing.{AllStand, found_stand, IsCalled, Stands, stand_flat, stand_none, stand_one, stand_same}
+use Rattle.flat_bridge.proofs.Receivers.{no_class, object_at, place_short, regular, step_named, within}
 use Rattle.flat_bridge.proofs.Standing.{owned}
 
 module _ (p : Program) (s : Sound p) (once : (class : ℕ) → IsTwice p class → ⊥) (name proto : ℕ) (hn : name < length p.strings) (hq : proto < length p.protos) where

@@ -20,18 +20,18 @@ use Rattle.dalvik_defs.specs.Face.{place_of}
 use Rattle.dalvik_defs.specs.Fields.{first_of}
 use Rattle.dalvik_defs.specs.Find.{defined_field}
 use Rattle.dalvik_defs.specs.Names.{Text, object_type}
-use Rattle.dalvik_defs.specs.Naming.{body_of, field_at, form_of, method_at, named, type_at}
+use Rattle.dalvik_defs.specs.Naming.{field_at, form_of, method_at, named, type_at}
 use Rattle.dalvik_defs.specs.Under.{defines}
 use Rattle.dalvik_defs.specs.declared.names.FieldKey.{FieldKey}
 use Rattle.dalvik_defs.specs.declared.program.NamedField.{NamedField}
 use Rattle.pass_defs.specs.Analysis.{IsRanged}
 use Rattle.pass_defs.specs.Facts.{call_result}
 use Rattle.pass_defs.specs.Constants.{flat, Solution}
+use Rattle.pass_defs.specs.Flat.{Flat}
 use Rattle.pass_defs.specs.Typed.{IsTyped}
-use Rattle.pass_defs.specs.Walks.{IsReached}
 use Rattle.premises.specs.Numbers.{AllHaveWords}
 use Rattle.premises.specs.Plain.{ListsPlainly}
-use Rattle.flat_bounds.specs.Bounds.{FlatTable}
+use Rattle.flat_bounds.specs.Bounds.{FlatTable, IsFlatBound}
 use Rattle.flat_law.proofs.Steps.{HasSmall}
 
 -- the name of the class at a place
@@ -56,22 +56,13 @@ abbrev pub CallsStatic : Program → Insn → Type 0
 CallsStatic p i = (method : ℕ) (args : List ℕ) (at : MethodAt) (m : Method) → i ≡ insn.Invoke call.Static method args → finds_static p method ≡ Some at → look.method_at p at ≡ Some m
     → is_static m.flags ≡ true
 
--- so it is in all code of a program
-abbrev pub CallAllStatic : Program → Type 0
-CallAllStatic p = (at : MethodAt) (m : Method) (body : Body) (n : ℕ) (i : Insn) → look.method_at p at ≡ Some m → m.body ≡ Some body → slice_get body.insns n ≡ Some i → CallsStatic p i
-
--- so it is in all code of it to which no walk comes
-abbrev pub OthersCallStatic : Program → Type 0
-OthersCallStatic p = (at : MethodAt) (m : Method) (body : Body) (n : ℕ) (i : Insn) → look.method_at p at ≡ Some m → m.body ≡ Some body → slice_get body.insns n ≡ Some i
-    → (IsReached (body_of p body) n → ⊥) → CallsStatic p i
-
 -- in version 037 the superclass of an interface is no class of the program
 abbrev pub AreRooted : Program → Type 0
 AreRooted p = is_037 p.version ≡ true → (c u : ℕ) → is_interface (slice_get p.classes c) ≡ true → super_place p c ≡ Some u → ⊥
 
 -- What is asked of a program and of what its outside keeps: the program is well-formed and typed, no class of it is there twice or above
--- itself, its numbers have their bits, lists of interfaces name interfaces alone, interfaces stand on no class, static calls to which no
--- walk comes find static methods, as the typing says of the others, and nothing is kept under a condition.
+-- itself, its numbers have their bits, lists of interfaces name interfaces alone, interfaces stand on no class, and nothing is kept
+-- under a condition.
 pub record IsGiven (p : Program) (o : Outside) : Type 0 where
   pub formed : is_well_formed p ≡ true
   pub typed : IsTyped (named p)
@@ -80,12 +71,11 @@ pub record IsGiven (p : Program) (o : Outside) : Type 0 where
   pub words : AllHaveWords p
   pub plain : ListsPlainly p
   pub rooted : AreRooted p
-  pub statics : OthersCallStatic p
   pub no_classes : o.classes_if ≡ []
   pub no_methods : o.methods_if ≡ []
   pub no_fields : o.fields_if ≡ []
 
--- the same with what follows from it
+-- what follows of it
 pub record IsAsked (p : Program) (o : Outside) : Type 0 where
   pub formed : is_well_formed p ≡ true
   pub sound : Sound p
@@ -97,7 +87,20 @@ pub record IsAsked (p : Program) (o : Outside) : Type 0 where
   pub firsts : (k : FieldKey) (d : NamedField) → defined_field (named p) k ≡ Some d → IsRanged (first_of k (place_of k.class d))
   pub plain : ListsPlainly p
   pub rooted : AreRooted p
-  pub statics : CallAllStatic p
   pub no_classes : o.classes_if ≡ []
   pub no_methods : o.methods_if ≡ []
   pub no_fields : o.fields_if ≡ []
+
+-- A table has what another one has, but that runs come to fewer positions by it.
+pub record IsWithin (b c : FlatTable) : Type 0 where
+  pub parameters : (m word : ℕ) → b.parameters m word ≡ c.parameters m word
+  pub results : (m : ℕ) → b.results m ≡ c.results m
+  pub registers : (m n : ℕ) (a : ℕ → Flat) → b.registers m n ≡ Some a → c.registers m n ≡ Some a
+  pub fields : (f : ℕ) → b.fields f ≡ c.fields f
+  pub answers : (class : ℕ) (i : Insn) → b.answers class i ≡ c.answers class i
+
+-- Some flat bound of a program has no more than a solution has of the names of its numbers.
+pub record IsBounded (p : Program) (o : Outside) (t : Solution) : Type 0 where
+  pub table : FlatTable
+  pub bound : IsFlatBound p o table
+  pub within : IsWithin table (numbered p t)

@@ -99,7 +99,7 @@ abbrev pub has_state : Option Table → ℕ → Bool
 has_state None n = true
 has_state (Some t) n = is_some (state_at t n)
 
-abbrev guarded : Bool → Option (ℕ → Flat) → Option (ℕ → Flat)
+abbrev pub guarded : Bool → Option (ℕ → Flat) → Option (ℕ → Flat)
 guarded true x = x
 guarded false x = None
 
@@ -108,13 +108,13 @@ unguarded true x a e = (refl, e)
 unguarded false x a e = none_some a e
 
 module _ (p : NamedProgram) (typed : IsTyped p) where
-  typed_body : (k : MethodKey) (b : NamedBody) → bodies_of p k ≡ Some b → (t : Table) × TypesBody p b t
+  pub typed_body : (k : MethodKey) (b : NamedBody) → bodies_of p k ≡ Some b → (t : Table) × TypesBody p b t
   typed_body k b e =
       let d = body_in p k b e in
       let t = typed.bodies d.class d.method b (contained d.class p.classes d.class_in) (contained d.method d.class.methods d.method_in) d.body in
       (t.0, record { class = d.class; method = d.method; typing = t.1 })
 
-  abbrev table_by : (k : MethodKey) (o : Option NamedBody) → bodies_of p k ≡ o → Option Table
+  abbrev pub table_by : (k : MethodKey) (o : Option NamedBody) → bodies_of p k ≡ o → Option Table
   table_by k None e = None
   table_by k (Some b) e = Some (typed_body k b e).0
 
@@ -147,7 +147,7 @@ module _ (p : NamedProgram) (typed : IsTyped p) where
     pub has_both : (k : MethodKey) (n : ℕ) (a : ℕ → Flat) → (walked t).registers k n ≡ Some a → (has_state (table_of k) n ≡ true) × (t.registers k n ≡ Some a)
     has_both k n a e = unguarded (has_state (table_of k) n) (t.registers k n) a e
 
-    at_back : (k : MethodKey) (n : ℕ) → pass.At flat p u k n → pass.At flat p t k n
+    abbrev at_back : (k : MethodKey) (n : ℕ) → pass.At flat p u k n → pass.At flat p t k n
     at_back k n at = record { body = at.body; form = at.form; registers = at.registers; has_body = at.has_body; has_form = at.has_form; reached = (has_both k n at.registers at.reached).1 }
 
     entered_up : (k : MethodKey) → pass.IsEntered flat t k → pass.IsEntered flat u k
@@ -210,8 +210,8 @@ module _ (p : NamedProgram) (typed : IsTyped p) where
       flows = record {
         onward = λ k n q at c.
             arrives_up k q (pass.after flat p u k.class (pass.form_before at.body n) at.form at.registers)
-                (goes_state k n q at (in_front q (onward at.form n) (caught at.body at.form n) (next_in at.form n at.registers q (stands (pass.nexts flat at.form n at.registers) q c))))
-                (subst (λ x. pass.Arrives flat x (t.registers k q)) (sym (after_same k.class (pass.form_before at.body n) at.form at.registers)) (closed.flows.onward k n q (at_back k n at) c));
+            (goes_state k n q at (in_front q (onward at.form n) (caught at.body at.form n) (next_in at.form n at.registers q (stands (pass.nexts flat at.form n at.registers) q c))))
+            (subst (λ x. pass.Arrives flat x (t.registers k q)) (sym (after_same k.class (pass.form_before at.body n) at.form at.registers)) (closed.flows.onward k n q (at_back k n at) c));
         thrown = λ k n q at c.
             arrives_up k q at.registers (goes_state k n q at (in_back q (onward at.form n) (caught at.body at.form n) (stands (caught at.body at.form n) q c))) (closed.flows.thrown k n q (at_back k n at) c);
       };

@@ -7,7 +7,7 @@ use Rattle.dalvik_defs.specs.Naming.{form_of, method_at, named}
 use Rattle.dalvik_defs.specs.Outer.{outer_of}
 use Rattle.pass_defs.specs.Constants.{Solution, IsSolution}
 use Rattle.flat_bounds.specs.Bounds.{BoundAnswers, BoundCalls, BoundFields, FlatAt, IsFlatBound}
-use Rattle.flat_bridge.specs.Numbered.{CallsStatic, class_text, IsAsked, IsBounded, IsGiven, numbered}
+use Rattle.flat_bridge.specs.Numbered.{CallsStatic, class_text, IsAsked, IsBounded, IsGiven, IsWithin, numbered}
 use Rattle.flat_bridge.proofs.Answering.{answers_named, answers_others}
 use Rattle.flat_bridge.proofs.Begun.{firsts_under}
 use Rattle.flat_bridge.proofs.Calling.{named_under}
@@ -19,6 +19,7 @@ use Rattle.flat_bridge.proofs.Linked.{leaves_any, linked_below, linked_under}
 use Rattle.flat_bridge.proofs.Opened.{opened_any}
 use Rattle.flat_bridge.proofs.Putting.{puts_under}
 use Rattle.flat_bridge.proofs.Statics.{calls_static}
+use Rattle.flat_bridge.proofs.Within.{facts_within}
 use Rattle.flat_bridge.proofs.Walked.{has_both, result_same, walked, walked_closed}
 
 module _ (p : Program) (o : Outside) (asked : IsAsked p o) (t : Solution) where
@@ -55,14 +56,17 @@ pub is_bounded : (p : Program) (o : Outside) (t : Solution) → IsGiven p o → 
 is_bounded p o t given closed =
     let asked = asked_of p o given in
     let u = walked (named p) given.typed t in
+    let within : IsWithin (numbered p u) (numbered p t) =
+    record {
+      parameters = λ m word. refl;
+      results = λ m. refl;
+      registers = λ m n a e. (has_both (named p) given.typed t (method_at p m) n a e).1;
+      fields = λ f. refl;
+      answers = λ class i. result_same (named p) given.typed t (class_text p class) (Some (form_of p i));
+    } in
     record {
       table = numbered p u;
       bound = all_under p o asked u (walked_closed (named p) given.typed t (outer_of p o) closed) (calls_static p asked.sound asked.once given.typed t);
-      within = record {
-        parameters = λ m word. refl;
-        results = λ m. refl;
-        registers = λ m n a e. (has_both (named p) given.typed t (method_at p m) n a e).1;
-        fields = λ f. refl;
-        answers = λ class i. result_same (named p) given.typed t (class_text p class) (Some (form_of p i));
-      };
+      within = within;
+      facts = facts_within p (numbered p u) (numbered p t) within;
     }

@@ -28,3 +28,4 @@ pub mod Entries
 pub mod Given
 pub mod Statics
 pub mod Walked
+pub mod Within

@@ -503,4 +503,4 @@ module _ (p : Program) (o : Outside) (asked : IsAsked p o) (s : Family) (closed 
 
 -- a class that is made by number is made by names
 pub made_by : (p : Program) (o : Outside) → IsAsked p o → (live : LiveSet) → IsLeastSet p o live → (kind : ℕ) → is_on live.made.items kind ≡ true → IsMade (named p) (outer_of p o) unconditional (type_at p kind)
-made_by p o asked live least kind on s closed = reached_stand p o asked s closed least.tables least.are (fact.Made kind) (least.follows (fact.Made kind) on)
+made_by p o asked marks least kind on s closed = reached_stand p o asked s closed least.tables least.are (fact.Made kind) (least.follows (fact.Made kind) on)

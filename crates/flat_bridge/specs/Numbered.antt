@@ -31,7 +31,9 @@ use Rattle.pass_defs.specs.Flat.{Flat}
 use Rattle.pass_defs.specs.Typed.{IsTyped}
 use Rattle.premises.specs.Numbers.{AllHaveWords}
 use Rattle.premises.specs.Plain.{ListsPlainly}
+use Rattle.facts.specs.declared.facts.Facts.{Facts}
 use Rattle.flat_bounds.specs.Bounds.{FlatTable, IsFlatBound}
+use Rattle.flat_bounds.specs.Facts.{AreFactsUnder}
 use Rattle.flat_law.proofs.Steps.{HasSmall}
 
 -- the name of the class at a place
@@ -99,8 +101,10 @@ pub record IsWithin (b c : FlatTable) : Type 0 where
   pub fields : (f : ℕ) → b.fields f ≡ c.fields f
   pub answers : (class : ℕ) (i : Insn) → b.answers class i ≡ c.answers class i
 
--- Some flat bound of a program has no more than a solution has of the names of its numbers.
+-- Some flat bound of a program has no more than a solution has of the names of its numbers, so facts under it are at or below what the
+-- solution has.
 pub record IsBounded (p : Program) (o : Outside) (t : Solution) : Type 0 where
   pub table : FlatTable
   pub bound : IsFlatBound p o table
   pub within : IsWithin table (numbered p t)
+  pub facts : (f : Facts) → AreFactsUnder p table f → AreFactsUnder p (numbered p t) f

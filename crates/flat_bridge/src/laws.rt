@@ -9,7 +9,7 @@ ghost use Rattle.program_model.specs.declared.program.Program.{Program};
 
 /// Of a program as given, no constants solution is below what an analysis finds: some table by number bounds the analysis, under which
 /// each of its steps keeps what is under it (`IsFlatBound`), and it has no more than what the solution has of the names of the numbers,
-/// of each parameter, result, register and field (`IsWithin`, `numbered`).
+/// of each parameter, result, register and field (`IsWithin`, `numbered`). So facts under it are at or below the solution.
 pub fn bound_law()
     ensures { (p : Program) (o : Outside) (t : Solution) → IsGiven p o → IsSolution (named p) (outer_of p o) t → IsBounded p o t }
 {}

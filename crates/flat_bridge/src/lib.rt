@@ -10,7 +10,8 @@
 //! - `Entered`, `EnteredFor`, `EnteredBack`: methods that the framework may enter on objects of made classes. `Entries`: all entries.
 //! - `Walked`, `Statics`: a solution stays one without what it has of positions to which the typing doesn't come; at the others a
 //!   static call finds a static method.
-//! - `Given`: what follows from what is asked. `Bound` puts all together, for `bound_law`.
+//! - `Given`: what follows from what is asked. `Within`: facts under a table that is within another one. `Bound` puts all together, for
+//!   `bound_law`.
 //!
 //! This crate declares no types of its own. Its functions have an empty body, and their contracts are the laws.
 #![tactic(auto)]

@@ -94,7 +94,7 @@ module _ (p : Program) (s : Sound p) where
 
   -- Object, where the program doesn't define it, stands under no class of the program
   module _ (none : class_place p (object_number p) ≡ None) where
-    over_object : (kind top above : ℕ) → kind ≡ object_number p → Climbs p kind top → class_place p top ≡ Some above → ⊥
+    pub over_object : (kind top above : ℕ) → kind ≡ object_number p → Climbs p kind top → class_place p top ≡ Some above → ⊥
     over_object kind top above same (Climbs.Itself k) e = let w : None ≡ Some above = sym none ∙ ap (class_place p) (sym same) ∙ e in absurd (cc)
     over_object kind top above same (Climbs.Through k next u low at more) e =
         let i = stands (above_kinds p kind) next at in

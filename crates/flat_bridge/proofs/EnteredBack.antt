@@ -42,7 +42,7 @@ use Rattle.flat_bridge.proofs.Opening.{defined_there, opened}
 use Rattle.flat_bridge.proofs.Standing.{owned}
 
 -- a virtual method isn't static
-held_of : (m : NamedMethod) → is_virtual_method m ≡ true → flags.is_static m.flags ≡ false
+pub held_of : (m : NamedMethod) → is_virtual_method m ≡ true → flags.is_static m.flags ≡ false
 held_of m e = not_true (flags.is_static m.flags) (and_left (not (flags.is_static m.flags)) (not (flags.is_private m.flags))
     (and_left (not (flags.is_static m.flags) && not (flags.is_private m.flags)) (not (flags.is_special m.name)) e))
 

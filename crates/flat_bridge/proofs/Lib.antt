@@ -17,3 +17,15 @@ pub mod Opening
 pub mod StartingNeeds
 pub mod Entered
 pub mod EnteredBack
+pub mod Candidates
+pub mod Forcing
+pub mod Noting
+pub mod Coding
+pub mod Objects
+pub mod Living
+pub mod EnteredFor
+pub mod Entries
+pub mod Given
+pub mod Statics
+pub mod Walked
+pub mod Within

@@ -142,7 +142,7 @@ module _ (p : Program) (s : Sound p) (once : (class : ℕ) → IsTwice p class �
     -- ---- classes of which the framework may make objects
 
     module _ (no_class : o.classes_if ≡ []) (c : ℕ) (k : Class) (is : slice_get p.classes c ≡ Some k) where
-      concrete_named : can_be_made k ≡ true → is_concrete (named p) (type_at p k.name) ≡ true
+      pub concrete_named : can_be_made k ≡ true → is_concrete (named p) (type_at p k.name) ≡ true
       concrete_named h =
           ap (λ x. elim x as (λ x. Bool) [ Some c ↦ not (flags.is_interface c.flags) && not (flags.is_abstract c.flags) | None ↦ false ]) (class_known p s once c k is)
           ∙ ap (λ b. not b && not (flags.is_abstract (named_class p k).flags)) (sym (interface_flag k.flags)) ∙ ap (λ b. not (has_flag k.flags 512) && not b) (sym (abstract_flag k.flags))

@@ -48,10 +48,10 @@ kept_in {A} keep x (y ∷ ys) (there z zs i) e = by (keep y) (kept_in keep x ys 
     by false h = h
 
 module _ (p : Program) (o : Outside) (asked : IsAsked p o) where
-  regular : IsRegular (named p)
+  pub regular : IsRegular (named p)
   regular = regular_program p asked.formed asked.once asked.grounded
 
-  keeps : KeepsAbove (named p) everything
+  pub keeps : KeepsAbove (named p) everything
   keeps = record { above = λ t c is live u i d. refl; initialisers = λ t k live e. refl; defaults = λ t c m new is live flag starts i h. refl }
 
   -- ---- a climb by number is a walk by name
@@ -65,7 +65,7 @@ module _ (p : Program) (o : Outside) (asked : IsAsked p o) where
   above_placed None v i = elim i [ ]
   above_placed (Some c) v i = above_named (slice_get p.classes c) v i
 
-  step_named : (k v : ℕ) → k < length p.types → Contains (above_kinds p k) v → In (type_at p v) (own_above (named p) (type_at p k))
+  pub step_named : (k v : ℕ) → k < length p.types → Contains (above_kinds p k) v → In (type_at p v) (own_above (named p) (type_at p k))
   step_named k v low h =
       subst (λ x. In (type_at p v) (elim x as (λ x. List Text) [ Some c ↦ c.superclass ∷ c.interfaces | None ↦ [] ])) (sym (class_by_number p asked.sound k low))
       (above_placed (class_place p k) v (stands (above_kinds p k) v h))
@@ -84,12 +84,12 @@ module _ (p : Program) (o : Outside) (asked : IsAsked p o) where
   climb_named a b (Climbs.Itself k) = (0, walk.text_same (type_at p k))
   climb_named a b (Climbs.Through k v top low i more) = walk_on (type_at p k) (type_at p v) (type_at p top) (step_named k v low i) (climb_named v top more)
 
-  climb_under : (a b : ℕ) → Climbs p a b → is_own_under (named p) (type_at p a) (type_at p b) ≡ true
+  pub climb_under : (a b : ℕ) → Climbs p a b → is_own_under (named p) (type_at p a) (type_at p b) ≡ true
   climb_under a b c = walk_under (named p) everything keeps regular (type_at p a) (type_at p b) (climb_named a b c)
 
   -- ---- Object, above which the program has nothing
 
-  no_class : (k : ℕ) → k < length p.types → defines (named p) (type_at p k) ≡ false → class_of p k ≡ None
+  pub no_class : (k : ℕ) → k < length p.types → defines (named p) (type_at p k) ≡ false → class_of p k ≡ None
   no_class k low e = by (class_place p k) (sym (ap is_class (class_by_number p asked.sound k low)) ∙ e)
     where
       is_class : Option NamedClass → Bool
@@ -106,7 +106,7 @@ module _ (p : Program) (o : Outside) (asked : IsAsked p o) where
   abbrev is_object : ℕ → Bool
   is_object n = same_text (string_text p n) object_text
 
-  object_at : (k : ℕ) → k < length p.types → k ≡ object_number p → type_at p k ≡ object_type
+  pub object_at : (k : ℕ) → k < length p.types → k ≡ object_number p → type_at p k ≡ object_type
   object_at k low e = by (position is_object p.types) refl
     where
       text_of : (n : ℕ) → slice_get p.types k ≡ Some n → type_at p k ≡ string_text p n
@@ -131,7 +131,7 @@ module _ (p : Program) (o : Outside) (asked : IsAsked p o) where
 
   -- ---- receivers
 
-  within : (kind top : ℕ) → top < length p.types → IsUnder p kind top → is_within (named p) (type_at p kind) (type_at p top) ≡ true
+  pub within : (kind top : ℕ) → top < length p.types → IsUnder p kind top → is_within (named p) (type_at p kind) (type_at p top) ≡ true
   within kind top low (inl c) =
       or_left (text_eq (type_at p top) object_type) (is_own_under (named p) (type_at p kind) (type_at p top))
       (ap (λ (t : Text). text_eq t object_type) (from_object (object_number p) top c refl low) ∙ walk.text_same object_type)

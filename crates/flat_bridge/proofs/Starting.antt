@@ -264,7 +264,7 @@ module _ (p : Program) (s : Sound p) (once : (class : ℕ) → IsTwice p class �
   -- ---- initialisers
 
   -- the initialiser of a class by its place has the key of that by its name
-  initialiser_there : (d i : ℕ) (m : Method) → initialiser_place p d ≡ Some i → look.method_at p (record { class = d; place = i }) ≡ Some m → first.initialiser_of (named p) (walked.class_text p d) ≡ Some (method_at p m.name)
+  pub initialiser_there : (d i : ℕ) (m : Method) → initialiser_place p d ≡ Some i → look.method_at p (record { class = d; place = i }) ≡ Some m → first.initialiser_of (named p) (walked.class_text p d) ≡ Some (method_at p m.name)
   initialiser_there d i m starts at =
       let o = (owned p s once (record { class = d; place = i }) m at).owner in
       let k = o.class in

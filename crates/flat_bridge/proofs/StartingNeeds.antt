@@ -8,15 +8,12 @@ use Rattle.insn_set.specs.declared.form.Insn.{Insn}
 use Rattle.insn_set.specs.declared.form.Insn.TheVariants as insn
 use Rattle.insn_set.specs.declared.ops.InvokeKind.TheVariants as call
 use Rattle.insn_set.specs.declared.ops.Item.{Item}
-use Rattle.program_model.specs.Lookups as look
 use Rattle.program_model.specs.Lookups.{class_place}
-use Rattle.program_model.specs.MemberRules.{is_static}
 use Rattle.program_model.specs.OperandRules.{numbers_fit}
 use Rattle.program_model.specs.declared.pass.Outside.{Outside}
 use Rattle.program_model.specs.declared.pools.FieldName.{FieldName}
 use Rattle.program_model.specs.declared.program.Class.{Class}
 use Rattle.program_model.specs.declared.program.Field.{Field}
-use Rattle.program_model.specs.declared.program.Method.{Method}
 use Rattle.program_model.specs.declared.program.MethodAt.{MethodAt}
 use Rattle.program_model.specs.declared.program.Program.{Program}
 use Rattle.class_defs.specs.ClassGraph.{IsTwice}
@@ -43,7 +40,7 @@ use Rattle.facts_kept.proofs.Standing.{bound_there}
 use Rattle.pass_defs.specs.Facts as pass
 use Rattle.pass_defs.specs.Constants.{IsSolution, Solution}
 use Rattle.flat_bounds.specs.Bounds.{FlatAt, IsReadied}
-use Rattle.flat_bridge.specs.Numbered.{class_text, numbered, IsAsked}
+use Rattle.flat_bridge.specs.Numbered.{CallsStatic, class_text, numbered, IsAsked}
 use Rattle.flat_bridge.proofs.Calling.{call_low}
 use Rattle.flat_bridge.proofs.Fits.{insn_fit}
 use Rattle.flat_bridge.proofs.Standing as standing
@@ -110,10 +107,6 @@ module _ (p : Program) where
 
   -- ---- what an instruction needs
 
-  -- where it calls a static method, it finds one
-  abbrev pub CallsStatic : Insn → Type 0
-  CallsStatic i = (method : ℕ) (args : List ℕ) (at : MethodAt) (m : Method) → i ≡ insn.Invoke call.Static method args → finds_static p method ≡ Some at → look.method_at p at ≡ Some m → is_static m.flags ≡ true
-
   type_low : (to kind : ℕ) → numbers_fit (insn.NewInstance to kind) p ≡ true → kind < length p.types
   unfolding numbers_fit
   type_low to kind h = below kind (length p.types) h
@@ -143,7 +136,7 @@ module _ (p : Program) where
             subst (λ x. Contains (elim x as (λ x. List Text) [ Some f ↦ f.0 ∷ [] | None ↦ [] ]) (class_text p c)) (sym is)
             (subst (λ u. Contains (type_at p r.class.name ∷ []) u) (sym (sym (ap (class_text p) same) ∙ text_is at.0 r.class r.is_class)) (contains_here (type_at p r.class.name) []))
 
-    call_named : (method : ℕ) (args : List ℕ) (c : ℕ) → method < length p.methods → CallsStatic (insn.Invoke call.Static method args) → Contains (found.needs p (insn.Invoke call.Static method args)) c
+    call_named : (method : ℕ) (args : List ℕ) (c : ℕ) → method < length p.methods → CallsStatic p (insn.Invoke call.Static method args) → Contains (found.needs p (insn.Invoke call.Static method args)) c
         → Contains (pass.static_class (finds_statically (named p) (method_at p method))) (class_text p c)
     call_named method args c low static has = by (finds_static p method) refl (beside_is (option_map (λ at. at.class) (finds_static p method)) c has)
       where
@@ -158,7 +151,7 @@ module _ (p : Program) where
             (subst (λ b. Contains (elim b as (λ b. List Text) [ true ↦ type_at p w.class.name ∷ [] | false ↦ [] ]) (class_text p c)) (sym holds)
             (subst (λ u. Contains (type_at p w.class.name ∷ []) u) (sym (sym (ap (class_text p) same) ∙ text_is at.class w.class w.is_class)) (contains_here (type_at p w.class.name) [])))
 
-    needs_named : (i : Insn) (c : ℕ) → numbers_fit i p ≡ true → CallsStatic i → Contains (found.needs p i) c → Contains (pass.needs (named p) (form_of p i)) (class_text p c)
+    needs_named : (i : Insn) (c : ℕ) → numbers_fit i p ≡ true → CallsStatic p i → Contains (found.needs p i) c → Contains (pass.needs (named p) (form_of p i)) (class_text p c)
     needs_named (insn.NewInstance to kind) c fits static has =
         let d = defined p kind c (beside_is (class_place p kind) c has) in
         subst (λ u. Contains (type_at p kind ∷ []) u) (sym (text_is c d.class d.is ∙ ap (type_at p) d.named)) (contains_here (type_at p kind) [])

@@ -35,7 +35,7 @@ call_same m n false true e = absurd (omega (arith, e))
 
 module _ (p : Program) (o : Outside) (asked : IsAsked p o) where
   -- a type that is an interface of the program by number is so by names
-  interface_is : (kind : ℕ) → kind < length p.types → names_interface p kind ≡ true → is_some (interface_named (named p) (type_at p kind)) ≡ true
+  pub interface_is : (kind : ℕ) → kind < length p.types → names_interface p kind ≡ true → is_some (interface_named (named p) (type_at p kind)) ≡ true
   interface_is kind low e = ap named_so (class_by_number p asked.sound kind low) ∙ by_place (class_place p kind) e
     where
       named_so : Option NamedClass → Bool

@@ -1,19 +1,15 @@
-//! Laws of constants solutions by number.
+//! The law of constants solutions by number.
 
 ghost use Rattle.dalvik_defs.specs.Naming.{named};
 ghost use Rattle.dalvik_defs.specs.Outer.{outer_of};
-ghost use Rattle.flat_bounds.specs.Bounds.{BoundAnswers, BoundCalls, BoundEntries, BoundFields, BoundFlows, IsFlatBound};
-ghost use Rattle.flat_bridge.specs.Numbered.{numbered, IsAsked};
+ghost use Rattle.flat_bridge.specs.Numbered.{IsBounded, IsGiven};
 ghost use Rattle.pass_defs.specs.Constants.{Solution, IsSolution};
 ghost use Rattle.program_model.specs.declared.pass.Outside.{Outside};
 ghost use Rattle.program_model.specs.declared.program.Program.{Program};
 
-/// Of a program as asked, a constants solution by number bounds what flows, what calls pass and get back, and what fields hold;
-/// and it is a flat bound where it bounds the entries too.
+/// Of a program as given, no constants solution is below what an analysis finds: some table by number bounds the analysis, under which
+/// each of its steps keeps what is under it (`IsFlatBound`), and it has no more than what the solution has of the names of the numbers,
+/// of each parameter, result, register and field (`IsWithin`, `numbered`). So facts under it are at or below the solution.
 pub fn bound_law()
-    ensures flows { (p : Program) (o : Outside) (t : Solution) → IsAsked p o → IsSolution (named p) (outer_of p o) t → BoundFlows p (numbered p t) }
-    ensures calls { (p : Program) (o : Outside) (t : Solution) → IsAsked p o → IsSolution (named p) (outer_of p o) t → BoundCalls p o (numbered p t) }
-    ensures answers { (p : Program) (o : Outside) (t : Solution) → IsAsked p o → BoundAnswers p o (numbered p t) }
-    ensures fields { (p : Program) (o : Outside) (t : Solution) → IsAsked p o → IsSolution (named p) (outer_of p o) t → BoundFields p o (numbered p t) }
-    ensures whole { (p : Program) (o : Outside) (t : Solution) → IsAsked p o → IsSolution (named p) (outer_of p o) t → BoundEntries p o (numbered p t) → IsFlatBound p o (numbered p t) }
+    ensures { (p : Program) (o : Outside) (t : Solution) → IsGiven p o → IsSolution (named p) (outer_of p o) t → IsBounded p o t }
 {}

@@ -32,17 +32,16 @@ use Rattle.const_prop.specs.declared.numbers.Number.{Number}
 use Rattle.const_prop.specs.Allowed.{insn_before}
 use Rattle.const_prop.specs.Given.{number_at}
 use Rattle.const_prop.specs.Kinds.{is_narrow_move, is_typed_so, typing_fits}
-use Rattle.fold_law.specs.Asked.{IsSettled}
+use Rattle.fold_law.proofs.Settled.{Settled}
 use Rattle.fold_law.proofs.Dimensions.{HaveDimensions}
 use Rattle.fold_law.proofs.Kinds.{Agrees, IsTypedBy, KindsAgree}
-use Rattle.fold_law.proofs.Within.{MetLow}
-use Rattle.fold_law.proofs.Typings.{BodyOf}
+use Rattle.fold_law.proofs.Typings.{BodyOf, MetLow}
 use Rattle.fold_law.proofs.Agreeing.{no_wide_there, number_fits, number_typed}
 use Rattle.fold_law.proofs.Known.{register_is}
 use Rattle.fold_law.proofs.Methods.{body_of_key}
 use Rattle.fold_law.proofs.Tables.{class_stands, method_stands}
 
-module _ (p : Program) (h : Hierarchy) (o : Outside) (t : Facts) (settled : IsSettled p h o t) (bounds : MetLow p o t) (dimensions : HaveDimensions p h) (at : MethodAt) (m : Method) (b : Body)
+module _ (p : Program) (h : Hierarchy) (o : Outside) (t : Facts) (settled : Settled p h o t) (bounds : MetLow p o t) (dimensions : HaveDimensions p h) (at : MethodAt) (m : Method) (b : Body)
     (has_method : look.method_at p at ≡ Some m) (has_body : m.body ≡ Some b) where
   abbrev key : MethodKey
   key = method_at p m.name

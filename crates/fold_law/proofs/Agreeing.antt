@@ -97,10 +97,9 @@ use Rattle.const_prop.specs.Constants.{result_of}
 use Rattle.const_prop.specs.Given.{given, number_at}
 use Rattle.const_prop.specs.Kinds.{fits, in_kind, in_result, in_type, is_free, is_narrow_move, is_null, is_typed_so, is_wide_number, is_word, letter, typing_fits}
 use Rattle.const_prop.specs.Known.{zero_number}
-use Rattle.fold_law.specs.Asked.{IsSettled}
+use Rattle.fold_law.proofs.Settled.{Settled}
 use Rattle.fold_law.proofs.Dimensions.{HaveDimensions}
-use Rattle.fold_law.proofs.Within.{MetLow}
-use Rattle.fold_law.proofs.Typings.{AreTypings, BodyOf, is_any, met, met_registers, met_table, null_fits, restricted, suits}
+use Rattle.fold_law.proofs.Typings.{AreTypings, BodyOf, is_any, met, met_registers, met_table, MetLow, null_fits, restricted, suits}
 use Rattle.fold_law.proofs.Known as shown
 use Rattle.fold_law.proofs.Joined.{all_least, all_null, below_on, met_below, one_in_join}
 use Rattle.fold_law.proofs.Known.{gives, left_under, low, put_itself, put_there}
@@ -285,7 +284,7 @@ module _ (p : Program) where
   fresh_any kind.FreshThis v f h = any_is v h
   fresh_any k v f h = absurd (true≢false (sym f))
 
-module _ (p : Program) (h : Hierarchy) (o : Outside) (t : Facts) (settled : IsSettled p h o t) (bounds : MetLow p o t) (dimensions : HaveDimensions p h) (at : MethodAt) (m : Method) (b : Body)
+module _ (p : Program) (h : Hierarchy) (o : Outside) (t : Facts) (settled : Settled p h o t) (bounds : MetLow p o t) (dimensions : HaveDimensions p h) (at : MethodAt) (m : Method) (b : Body)
     (has_method : look.method_at p at ≡ Some m) (has_body : m.body ≡ Some b) where
   abbrev q : NamedProgram
   q = named p

@@ -74,7 +74,7 @@ use Rattle.flat_bounds.proofs.Under.{under_below, under_least}
 use Rattle.closed_facts.specs.Found.{field_in, finds_bound, own_number}
 use Rattle.flat_law.proofs.Edges.{edges_under, IsFit}
 use Rattle.flat_law.proofs.Steps.{left_of, taken_named}
-use Rattle.flat_bridge.specs.Numbered.{class_text, IsAsked, numbered}
+use Rattle.flat_bridge.specs.Numbered.{class_text, IsAsked, IsWithin, numbered}
 use Rattle.flat_law.proofs.Others.{stored_under}
 use Rattle.flat_bridge.proofs.Begun.{begun_known, begun_ranged, first_under}
 use Rattle.flat_bridge.proofs.Bound.{answers_under}
@@ -85,7 +85,6 @@ use Rattle.flat_bridge.proofs.Opened.{defined_itself, placed}
 use Rattle.flat_bridge.proofs.Putting.{puts_form, puts_low}
 use Rattle.flat_bridge.proofs.Fits.{insn_fit}
 use Rattle.flat_bridge.proofs.Standing.{owned}
-use Rattle.fold_law.specs.Asked.{IsWithin}
 use Rattle.fold_law.proofs.Typings.{AreTypings, begun_kind, BodyOf, first_argument, IsFronted, met, met_registers, met_table, suits}
 use Rattle.fold_law.proofs.Above.{above_types}
 use Rattle.fold_law.proofs.Holding.{first_of, first_suits, put_suits}

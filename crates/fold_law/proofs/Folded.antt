@@ -35,13 +35,14 @@ use Rattle.const_prop.specs.Folds.{branch_or, constant_at, is_asked_of, is_typed
 use Rattle.const_prop.specs.Given.{number_at}
 use Rattle.const_prop.specs.Kinds.{is_typed_so}
 use Rattle.const_prop.specs.Known.{way_by, way_in}
-use Rattle.fold_law.specs.Asked.{IsSettled, LeavesNone}
+use Rattle.fold_law.specs.Asked.{LeavesNone}
+use Rattle.fold_law.proofs.Settled.{Settled}
 use Rattle.fold_law.proofs.Kinds.{KindsAgree}
 use Rattle.fold_law.proofs.Left.{left_typed}
 use Rattle.fold_law.proofs.Known.{gives, low, no_choice, register_is, registers_under}
 use Rattle.fold_law.proofs.Ways.{has_way}
 
-module _ (p : Program) (h : Hierarchy) (o : Outside) (t : Facts) (settled : IsSettled p h o t) (at : MethodAt) (m : Method) (b : Body) (has_method : look.method_at p at ≡ Some m) (has_body : m.body ≡ Some b)
+module _ (p : Program) (h : Hierarchy) (o : Outside) (t : Facts) (settled : Settled p h o t) (at : MethodAt) (m : Method) (b : Body) (has_method : look.method_at p at ≡ Some m) (has_body : m.body ≡ Some b)
     (short : length b.insns ≤ 4294967295) (none : LeavesNone p h t at m b) (kinds : KindsAgree p h o t at m b) where
   abbrev key : MethodKey
   key = method_at p m.name

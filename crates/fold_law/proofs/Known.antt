@@ -51,8 +51,8 @@ use Rattle.const_prop.specs.Choices.{is_choice}
 use Rattle.const_prop.specs.Constants.{constant_for, result_of}
 use Rattle.const_prop.specs.Given.{behind, call_value, given, number_at}
 use Rattle.const_prop.specs.Known.{is_always_pure, is_pure, number_by, number_in, number_nowhere, number_of}
-use Rattle.fold_law.proofs.Within.{low_within}
-use Rattle.fold_law.specs.Asked.{AreLow, FindsPlainly}
+use Rattle.fold_law.specs.Asked.{FindsPlainly}
+use Rattle.fold_law.proofs.Settled.{AreLow}
 use Rattle.fold_law.proofs.Given.{call_under, field_under}
 use Rattle.fold_law.proofs.Numbers.{constant_there, HasConstant, IsAbout}
 use Rattle.fold_law.proofs.Pure.{always_pure, divides_well, pure_with}
@@ -131,7 +131,7 @@ module _ (p : Program) (o : Outside) (t : Facts) (asked : IsAsked p o) (plain : 
 
   -- the facts are under each solution
   pub low : (c : Solution) → IsSolution (named p) (outer_of p o) c → AreFactsUnder p (numbered p c) t
-  low c closed = let z = facts_low.bounds c closed in low_within p z.table (numbered p c) t z.within (facts_low.under z.table z.bound)
+  low c closed = let z = facts_low.bounds c closed in z.facts t (facts_low.under z.table z.bound)
 
   -- ---- one position
 

@@ -1,6 +1,6 @@
 pub mod Typings
 pub mod Kinds
-pub mod Within
+pub mod Settled
 pub mod Left
 pub mod Numbers
 pub mod Ways

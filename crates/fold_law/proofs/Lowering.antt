@@ -18,15 +18,15 @@ use Rattle.removal_bridge.proofs.Formed as shown
 use Rattle.removal_bridge.proofs.TypedFormed as stuck
 use Rattle.removal_law.specs.Reach.{IsRegular}
 use Rattle.run_laws.specs.Regular as sound
-use Rattle.flat_bridge.specs.Numbered.{numbered}
-use Rattle.fold_law.specs.Asked.{IsBounded, IsSettled}
-use Rattle.fold_law.proofs.Typings.{BodyOf, met_table, restricted}
+use Rattle.flat_bridge.specs.Numbered.{IsBounded, numbered}
+use Rattle.fold_law.proofs.Settled.{Settled}
+use Rattle.fold_law.proofs.Typings.{BodyOf, met_table, MetLow, restricted}
 use Rattle.fold_law.proofs.Bounding.{tamed, tamed_bound, tamed_within}
 use Rattle.fold_law.proofs.Restricted.{restricted_closed, stood}
 use Rattle.fold_law.proofs.Tables.{class_stands, method_stands}
-use Rattle.fold_law.proofs.Within.{low_within, MetLow}
+use Rattle.flat_bridge.proofs.Within.{facts_within}
 
-module _ (p : Program) (h : Hierarchy) (o : Outside) (t : Facts) (settled : IsSettled p h o t) where
+module _ (p : Program) (h : Hierarchy) (o : Outside) (t : Facts) (settled : Settled p h o t) where
   abbrev q : NamedProgram
   q = named p
 
@@ -49,7 +49,7 @@ module _ (p : Program) (h : Hierarchy) (o : Outside) (t : Facts) (settled : IsSe
       let less_closed = restricted_closed q regular entered tables typings (outer_of p o) c closed in
       let stand = λ (k : MethodKey) (n : ℕ) (b : NamedBody) (a : ℕ → Flat) (e : bodies_of q k ≡ Some b) (l : less.registers k n ≡ Some a). (stood q regular entered tables typings (outer_of p o) c closed k n b a e l).stood in
       let z : IsBounded p o less = settled.low.bounds less less_closed in
-      low_within p (tamed p o settled.asked regular run tables typings less less_closed stand z.table z.bound z.within) (numbered p (met_table q tables less)) t
-      (tamed_within p o settled.asked regular run tables typings less less_closed stand z.table z.bound z.within)
+      facts_within p (tamed p o settled.asked regular run tables typings less less_closed stand z.table z.bound z.within) (numbered p (met_table q tables less))
+      (tamed_within p o settled.asked regular run tables typings less less_closed stand z.table z.bound z.within) t
       (settled.low.under (tamed p o settled.asked regular run tables typings less less_closed stand z.table z.bound z.within)
       (tamed_bound p o settled.asked regular run tables typings less less_closed stand z.table z.bound z.within))

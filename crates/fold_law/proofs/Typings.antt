@@ -8,7 +8,14 @@ use Rattle.dalvik_defs.specs.declared.program.NamedBody.{NamedBody}
 use Rattle.dalvik_defs.specs.declared.program.NamedClass.{NamedClass}
 use Rattle.dalvik_defs.specs.declared.program.NamedMethod.{NamedMethod}
 use Rattle.dalvik_defs.specs.declared.program.NamedProgram.{NamedProgram}
-use Rattle.pass_defs.specs.Constants.{Solution}
+use Rattle.program_model.specs.declared.pass.Outside.{Outside}
+use Rattle.program_model.specs.declared.program.Program.{Program}
+use Rattle.dalvik_defs.specs.Naming.{named}
+use Rattle.dalvik_defs.specs.Outer.{outer_of}
+use Rattle.facts.specs.declared.facts.Facts.{Facts}
+use Rattle.flat_bounds.specs.Facts.{AreFactsUnder}
+use Rattle.flat_bridge.specs.Numbered.{numbered}
+use Rattle.pass_defs.specs.Constants.{IsSolution, Solution}
 use Rattle.pass_defs.specs.Flat.{Flat, Bottom, KnownWord, KnownWide, Any}
 use Rattle.pass_defs.specs.Kinds.{Kind, Undefined, Zero, Word, Null, Class, Array, Reference, Fresh, FreshThis, kind_of}
 use Rattle.pass_defs.specs.Quiet.{takes_result}
@@ -107,3 +114,8 @@ met_table p tables c = record {
   registers = λ k n. elim (bodies_of p k) [ Some b ↦ met_registers (tables k) n (c.registers k n) | None ↦ c.registers k n ];
   fields = λ k. met (kind_of p k.kind) (c.fields k);
 }
+
+-- Facts are under a solution also where it says that no number is there which the kinds of a typing don't let be there.
+abbrev pub MetLow : Program → Outside → Facts → Type 0
+MetLow p o t = (tables : MethodKey → Table) → AreTypings (named p) tables → (c : Solution) → IsSolution (named p) (outer_of p o) c
+    → AreFactsUnder p (numbered p (met_table (named p) tables (restricted (named p) tables c))) t

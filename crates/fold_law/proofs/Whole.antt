@@ -20,6 +20,7 @@ use Rattle.pass_defs.specs.Foldable.{IsFoldable}
 use Rattle.rewrite_pass.specs.Plans.{word}
 use Rattle.fold_law.proofs.Dimensions.{dimensions}
 use Rattle.fold_law.specs.Asked.{IsSettled, LeavesNone, NothingLeft}
+use Rattle.fold_law.proofs.Settled.{settle, Settled}
 use Rattle.fold_law.proofs.Kinds.{KindsAgree}
 use Rattle.fold_law.proofs.Lowering.{met_low}
 use Rattle.fold_law.proofs.Agreed.{agreed}
@@ -35,7 +36,7 @@ module _ (p : Program) (w : is_well_formed p ≡ true) (k j : ℕ) (c : Class) (
   pub placed : (P : MethodAt → Type 0) → P (record { class = word k; place = word j }) → P (record { class = k; place = j })
   placed P h = subst (λ (i : ℕ). P (record { class = i; place = j })) whole_class (subst (λ (i : ℕ). P (record { class = word k; place = i })) whole_place h)
 
-pub folded_nowhere : (p : Program) (h : Hierarchy) (o : Outside) (t : Facts) (admitted : List Bool) → IsSettled p h o t → NothingLeft p h t admitted
+pub folded_nowhere : (p : Program) (h : Hierarchy) (o : Outside) (t : Facts) (admitted : List Bool) → Settled p h o t → NothingLeft p h t admitted
     → (k j : ℕ) (c : Class) (m : Method) (b : Body) → slice_get p.classes k ≡ Some c
     → slice_get c.methods j ≡ Some m → slice_index_or admitted m.name false ≡ true → m.body ≡ Some b → KindsAgree p h o t (record { class = k; place = j }) m b
     → (n : ℕ) → IsFoldable (named p) (outer_of p o) (method_at p m.name) n → ⊥
@@ -47,5 +48,5 @@ pub nothing_foldable : (p : Program) (h : Hierarchy) (o : Outside) (t : Facts) (
     (b : Body) → slice_get p.classes k ≡ Some c → slice_get c.methods j ≡ Some m → slice_index_or admitted m.name false ≡ true → m.body ≡ Some b
     → (n : ℕ) → IsFoldable (named p) (outer_of p o) (method_at p m.name) n → ⊥
 nothing_foldable p h o t admitted settled left k j c m b is_class is_method admits has_body =
-    folded_nowhere p h o t admitted settled left k j c m b is_class is_method admits has_body
-    (agreed p h o t settled (met_low p h o t settled) (dimensions p h settled.asked.formed settled.resolved) (record { class = k; place = j }) m b (ap (option_and_then (λ (c : Class). slice_get c.methods j)) is_class ∙ is_method) has_body)
+    folded_nowhere p h o t admitted (settle p h o t settled) left k j c m b is_class is_method admits has_body
+    (agreed p h o t (settle p h o t settled) (met_low p h o t (settle p h o t settled)) (dimensions p h settled.given.formed settled.resolved) (record { class = k; place = j }) m b (ap (option_and_then (λ (c : Class). slice_get c.methods j)) is_class ∙ is_method) has_body)

@@ -2,7 +2,6 @@
 -- (this project's profile).
 use Rattle.std.specs.Prelude.{◌≡◌, ◌≤◌, ℕ, Bool, true, false, List, length, Some, None, is_some, slice_get, slice_index_or}
 use Rattle.std.specs.List.{list_any}
-use Rattle.insn_set.specs.declared.form.Insn.{Insn}
 use Rattle.program_model.specs.declared.body.Body.{Body}
 use Rattle.program_model.specs.declared.pass.Outside.{Outside}
 use Rattle.program_model.specs.declared.program.Class.{Class}
@@ -13,16 +12,11 @@ use Rattle.class_defs.specs.Finding.{Nothing, finds_at, finds_virtual}
 use Rattle.class_defs.specs.Members.{is_interface}
 use Rattle.hierarchy.specs.Shapes.{IsResolved}
 use Rattle.hierarchy.specs.declared.build.Hierarchy.{Hierarchy}
-use Rattle.dalvik_defs.specs.Naming.{named}
-use Rattle.dalvik_defs.specs.Outer.{outer_of}
-use Rattle.pass_defs.specs.Constants.{Solution, IsSolution}
-use Rattle.pass_defs.specs.Flat.{Flat}
-use Rattle.pass_defs.specs.Typed.{IsTyped}
 use Rattle.facts.specs.declared.facts.Facts.{Facts}
 use Rattle.rewrite_pass.specs.Plans.{word}
 use Rattle.flat_bounds.specs.Bounds.{FlatTable, IsFlatBound}
 use Rattle.flat_bounds.specs.Facts.{AreFactsUnder}
-use Rattle.flat_bridge.specs.Numbered.{numbered, IsAsked}
+use Rattle.flat_bridge.specs.Numbered.{IsGiven}
 use Rattle.const_prop.specs.Folds.{folds_of, is_asked, NoneLeftAt}
 
 -- Where no virtual method stands along a class and its superclasses, a virtual call finds none: no interface of these classes has one
@@ -34,33 +28,13 @@ FindsPlainly p = (name proto class : ℕ) → is_interface (slice_get p.classes 
 abbrev pub AreShort : Program → Type 0
 AreShort p = (k j : ℕ) (c : Class) (m : Method) (b : Body) → slice_get p.classes k ≡ Some c → slice_get c.methods j ≡ Some m → m.body ≡ Some b → length b.insns ≤ 4294967295
 
--- A table has what another one has, but that runs come to fewer positions by it.
-pub record IsWithin (b c : FlatTable) : Type 0 where
-  pub parameters : (m word : ℕ) → b.parameters m word ≡ c.parameters m word
-  pub results : (m : ℕ) → b.results m ≡ c.results m
-  pub registers : (m n : ℕ) (a : ℕ → Flat) → b.registers m n ≡ Some a → c.registers m n ≡ Some a
-  pub fields : (f : ℕ) → b.fields f ≡ c.fields f
-  pub answers : (class : ℕ) (i : Insn) → b.answers class i ≡ c.answers class i
-
--- Some flat bound of a program has no more than a solution has of the names of its numbers.
-pub record IsBounded (p : Program) (o : Outside) (t : Solution) : Type 0 where
-  pub table : FlatTable
-  pub bound : IsFlatBound p o table
-  pub within : IsWithin table (numbered p t)
-
--- Facts that are at or below every flat table which bounds an analysis; and each constants solution gives such a table by number.
-pub record AreLow (p : Program) (o : Outside) (t : Facts) : Type 0 where
-  pub bounds : (c : Solution) → IsSolution (named p) (outer_of p o) c → IsBounded p o c
-  pub under : (b : FlatTable) → IsFlatBound p o b → AreFactsUnder p b t
-
--- A well-formed and typed program with such facts.
+-- A program as given, with its hierarchy, and facts that are at or below every flat table which bounds an analysis.
 pub record IsSettled (p : Program) (h : Hierarchy) (o : Outside) (t : Facts) : Type 0 where
-  pub asked : IsAsked p o
+  pub given : IsGiven p o
   pub resolved : IsResolved p h
-  pub typed : IsTyped (named p)
   pub plain : FindsPlainly p
   pub short : AreShort p
-  pub low : AreLow p o t
+  pub low : (b : FlatTable) → IsFlatBound p o b → AreFactsUnder p b t
 
 -- Nothing that facts and kinds allow is left in the bodies of admitted methods, where a method has a typing that had to be asked.
 pub record LeavesNone (p : Program) (h : Hierarchy) (t : Facts) (at : MethodAt) (m : Method) (b : Body) : Type 0 where

@@ -35,5 +35,5 @@ settle p h o t s = record {
   typed = s.given.typed;
   plain = s.plain;
   short = s.short;
-  low = record { bounds = is_bounded p o s.given; under = s.low };
+  low = record { bounds = λ c closed. is_bounded p o c s.given closed; under = s.low };
 }

@@ -10,6 +10,7 @@ use Rattle.insn_set.specs.declared.form.Insn.TheVariants.{Move, MoveResult, Cons
 use Rattle.program_model.specs.declared.body.Body.{Body}
 use Rattle.insn_regs.specs.Wides.{first_if, wides_read}
 use Rattle.body_graph.specs.Walks.{insn_at, onward, IsRead}
+pub use Rattle.register_criteria.specs.Locals.{locals}
 
 -- ---- wide operands
 
@@ -66,10 +67,6 @@ binds w f r = list_any (λ at. in_operand true at r) (wides_of w f) || in_range_
 -- never half of a wide, and in no such call
 abbrev pub is_free : List (List Bool) → Body → ℕ → Bool
 is_free w b r = not (list_any (λ f. binds w f r) b.insns)
-
--- how many registers are no arguments: these have the numbers below
-abbrev pub locals : Body → ℕ
-locals b = b.registers - b.ins
 
 -- Each register that is used and never half of a wide, nor in such a call, conflicts with each lower number, and the
 -- greatest register that is no argument is used.

@@ -14,23 +14,19 @@ use Rattle.program_model.specs.declared.program.MethodAt.{MethodAt}
 use Rattle.program_model.specs.declared.program.Program.{Program}
 use Rattle.program_model.specs.Lookups.{method_at}
 use Rattle.class_defs.specs.Finding.{resolves_field, finds_static}
-use Rattle.class_defs.specs.Starts.{is_trivial}
 use Rattle.domains.specs.Values.{Parts, known_of, known_wide_of}
 use Rattle.value_ops.specs.Left.{is_nothing}
 use Rattle.dom_frame.specs.Registers.{Registers, value_at}
 use Rattle.dom_frame.specs.Steps.{branched, unswitched, switched}
 use Rattle.quiet_methods.specs.declared.forms.Demand.{Demand}
 use Rattle.quiet_methods.specs.declared.forms.Demand.TheVariants.{Nothing, Call, Loud}
+pub use Rattle.class_criteria.specs.Starting.{starts_quietly}
 
 abbrev pub quiet_if : Bool → Demand
 quiet_if true = Nothing
 quiet_if false = Loud
 
 -- ---- classes, fields and calls
-
--- a class of the program, initialising which runs no code
-abbrev pub starts_quietly : Program → ℕ → Bool
-starts_quietly p class = nat_lt class (length p.classes) && is_trivial p class
 
 abbrev pub gets_quietly : Program → ℕ → Bool
 gets_quietly p field = elim (resolves_field p field) [ Some at ↦ starts_quietly p at.0 | None ↦ false ]

@@ -38,5 +38,6 @@ mod unknown;
 mod waits;
 mod walks;
 
-pub use analysis::analyse;
+pub use analysis::{Bounds, analyse, certified};
 pub use facts::Facts;
+pub use tables::Pieces;

@@ -1,7 +1,7 @@
 -- What objects of made classes answer to by number, and what the framework calls back on them, is live by names.
 use Rattle.std.proofs.Common.{◌≡◌, ℕ, zero, suc, ◌<◌, ◌⊎◌, inl, inr, Bool, true, false, true≢false, nat_eq, List, [], ◌∷◌, length, map, Option, Some, None, refl, sym, ap, ◌∙◌, subst, arith}
 use Rattle.std.specs.Prelude.{◌&&◌, ◌||◌, ◌^◌, not, cond, flat_map, is_some, slice_get, slice_index_or, option_and_then, Contains}
-use Rattle.std.specs.List.{list_any}
+use Rattle.std.specs.List.{list_all, list_any}
 use Rattle.std.specs.Option.{option_map, option_or}
 use Rattle.lemmas.proofs.Bools.{not_true, or_left, or_right, untrue}
 use Rattle.lemmas.proofs.Lists.{got_short}
@@ -240,9 +240,30 @@ module _ (p : Program) (o : Outside) (asked : IsAsked p o) where
         by None h = refl
         by (Some c) h = by_class (slice_get p.classes c) h
 
+    -- ---- types above are of the table
+
+    low_in : (v m : ℕ) (ns : List ℕ) → In v (m ∷ ns) → m < length p.types → list_all (has_type p) ns ≡ true → v < length p.types
+    low_in v m ns (here xs) low all = low
+    low_in v m ns (there x xs i) low all = below v (length p.types) (all_in (has_type p) ns all v i)
+
+    above_low : (k v : ℕ) → In v (above_kinds p k) → v < length p.types
+    above_low k v i = by (class_place p k) i
+      where
+        by_class : (c : ℕ) (x : Option Class) → slice_get p.classes c ≡ x → In v (above_of x) → v < length p.types
+        by_class c None e i = nothing_in v i
+        by_class c (Some x) e i = let f = class_parts p asked.sound c x e in low_in v x.superclass x.interfaces i f.superclass f.interfaces
+
+        by : (x : Option ℕ) → In v (above_of (option_and_then (slice_get p.classes) x)) → v < length p.types
+        by None i = nothing_in v i
+        by (Some c) i = by_class c (slice_get p.classes c) refl i
+
+    climb_low : (a b : ℕ) → a < length p.types → Climbs p a b → b < length p.types
+    climb_low a b low (Climbs.Itself k) = low
+    climb_low a b low (Climbs.Through k v top short i more) = climb_low v top (above_low k v (stands (above_kinds p k) v i)) more
+
     -- a class under a type of the framework by number is so by names
-    pub may_outward : (kind class top : ℕ) → class_place p kind ≡ Some class → IsFrom p (object_number p) kind top → top < length p.types → is_outer p (object_number p) top ≡ true → is_outward (named p) (type_at p kind) ≡ true
-    may_outward kind class top place from low outer = by from
+    pub may_outward : (kind class top : ℕ) → class_place p kind ≡ Some class → IsFrom p (object_number p) kind top → is_outer p (object_number p) top ≡ true → is_outward (named p) (type_at p kind) ≡ true
+    may_outward kind class top place from outer = by from
       where
         away : is_some (class_of p top) ≡ false
         away = not_true (is_some (class_of p top)) (and_left (not (is_some (class_of p top))) (not (nat_eq top (object_number p))) outer)
@@ -250,25 +271,26 @@ module _ (p : Program) (o : Outside) (asked : IsAsked p o) where
         other : nat_eq top (object_number p) ≡ false
         other = not_true (nat_eq top (object_number p)) (and_right (not (is_some (class_of p top))) (not (nat_eq top (object_number p))) outer)
 
-        strange : text_eq (type_at p top) object_type ≡ false
-        strange = untrue (text_eq (type_at p top) object_type)
+        strange : top < length p.types → text_eq (type_at p top) object_type ≡ false
+        strange low = untrue (text_eq (type_at p top) object_type)
             (λ h. clash (nat_eq top (object_number p)) (number_test top (object_number p) (sym (object_found top low (text_sound (type_at p top) object_type h)))) other)
+
+        above_of_place : Option ℕ → List ℕ
+        above_of_place x = above_of (option_and_then (slice_get p.classes) x)
 
         over : (a b : ℕ) → Climbs p a b → a ≡ object_number p → b ≡ top → is_outward (named p) (type_at p kind) ≡ true
         over a b (Climbs.Itself k) same is = clash (nat_eq top (object_number p)) (number_test top (object_number p) (sym is ∙ same)) other
-        over a b (Climbs.Through k v u short i more) same is =
-            nothing_in v (subst (λ x. In v (above_of_place x)) (ap (class_place p) same ∙ object_nowhere) (stands (above_kinds p k) v i))
-          where
-            above_of_place : Option ℕ → List ℕ
-            above_of_place x = above_of (option_and_then (slice_get p.classes) x)
+        over a b (Climbs.Through k v u short i more) same is = nothing_in v (subst (λ x. In v (above_of_place x)) (ap (class_place p) same ∙ object_nowhere) (stands (above_kinds p k) v i))
 
         by : IsFrom p (object_number p) kind top → is_outward (named p) (type_at p kind) ≡ true
         by (inl way) = over (object_number p) top way refl refl
         by (inr way) =
             let d = defined p kind class place in
+            let short = place_short p o asked kind class place in
+            let low = climb_low kind top short way in
             let is : class_named (named p) (type_at p kind) ≡ Some (named_class p d.class) =
-            class_by_number p asked.sound kind (place_short p o asked kind class place) ∙ ap (option_and_then (class_at p)) place ∙ ap (option_map (named_class p)) d.is in
-            reaches (length (named p).classes) (type_at p kind) (type_at p top) (named_class p d.class) (whole (type_at p kind)) is (climbs_path kind top way) (undefined top low away) strange
+            class_by_number p asked.sound kind short ∙ ap (option_and_then (class_at p)) place ∙ ap (option_map (named_class p)) d.is in
+            reaches (length (named p).classes) (type_at p kind) (type_at p top) (named_class p d.class) (whole (type_at p kind)) is (climbs_path kind top way) (undefined top low away) (strange low)
 
     -- ---- calls on objects
 
@@ -408,15 +430,15 @@ module _ (p : Program) (o : Outside) (asked : IsAsked p o) where
         where
           by : MayCall p tables.object kind c.name → (is_outward (named p) (type_at p kind) || spelled.is_common (text_at p c.name.name) (signature_at p c.name.proto)) ≡ true
           by (inl w) = or_left (is_outward (named p) (type_at p kind)) (spelled.is_common (text_at p c.name.name) (signature_at p c.name.proto))
-              (may_outward kind c.class w.top c.is_class (inr w.climbs) w.short (subst (λ z. is_outer p z w.top ≡ true) object_is w.outer))
+              (may_outward kind c.class w.top c.is_class (inr w.climbs) (subst (λ z. is_outer p z w.top ≡ true) object_is w.outer))
           by (inr h) = or_right (is_outward (named p) (type_at p kind)) (spelled.is_common (text_at p c.name.name) (signature_at p c.name.proto)) (common_test p c.name.name c.name.proto ∙ h)
 
       -- what it calls by a method of a class above it, where a type of the framework stands above it
       pub called_stand : (kind class top above : ℕ) (y : Fact) → s.made (type_at p kind) ≡ true → class_place p kind ≡ Some class → IsFrom p tables.object kind top → is_outer p tables.object top ≡ true
-          → top < length p.types → IsFrom p tables.object kind above → Inherited p tables.shut.items class above y → Stands p o s y
-      called_stand kind class top above y made place from outer short over i =
+          → IsFrom p tables.object kind above → Inherited p tables.shut.items class above y → Stands p o s y
+      called_stand kind class top above y made place from outer over i =
           let w = i.from.by in
-          let outward = may_outward kind class top place (number_from kind top from) short (subst (λ z. is_outer p z top ≡ true) object_is outer) in
+          let outward = may_outward kind class top place (number_from kind top from) (subst (λ z. is_outer p z top ≡ true) object_is outer) in
           inherited_stand i.from.method.name kind class w.name w.is_name place made
           (or_left (is_outward (named p) (type_at p kind)) (spelled.is_common (text_at p w.name.name) (signature_at p w.name.proto)) outward) above i.above i.defined i.place i.is_class (number_from kind above over)
           y (stands (open_facts p tables.shut.items (inherited p class i.above w.name.name w.name.proto)) y w.is)

@@ -140,8 +140,8 @@ record Worthy (i : Insn) (c : Insn) : Type 0 where
   pub encodable : is_encodable c ≡ true
   pub short : units_of c (pos 0) ≤ units_of i (pos 0)
 
-made : (i c : Insn) → Worthy i c → worth i (Some c) ≡ Some c
-made i c w = ap (λ (b : Bool). elim b as (λ b. Option Insn) [ true ↦ Some c | false ↦ None ])
+worth_is : (i c : Insn) → Worthy i c → worth i (Some c) ≡ Some c
+worth_is i c w = ap (λ (b : Bool). elim b as (λ b. Option Insn) [ true ↦ Some c | false ↦ None ])
     (and_both (is_encodable c) (nat_le (units_of c (pos 0)) (units_of i (pos 0))) w.encodable (le-leb (units_of c (pos 0)) (units_of i (pos 0)) w.short))
 
 -- A constant in place of a form: that of 0, or of the known number, by what the value holds.
@@ -171,7 +171,7 @@ module _ (p : Program) (i : Insn) (to : ℕ) (wide : Bool) (result : result_of i
         constant = c;
         is = it.is;
         about = it.about;
-        made = into it.number ∙ ap (λ (b : Bool). worth i (number_into to b it.number)) e ∙ ap (λ (k : Number). worth i (number_into to false k)) same ∙ ap (worth i) is ∙ made i c w;
+        made = into it.number ∙ ap (λ (b : Bool). worth i (number_into to b it.number)) e ∙ ap (λ (k : Number). worth i (number_into to false k)) same ∙ ap (worth i) is ∙ worth_is i c w;
       }
 
       by : (it.number ≡ zero_number false) ⊎ (it.number ≡ Word n) → HasConstant i v false
@@ -191,7 +191,7 @@ module _ (p : Program) (i : Insn) (to : ℕ) (wide : Bool) (result : result_of i
         constant = c;
         is = it.is;
         about = it.about;
-        made = into it.number ∙ ap (λ (b : Bool). worth i (number_into to b it.number)) e ∙ ap (λ (k : Number). worth i (number_into to true k)) same ∙ ap (worth i) is ∙ made i c w;
+        made = into it.number ∙ ap (λ (b : Bool). worth i (number_into to b it.number)) e ∙ ap (λ (k : Number). worth i (number_into to true k)) same ∙ ap (worth i) is ∙ worth_is i c w;
       }
 
       by : (it.number ≡ zero_number true) ⊎ (it.number ≡ Wide n) → HasConstant i v true

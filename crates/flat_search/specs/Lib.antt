@@ -1,0 +1,5 @@
+pub mod Flats
+pub mod Tables
+pub mod Grounded
+pub mod States
+pub mod Spots

@@ -1,26 +1,46 @@
--- A position at which the search looks.
-use Rattle.std.specs.Prelude.{◌≡◌, ℕ, List, Some, slice_get}
+-- The code of a method, and a position at which the search looks.
+use Rattle.std.specs.Prelude.{◌≡◌, ℕ, List, Option, Some, slice_get, Contains}
 use Rattle.program_model.specs.declared.program.Program.{Program}
 use Rattle.program_model.specs.Lookups.{method_at}
+use Rattle.insn_set.specs.declared.form.Insn.{Insn}
 use Rattle.dom_frame.specs.Registers.{Registers}
+use Rattle.dom_frame.specs.Steps.{switched}
 use Rattle.flat_bounds.specs.Under.{ArriveUnder}
 use Rattle.flat_bounds.specs.Bounds.{FlatTable}
+use Rattle.flat_search.specs.declared.spots.Home.{Home}
 use Rattle.flat_search.specs.declared.spots.Spot.{Spot}
+use Rattle.flat_search.specs.Tables.{FrameUnder}
 
--- it is a position of the code of a method of the program
+-- it is the code of a method of the program
+pub record IsHome (p : Program) (h : Home) : Type 0 where
+  pub has_method : method_at p h.at ≡ Some h.method.now
+  pub has_body : h.method.now.body ≡ Some h.body.now
+
+-- and a position of it
 pub record IsSpot (p : Program) (s : Spot) : Type 0 where
-  pub has_method : method_at p s.at ≡ Some s.method.now
-  pub has_body : s.method.now.body ≡ Some s.body.now
-  pub has_insn : slice_get s.body.now.insns s.position ≡ Some s.insn.now
+  pub home : IsHome p s.home
+  pub has_insn : slice_get s.home.body.now.insns s.position ≡ Some s.insn.now
 
--- the registers there are under what a flat table says of the position
+-- registers that come to a position of the code are under what a flat table says of it
+abbrev pub LandsUnder : FlatTable → Home → ℕ → Registers → Type 0
+LandsUnder b h target x = ArriveUnder x (b.registers h.method.now.name target)
+
+-- the same of what comes there, if anything does
+abbrev pub MayLand : FlatTable → Home → ℕ → Option Registers → Type 0
+MayLand b h target o = FrameUnder o (b.registers h.method.now.name target)
+
+-- and of the registers at the position itself
 abbrev pub ComesUnder : FlatTable → Spot → Registers → Type 0
-ComesUnder b s x = ArriveUnder x (b.registers s.method.now.name s.position)
-
--- they come to a position of the same code
-abbrev pub LandsUnder : FlatTable → Spot → ℕ → Registers → Type 0
-LandsUnder b s target x = ArriveUnder x (b.registers s.method.now.name target)
+ComesUnder b s x = LandsUnder b s.home s.position x
 
 -- they come to each of some positions
-abbrev pub AllLand : FlatTable → Spot → List ℕ → Registers → Type 0
-AllLand b s targets x = (i target : ℕ) → slice_get targets i ≡ Some target → LandsUnder b s target x
+abbrev pub AllLand : FlatTable → Home → List ℕ → Registers → Type 0
+AllLand b h targets x = (target : ℕ) → Contains targets target → LandsUnder b h target x
+
+-- what goes along each of some edges
+abbrev pub AllGo : FlatTable → Home → List (ℕ × Registers) → Type 0
+AllGo b h edges = (q : ℕ × Registers) → Contains edges q → LandsUnder b h q.0 q.1
+
+-- what is left at each target of a switch
+abbrev pub CasesLand : FlatTable → Home → Insn → List ℕ → Registers → Type 0
+CasesLand b h i targets x = (place target : ℕ) → slice_get targets place ≡ Some target → MayLand b h target (switched place i x)

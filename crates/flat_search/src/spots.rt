@@ -2,13 +2,19 @@
 
 use program_model::{Body, Insn, Method, MethodAt};
 
-/// A position of the code of a method, by the places of the method and of its code among all bodies, with its instruction.
+/// The code of a method, by the place of the method and by its own place among all bodies.
 #[derive(Clone, Copy)]
-pub(crate) struct Spot<'a> {
+pub(crate) struct Home<'a> {
     pub(crate) at: MethodAt,
     pub(crate) code: u32,
     pub(crate) method: &'a Method,
     pub(crate) body: &'a Body,
+}
+
+/// A position of such code, with its instruction.
+#[derive(Clone, Copy)]
+pub(crate) struct Spot<'a> {
+    pub(crate) home: Home<'a>,
     pub(crate) position: u32,
     pub(crate) insn: &'a Insn,
 }

@@ -54,15 +54,15 @@ nearest_above q s t n e = by (nearest q s t) refl (sym (ap (λ b. kind_eq (if b 
     by (Some c) i d = i ∙ ap Some (text_sound c t d)
 
 -- so the class itself is one of the program
+abbrev common : NamedProgram → Text → List NamedClass → Option Text
+common q t cs = option_map (λ (c : NamedClass). c.name) (find (λ (c : NamedClass). list_any (λ (d : NamedClass). text_eq c.name d.name) (name.line_of q t)) cs)
+
 lower_known : (p : Program) (s t u : Text) → nearest (named p) s t ≡ Some u → HasName p s
 lower_known p s t u e = by (class_named (named p) s) refl
   where
-    abbrev common : List NamedClass → Option Text
-    common cs = option_map (λ (c : NamedClass). c.name) (find (λ (c : NamedClass). list_any (λ (d : NamedClass). text_eq c.name d.name) (name.line_of (named p) t)) cs)
-
-    nowhere : (n : ℕ) → class_named (named p) s ≡ None → common (line_from n (named p) s) ≡ Some u → HasName p s
+    nowhere : (n : ℕ) → class_named (named p) s ≡ None → common (named p) t (line_from n (named p) s) ≡ Some u → HasName p s
     nowhere zero f g = none_some u g
-    nowhere (suc n) f g = none_some u (sym (ap (λ (o : Option NamedClass). common (elim o as (λ o. List NamedClass) [
+    nowhere (suc n) f g = none_some u (sym (ap (λ (o : Option NamedClass). common (named p) t (elim o as (λ o. List NamedClass) [
       | Some c ↦ c ∷ (if is_interface c.flags then [] else line_from n (named p) c.superclass)
       | None ↦ []
     ])) f) ∙ g)
@@ -144,7 +144,7 @@ module _ (p : Program) (t : Tables) (d : Told p t) where
 module _ (p : Program) (h : Hierarchy) (w : is_well_formed p ≡ true) (r : IsResolved p h) (at : MethodAt) (x : Table) (o : TypesFor p h at x)
     (c : Class) (m : Method) (b : Body) (is_class : slice_get p.classes at.class ≡ Some c) (is_method : method_at p at ≡ Some m) (code : m.body ≡ Some b)
     (u : typed.Table) (least : typed.IsLeastTyping (named p) (named_class p c) (named_method p m) (body_of p b) u) (n : ℕ) (ks : by_name.Kinds) (there : typed.state_at u n ≡ Some ks) where
-  t : Tables
+  abbrev t : Tables
   t = o.verifier.tables
 
   d : Told p t
@@ -175,13 +175,10 @@ module _ (p : Program) (h : Hierarchy) (w : is_well_formed p ≡ true) (r : IsRe
       by None i f g = absurd (true≢false (sym f))
       by (Some a) i f g = subst (IsClassAt p v) (sym (before_there x n on a i)) (class_at p t d v (kind_at a.registers on) up down)
         where
-          abbrev other : by_name.Kinds
-          other = kinds_named p made a
-
           up : is_below (named p) (name.Class v) (kind_named p (kind_at a.registers on)) ≡ true
-          up = sym (ap (λ z. is_below (named p) z (by_name.kind_at other.registers on)) e ∙ ap (is_below (named p) (name.Class v)) (at_named p a.registers on))
-              ∙ kind_under (named p) ks.registers other.registers on (registers_under (named p) ks other f)
+          up = sym (ap (λ z. is_below (named p) z (by_name.kind_at (kinds_named p made a).registers on)) e ∙ ap (is_below (named p) (name.Class v)) (at_named p a.registers on))
+              ∙ kind_under (named p) ks.registers (kinds_named p made a).registers on (registers_under (named p) ks (kinds_named p made a) f)
 
           down : is_below (named p) (kind_named p (kind_at a.registers on)) (name.Class v) ≡ true
           down = sym (ap (λ z. is_below (named p) z (by_name.kind_at ks.registers on)) (at_named p a.registers on) ∙ ap (is_below (named p) (kind_named p (kind_at a.registers on))) e)
-              ∙ kind_under (named p) other.registers ks.registers on (registers_under (named p) other ks g)
+              ∙ kind_under (named p) (kinds_named p made a).registers ks.registers on (registers_under (named p) (kinds_named p made a) ks g)

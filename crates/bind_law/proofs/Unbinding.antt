@@ -5,7 +5,7 @@ use Rattle.std.specs.Option.{option_map}
 use Rattle.std.proofs.Math.Nat.{min-eq_left}
 use Rattle.std.specs.Cmp.Lexicographic.{bytes_decides, pointwise_decides}
 use Rattle.lemmas.proofs.Bools.{and_both, untrue}
-use Rattle.lemmas.proofs.Lists.{get_map, got_map, got_short, map_long}
+use Rattle.lemmas.proofs.Lists.{get_map, got_short, map_long}
 use Rattle.lemmas.proofs.Options.{before_map, none_some, some_same}
 use Rattle.insn_set.specs.declared.ops.InvokeKind.{InvokeKind}
 use Rattle.insn_set.specs.declared.ops.InvokeKind.TheVariants as call
@@ -54,6 +54,7 @@ use Rattle.receivers.proofs.Walks.{under_self}
 use Rattle.rewrite_pass.specs.Plans.{word}
 use Rattle.type_bridge.proofs.Bodies.{code}
 use Rattle.type_bridge.proofs.Grounds.{invoke_fits}
+use Rattle.type_bridge.proofs.Programs.{index_map}
 use Rattle.type_bridge.proofs.Refused.{refused_method}
 use Rattle.verify.specs.declared.kinds.Kind.TheVariants as kind
 use Rattle.verify.specs.Typings.{Table, kind_before}
@@ -94,10 +95,10 @@ module _ (p : Program) (w : is_well_formed p ≡ true) (once : (class : ℕ) →
 
   -- ---- the call
 
-  coded_body : (b : Body) × ((m.body ≡ Some b) × (body_of p b ≡ y.body))
+  abbrev coded_body : (b : Body) × ((m.body ≡ Some b) × (body_of p b ≡ y.body))
   coded_body = before_map (body_of p) m.body y.body y.coded
 
-  pub b : Body
+  abbrev pub b : Body
   b = coded_body.0
 
   pub has_code : m.body ≡ Some b
@@ -106,10 +107,10 @@ module _ (p : Program) (w : is_well_formed p ≡ true) (once : (class : ℕ) →
   pub same_code : body_of p b ≡ y.body
   same_code = coded_body.1.1
 
-  position : IsInsn p b n (form.Invoke y.kind y.key (y.receiver ∷ y.args))
+  abbrev position : IsInsn p b n (form.Invoke y.kind y.key (y.receiver ∷ y.args))
   position = insn_there p b n (form.Invoke y.kind y.key (y.receiver ∷ y.args)) (ap (λ (z : NamedBody). form_at z n) same_code ∙ y.has_form)
 
-  pub i : Insn
+  abbrev pub i : Insn
   i = position.insn
 
   pub there : slice_get b.insns n ≡ Some i
@@ -122,7 +123,7 @@ module _ (p : Program) (w : is_well_formed p ≡ true) (once : (class : ℕ) →
   short_method = invoke_fits p y.kind called.method (y.receiver ∷ y.args)
       (subst (λ (i : Insn). numbers_fit i p ≡ true) called.is ((code p w s k c j m b is_class has has_code).numbers n i there))
 
-  q : MethodName
+  abbrev q : MethodName
   q = (entry_at p.methods called.method short_method).0
 
   is_named : slice_get p.methods called.method ≡ Some q
@@ -137,7 +138,7 @@ module _ (p : Program) (w : is_well_formed p ≡ true) (once : (class : ℕ) →
     finds_at_place : (e : ℕ) (d : Class) → slice_get p.classes e ≡ Some d → is_under p e receiver ≡ true → FindsNumber p q e found
     finds_at_place e d f u = found_numbered p w once r called.method q e d found is_named f
         (ap (name.finds_within (named p) (type_at p d.name)) called.key_is
-        ∙ y.finds (named_class p d) (e, let l = got_short p.classes e d f in let g = map_long (named_class p) p.classes in omega (arith, l, g), got_map (named_class p) p.classes e d f)
+        ∙ y.finds (named_class p d) (e, let l = got_short p.classes e d f in let g = map_long (named_class p) p.classes in omega (arith, l, g), index_map (named_class p) p.classes e d (named_class p d) f)
         (ap (is_own_under (named p) (type_at p d.name)) (sym z.has.name) ∙ (under_named p w once e receiver d z.has.class f z.has.there ∙ u)))
 
     top : FindsNumber p q receiver found
@@ -213,53 +214,55 @@ module _ (p : Program) (h : Hierarchy) (facts : Facts) (admitted : List Bool) (w
   whole_place : (k : ℕ) (c : Class) → slice_get p.classes k ≡ Some c → (j : ℕ) (m : Method) → slice_get c.methods j ≡ Some m → word j ≡ j
   whole_place k c g j m e = min-eq_left (let l = got_short c.methods j m e in let f = few_members p w k c g in omega (arith, l, f))
 
-  pub none_bound : NoneBindable p admitted
-  none_bound k j c m e f adm n found y plain = by (is_any_open p code_here) refl
-    where
-      abbrev code_here : Body
-      code_here = b p w r.of.once r.of.ranked k j c m e f n found y
+  module _ (k j : ℕ) (c : Class) (m : Method) (e : slice_get p.classes k ≡ Some c) (f : slice_get c.methods j ≡ Some m) (adm : slice_index_or admitted m.name false ≡ true)
+      (n : ℕ) (found : Found) (y : name.IsBindable (named p) (named_class p c) (named_method p m) n found) (plain : is_plain (named p) y.class ≡ true) where
+    abbrev code_here : Body
+    code_here = b p w r.of.once r.of.ranked k j c m e f n found y
 
-      has : m.body ≡ Some code_here
-      has = has_code p w r.of.once r.of.ranked k j c m e f n found y
+    has_here : m.body ≡ Some code_here
+    has_here = has_code p w r.of.once r.of.ranked k j c m e f n found y
 
-      abbrev at : MethodAt
-      at = record { class = word k; place = word j }
+    abbrev at : MethodAt
+    at = record { class = word k; place = word j }
 
-      none : NoneLeftAt p h facts at m code_here
-      none = left k j c m code_here e f adm has
+    none : NoneLeftAt p h facts at m code_here
+    none = left k j c m code_here e f adm has_here
 
-      is_class : slice_get p.classes at.class ≡ Some c
-      is_class = ap (slice_get p.classes) (whole_class k c e) ∙ e
+    at_class : slice_get p.classes at.class ≡ Some c
+    at_class = ap (slice_get p.classes) (whole_class k c e) ∙ e
 
-      is_method : look.method_at p at ≡ Some m
-      is_method = ap (option_and_then (λ (c : Class). slice_get c.methods at.place)) is_class ∙ (ap (slice_get c.methods) (whole_place k c e j m f) ∙ f)
+    at_method : look.method_at p at ≡ Some m
+    at_method = ap (option_and_then (λ (c : Class). slice_get c.methods at.place)) at_class ∙ (ap (slice_get c.methods) (whole_place k c e j m f) ∙ f)
 
-      least : typed.IsLeastTyping (named p) (named_class p c) (named_method p m) (body_of p code_here) y.table
-      least = subst (λ (z : NamedBody). typed.IsLeastTyping (named p) (named_class p c) (named_method p m) z y.table) (sym (same_code p w r.of.once r.of.ranked k j c m e f n found y)) y.least
+    least : typed.IsLeastTyping (named p) (named_class p c) (named_method p m) (body_of p code_here) y.table
+    least = subst (λ (z : NamedBody). typed.IsLeastTyping (named p) (named_class p c) (named_method p m) z y.table) (sym (same_code p w r.of.once r.of.ranked k j c m e f n found y)) y.least
 
-      here : IsPlainly p y.class
-      here = plain_there p w r.of.once y.class plain
+    here : IsPlainly p y.class
+    here = plain_there p w r.of.once y.class plain
 
-      -- by a typing that gives the receiver the class's kind
-      absent : (x : Table) → (is_any_open p code_here ≡ true → none.table ≡ Some x) → (z : IsClassAt p y.class (kind_before x n y.receiver)) → interface_at p z.has.place ≡ false → ⊥
-      absent x asked z q = none.unbindable x asked n (i p w r.of.once r.of.ranked k j c m e f n found y) (there p w r.of.once r.of.ranked k j c m e f n found y)
-          (subst (λ (v : ℕ). IsBindable p v x n (i p w r.of.once r.of.ranked k j c m e f n found y)) (sym (whole_class k c e)) (numbered p w r.of.once r.of.ranked k j c m e f n found y x z q))
+    -- not by a typing that gives the receiver the class's kind
+    absent : (x : Table) → (is_any_open p code_here ≡ true → none.table ≡ Some x) → (z : IsClassAt p y.class (kind_before x n y.receiver)) → interface_at p z.has.place ≡ false → ⊥
+    absent x asked z q = none.unbindable x asked n (i p w r.of.once r.of.ranked k j c m e f n found y) (there p w r.of.once r.of.ranked k j c m e f n found y)
+        (subst (λ (v : ℕ). IsBindable p v x n (i p w r.of.once r.of.ranked k j c m e f n found y)) (sym (whole_class k c e)) (numbered p w r.of.once r.of.ranked k j c m e f n found y x z q))
 
-      -- classes of one name stand at one place
-      plain_at : (a : HasName p y.class) → interface_at p a.place ≡ false
-      plain_at a = sym (interface_known p w r.of.once a.place a.class a.there)
-          ∙ (ap (λ (t : Text). is_some (find.interface_named (named p) t)) (a.name ∙ sym here.has.name) ∙ (interface_known p w r.of.once here.has.place here.has.class here.has.there ∙ here.plain))
+    -- classes of one name are plain together
+    plain_at : (a : HasName p y.class) → interface_at p a.place ≡ false
+    plain_at a = sym (interface_known p w r.of.once a.place a.class a.there)
+        ∙ (ap (λ (t : Text). is_some (find.interface_named (named p) t)) (a.name ∙ sym here.has.name) ∙ (interface_known p w r.of.once here.has.place here.has.class here.has.there ∙ here.plain))
 
-      open_code : (t : Option Table) → none.table ≡ t → IsJudged p h at t → ⊥
-      open_code None g v = refused_method p h w r at v.0 v.1.0 v.1.1.0 v.1.1.1 c m code_here is_class is_method has y.table least.typing
-      open_code (Some x) g v =
-          let z : IsClassAt p y.class (kind_before x n y.receiver) = receiver_class p h w r at x v c m code_here is_class is_method has y.table least n y.kinds y.there y.receiver y.class y.typed in
-          absent x (λ a. g) z (plain_at z.has)
+    open_code : (t : Option Table) → none.table ≡ t → IsJudged p h at t → ⊥
+    open_code None g v = refused_method p h w r at v.0 v.1 v.2 v.3 c m code_here at_class at_method has_here y.table least.typing
+    open_code (Some x) g v =
+        let z : IsClassAt p y.class (kind_before x n y.receiver) = receiver_class p h w r at x v c m code_here at_class at_method has_here y.table least n y.kinds y.there y.receiver y.class y.typed in
+        absent x (λ a. g) z (plain_at z.has)
 
-      by : (v : Bool) → is_any_open p code_here ≡ v → ⊥
-      by true g = open_code none.table refl (none.judged g)
-      by false g = absent (table_with n y.receiver (kind.Program here.has.place)) (λ a. absurd (true≢false (sym a ∙ g)))
-          (record { has = here.has; is = before_with n y.receiver (kind.Program here.has.place) }) here.plain
+    never : ⊥
+    never = by (is_any_open p code_here) refl
+      where
+        by : (v : Bool) → is_any_open p code_here ≡ v → ⊥
+        by true g = open_code none.table refl (none.judged g)
+        by false g = absent (table_with n y.receiver (kind.Program here.has.place)) (λ a. absurd (true≢false (sym a ∙ g)))
+            (record { has = here.has; is = before_with n y.receiver (kind.Program here.has.place) }) here.plain
 
 pub none_bindable : (p : Program) (h : Hierarchy) (facts : Facts) (admitted : List Bool) → is_well_formed p ≡ true → IsResolved p h → NoneLeft p h facts admitted → NoneBindable p admitted
-none_bindable p h facts admitted w r left = none_bound p h facts admitted w r left
+none_bindable p h facts admitted w r left k j c m e f adm n found y plain = never p h facts admitted w r left k j c m e f adm n found y plain

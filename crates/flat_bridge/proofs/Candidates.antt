@@ -150,7 +150,7 @@ module _ (p : NamedProgram) (s : Family) (above : KeepsAbove p s) (regular : IsR
 
           by : (o : Option NamedClass) → class_named p t ≡ o → ((v : Text) → ends p m v ≡ true → Path p v u → FoundAbove (chain_from m p v)) → FoundAbove (chain (class_named p t))
           by None i ih none = none_above t u d i way at
-          by (Some c) i ih = subst (λ o. FoundAbove (chain o)) (sym i) (class_step m t c e i way ih)
+          by (Some c) i ih none = subst (λ o. FoundAbove (chain o)) (sym i) (class_step m t c e i way ih) none
 
       -- ---- among what the object answers to
 

@@ -56,6 +56,7 @@ use Rattle.name_bridge.proofs.Candidates.{candidates_by_number, Names, version_t
 use Rattle.name_bridge.proofs.Resolved.{static_by_number, super_by_number}
 use Rattle.name_bridge.proofs.Tables.{method_class, method_is, method_name, method_proto}
 use Rattle.facts_kept.proofs.Fits.{Owner, owner_of}
+use Rattle.facts_kept.proofs.Places.{own_key}
 use Rattle.pass_defs.specs.Calls.{found_by, may_find, super_candidates}
 use Rattle.pass_defs.specs.Live.{Family, HasBody, IsClosedFamily, is_concrete, unconditional}
 use Rattle.pass_defs.specs.Mentions.{a_field, a_method, a_type, fields_in, fields_in_body, types_in, types_in_body, types_of_field}
@@ -290,7 +291,7 @@ module _ (p : Program) (o : Outside) (asked : IsAsked p o) (s : Family) (closed 
 
       searched_super : find.finds_super (named p) k.class key ≡ search_at p (finds_super_of p at.class (Some q))
       searched_super =
-          ap (λ t. find.finds_super (named p) t key) (owned p asked.sound asked.once at m e).class_is
+          ap (λ t. find.finds_super (named p) t key) (ap (λ k. k.class) (own_key p asked.sound at.class at.place owner.class m owner.is_class owner.is_method).named)
           ∙ super_by_number p asked.sound asked.once owner.class.name at.class (class_parts p asked.sound at.class owner.class owner.is_class).name (own_place p asked.once at.class owner.class owner.is_class) owner.class owner.is_class n (low call.Super n args j)
           ∙ ap (λ x. search_at p (finds_super_of p at.class x)) entry
 
@@ -309,16 +310,16 @@ module _ (p : Program) (o : Outside) (asked : IsAsked p o) (s : Family) (closed 
       first y e i = in_front f (found_by (find.finds_super (named p) k.class key)) (super_candidates (named p) key) (subst (λ z. In f (found_by z)) (sym (searched_super ∙ ap (search_at p) e)) i)
 
       interface_found : (place : ℕ) → is_037 p.version ≡ true → class_place p q.class ≡ Some place → is_interface (slice_get p.classes place) ≡ true → In a (candidates p (place ∷ []) q.name q.proto) → In f (super_candidates (named p) key)
-      interface_found place new there flag i =
+      interface_found place new stood flag i =
           let name = method_is p asked.sound n q entry in
           let kind_low = method_class p asked.sound n q entry in
           let hn = method_name p asked.sound n q entry in
           let hq = method_proto p asked.sound n q entry in
-          let listed : In a (candidates p (places_of p (q.class ∷ [])) q.name q.proto) = subst (λ x. In a (candidates p (placed x []) q.name q.proto)) (sym there) i in
+          let listed : In a (candidates p (places_of p (q.class ∷ [])) q.name q.proto) = subst (λ x. In a (candidates p (placed x []) q.name q.proto)) (sym stood) i in
           let all = candidates_by_number p asked.sound q.name q.proto hn hq asked.once (q.class ∷ []) (types_one p q.class kind_low) in
           let fs = find.candidates (named p) (type_at p q.class ∷ []) (text_at p q.name) (signature_at p q.proto) in
           let among : In f fs = names_in p (candidates p (places_of p (q.class ∷ [])) q.name q.proto) fs all a f listed found in
-          let is = interface_is p o asked q.class kind_low (ap (λ x. is_interface (option_and_then (slice_get p.classes) x)) there ∙ flag) in
+          let is = interface_is p o asked q.class kind_low (ap (λ x. is_interface (option_and_then (slice_get p.classes) x)) stood ∙ flag) in
           subst (λ z. In f (super_candidates (named p) z)) (sym name)
           (subst (λ b. In f (elim b as (λ b. List Found) [ true ↦ fs | false ↦ [] ])) (sym (both (find.is_037 p.version) (is_some (interface_named (named p) (type_at p q.class))) (version_test p.version ∙ new) is)) among)
 
@@ -326,9 +327,9 @@ module _ (p : Program) (o : Outside) (asked : IsAsked p o) (s : Family) (closed 
       super_among i = by (is_037 p.version) refl i
         where
           by_flag : (place : ℕ) (b : Bool) → is_037 p.version ≡ true → class_place p q.class ≡ Some place → is_interface (slice_get p.classes place) ≡ b → In a (interface_call p at.class q place b) → In f (may_find (named p) k.class call.Super key)
-          by_flag place true new there flag i = in_back f (found_by (find.finds_super (named p) k.class key)) (super_candidates (named p) key) (interface_found place new there flag i)
-          by_flag place false new there flag i = first (finds_above p at.class q)
-              (ap (λ b. cond b (finds_super_037 p at.class q (class_place p q.class)) (finds_above p at.class q)) new ∙ ap (finds_super_037 p at.class q) there
+          by_flag place true new stood flag i = in_back f (found_by (find.finds_super (named p) k.class key)) (super_candidates (named p) key) (interface_found place new stood flag i)
+          by_flag place false new stood flag i = first (finds_above p at.class q)
+              (ap (λ b. cond b (finds_super_037 p at.class q (class_place p q.class)) (finds_above p at.class q)) new ∙ ap (finds_super_037 p at.class q) stood
               ∙ ap (λ b. cond b (look_up.finds_among p (place ∷ []) q.name q.proto) (finds_above p at.class q)) flag) (above_found i)
 
           by_lists : (b : Bool) → lists ≡ b → is_037 p.version ≡ true → class_place p q.class ≡ None → In a (cond b [] (above_call p at.class q)) → In f (may_find (named p) k.class call.Super key)
@@ -339,7 +340,7 @@ module _ (p : Program) (o : Outside) (asked : IsAsked p o) (s : Family) (closed 
 
           by_place : (x : Option ℕ) → class_place p q.class ≡ x → is_037 p.version ≡ true → In a (super_037 p at.class q lists x) → In f (may_find (named p) k.class call.Super key)
           by_place None away new i = by_lists lists refl new away i
-          by_place (Some place) there new i = by_flag place (is_interface (slice_get p.classes place)) new there refl i
+          by_place (Some place) stood new i = by_flag place (is_interface (slice_get p.classes place)) new stood refl i
 
           by : (b : Bool) → is_037 p.version ≡ b → In a (cond b (super_037 p at.class q lists (class_place p q.class)) (above_call p at.class q)) → In f (may_find (named p) k.class call.Super key)
           by true new i = by_place (class_place p q.class) refl new i

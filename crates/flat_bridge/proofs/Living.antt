@@ -239,8 +239,8 @@ module _ (p : Program) (o : Outside) (asked : IsAsked p o) (s : Family) (closed 
         ap is_some (starts_there i r.entry starts (looked_up p asked.sound (record { class = c; place = i }) k r.entry is r.is))
 
     coded_stand : (i : ℕ) → initialiser_place p c ≡ Some i → (is_037 p.version && has_flag k.flags 512) ≡ true → (m : Method) → In m k.methods → All (coded p m)
-    coded_stand i starts new m there = stand_if p o asked s (not (is_direct p m) && is_some m.body) (fact.Method m.name ∷ []) (λ h.
-        let j = placed_at k.methods m there in
+    coded_stand i starts new m stood = stand_if p o asked s (not (is_direct p m) && is_some m.body) (fact.Method m.name ∷ []) (λ h.
+        let j = placed_at k.methods m stood in
         let key = own_key p asked.sound c j.0 k m is j.1 in
         stand_one p o asked s (fact.Method m.name)
         (record {
@@ -251,7 +251,7 @@ module _ (p : Program) (o : Outside) (asked : IsAsked p o) (s : Family) (closed 
           live = ap s.methods key.named
               ∙ closed.above.defaults t (named_class p k) (named_method p m) (version_test p.version ∙ and_left (is_037 p.version) (has_flag k.flags 512) new) known live
               (sym (interface_flag k.flags) ∙ and_right (is_037 p.version) (has_flag k.flags 512) new) (has_start i starts)
-              (contained (named_method p m) (map (named_method p) k.methods) (in_map (named_method p) m k.methods there))
+              (contained (named_method p m) (map (named_method p) k.methods) (in_map (named_method p) m k.methods stood))
               (ap (λ b. b && is_some (named_method p m).body) (virtual_test p m) ∙ ap (λ b. not (is_direct p m) && b) (coded_test p m.body) ∙ h);
         }))
 
@@ -261,8 +261,8 @@ module _ (p : Program) (o : Outside) (asked : IsAsked p o) (s : Family) (closed 
         by : (x : Option ℕ) → initialiser_place p c ≡ x → All (starts_of p k c x)
         by None e = stand_none p o asked s
         by (Some i) e = stand_both p o asked s (found_facts p (Some (record { class = c; place = i }))) (defaults_of p k)
-            (place_stand p o asked s (Some (record { class = c; place = i })) (λ at m same there. closed.above.initialisers t (method_at p m.name) live
-            (starts_there i m e (subst (λ z. look.method_at p z ≡ Some m) (sym (some_same (record { class = c; place = i }) at same)) there))))
+            (place_stand p o asked s (Some (record { class = c; place = i })) (λ at m same stood. closed.above.initialisers t (method_at p m.name) live
+            (starts_there i m e (subst (λ z. look.method_at p z ≡ Some m) (sym (some_same (record { class = c; place = i }) at same)) stood))))
             (stand_if p o asked s (is_037 p.version && has_flag k.flags 512) (flat_map (coded p) k.methods) (λ new. stand_flat p o asked s (coded p) k.methods (coded_stand i e new)))
 
     marks_stand : All (all_named p (bases_of p) (marks_names k.marks))

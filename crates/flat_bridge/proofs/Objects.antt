@@ -98,7 +98,7 @@ module _ (p : Program) (s : Sound p) (once : (class : ℕ) → IsTwice p class �
     pub inherits_is : inherits (named p) (type_at p kind) n q ≡ option_and_then (found_at p) (finds_virtual p name proto class)
     inherits_is = ap (first_method is_virtual_method n q) chain_is ∙ first_by_number p is_virtual_method n q (own_virtual p name proto) (virtual_answers p s name proto hn hq) cs
 
-    answers_of : Option Found → List Found
+    abbrev answers_of : Option Found → List Found
     answers_of o = elim o as (λ o. List Found) [ Some f ↦ f ∷ [] | None ↦ find.candidates (named p) (flat_map (λ c. c.interfaces) (find.chain_of (named p) (type_at p kind))) n q ]
 
     -- what an object of the class answers to by number it answers to by names
@@ -373,7 +373,7 @@ module _ (p : Program) (o : Outside) (asked : IsAsked p o) where
         above_stand : s.made (type_at p kind) ≡ true → MayBack → (top above : ℕ) (k : Class) → class_place p top ≡ Some above → slice_get p.classes above ≡ Some k → IsFrom p (object_number p) kind top
             → finds_virtual p q.name q.proto class ≡ None → (is_037 p.version && not (member.is_common p q.name q.proto)) ≡ true → (a : MethodAt) → own_virtual p q.name q.proto above ≡ Some a
             → All (open_facts p tables.shut.items (Some a))
-        above_stand made may top above k there is from none new a own = open_stand a at
+        above_stand made may top above k stood is from none new a own = open_stand a at
           where
             hn : q.name < length p.strings
             hn = method_name p asked.sound number q entry
@@ -385,7 +385,7 @@ module _ (p : Program) (o : Outside) (asked : IsAsked p o) where
             d = named_class p k
 
             named_so : class_named (named p) (type_at p top) ≡ Some d
-            named_so = class_by_number p asked.sound top (place_short p o asked top above there) ∙ ap (option_and_then (class_at p)) there ∙ ap (option_map (named_class p)) is
+            named_so = class_by_number p asked.sound top (place_short p o asked top above stood) ∙ ap (option_and_then (class_at p)) stood ∙ ap (option_map (named_class p)) is
 
             version : is_037 p.version ≡ true
             version = and_left (is_037 p.version) (not (member.is_common p q.name q.proto)) new
@@ -404,16 +404,16 @@ module _ (p : Program) (o : Outside) (asked : IsAsked p o) where
             at m e away =
                 let g = found_named p asked.sound asked.once a m e in
                 let w = answer_above (named p) s closed.above (regular p o asked) (text_at p q.name) (signature_at p q.proto) plain_named (rooted_named version) (type_at p top) d named_so g.found (found_in_class g.found g.is)
-                (type_at p kind) (from_path kind top above from there) (inherits_is p asked.sound asked.once q.name q.proto hn hq kind class low place ∙ ap (option_and_then (found_at p)) none) newer in
+                (type_at p kind) (from_path kind top above from stood) (inherits_is p asked.sound asked.once q.name q.proto hn hq kind class low place ∙ ap (option_and_then (found_at p)) none) newer in
                 back_live made may m w.0 w.1.0 (w.1.1 ∙ g.key) away
 
         inherited_stand : s.made (type_at p kind) ≡ true → MayBack → (top above : ℕ) (k : Class) → class_place p top ≡ Some above → slice_get p.classes above ≡ Some k → IsFrom p (object_number p) kind top
             → All (open_facts p tables.shut.items (inherited p class above q.name q.proto))
-        inherited_stand made may top above k there is from = by (finds_virtual p q.name q.proto class) refl
+        inherited_stand made may top above k stood is from = by (finds_virtual p q.name q.proto class) refl
           where
             by_own : (x : Option MethodAt) → own_virtual p q.name q.proto above ≡ x → finds_virtual p q.name q.proto class ≡ None → (is_037 p.version && not (member.is_common p q.name q.proto)) ≡ true → All (open_facts p tables.shut.items x)
             by_own None e none new = stand_none p o asked s
-            by_own (Some a) e none new = above_stand made may top above k there is from none new a e
+            by_own (Some a) e none new = above_stand made may top above k stood is from none new a e
 
             by_new : (b : Bool) → (is_037 p.version && not (member.is_common p q.name q.proto)) ≡ b → finds_virtual p q.name q.proto class ≡ None → All (open_facts p tables.shut.items (cond b (own_virtual p q.name q.proto above) None))
             by_new false e none = stand_none p o asked s

@@ -1,9 +1,3 @@
-pub mod Constants
-pub mod Found
-pub mod Measured
-pub mod Plans
 pub mod Finding
-pub mod Invariants
-pub mod Judging
-pub mod Defaults
+pub mod Unfound
 pub mod Bounds

@@ -1,11 +1,6 @@
 pub mod Choices
 pub mod Constants
-pub mod Kinds
 pub mod Known
 pub mod Given
-pub mod Folded
-pub mod Allowed
-pub mod Folds
-pub mod Measure
 pub mod Asked
 pub mod Defaults

@@ -3,3 +3,4 @@ pub mod Tables
 pub mod Grounded
 pub mod States
 pub mod Spots
+pub mod Doing

@@ -15,10 +15,10 @@ use Rattle.call_targets.specs.Targeted.{call_at}
 use Rattle.closed_facts.specs.Fields.{begun_parts}
 use Rattle.closed_facts.specs.Found.{needs, own_number}
 use Rattle.flat_bounds.specs.Under.{IsUnder}
-use Rattle.flat_bounds.specs.Bounds.{FlatTable, IsReadied, before_of, taken_flat}
+use Rattle.flat_bounds.specs.Bounds.{FlatTable, IsReadied, StandsIn, before_of, taken_flat}
 use Rattle.flat_search.specs.declared.spots.Spot.{Spot}
 use Rattle.flat_search.specs.Spots.{LandsUnder, MayLand, CasesLand}
-use Rattle.flat_search.specs.States.{MayPass, MayBind}
+use Rattle.flat_search.specs.States.{MayPass, MayBind, IsListReadied}
 
 -- ---- classes
 
@@ -51,9 +51,18 @@ SendsUnder p live b class m i x = Unit {0}
 
 -- ---- where it goes on
 
+-- an instruction stands in code of the class at a place, if there is one
+abbrev pub StandsIf : Program → ℕ → Option Insn → Type 0
+StandsIf p class None = Unit {0}
+StandsIf p class (Some i) = StandsIn p class i
+
+-- a value is under what a position takes from elsewhere
+abbrev pub TakesUnder : Program → FlatTable → Spot → Parts → Type 0
+TakesUnder p b s v = IsUnder v (taken_flat p b s.home.at.class (before_of s.home.body.now s.position) s.insn.now)
+
 -- what is left behind a form that goes on at the next position, or at none
 abbrev pub StepsUnder : Program → FlatTable → Spot → Registers → Type 0
-StepsUnder p b s x = (v : Parts) → IsUnder v (taken_flat p b s.home.at.class (before_of s.home.body.now s.position) s.insn.now) → MayLand b s.home (s.position + 1) (after p s.insn.now v x)
+StepsUnder p b s x = (v : Parts) → TakesUnder p b s v → MayLand b s.home (s.position + 1) (after p s.insn.now v x)
 
 -- a switch past its keys, and at each of them
 pub record SwitchesUnder (b : FlatTable) (s : Spot) (targets : List ℕ) (x : Registers) : Type 0 where
@@ -78,3 +87,8 @@ GoesUnder p b s i x = StepsUnder p b s x
 -- what fields of a class hold before they are written
 abbrev pub BeginUnder : Program → FlatTable → List Field → Type 0
 BeginUnder p b fields = (i : ℕ) (f : Field) → slice_get fields i ≡ Some f → IsUnder (begun_parts p f) (b.fields f.name)
+
+-- ---- classes that are initialised
+
+abbrev pub AreListReadied : Program → FlatTable → List ℕ → Type 0
+AreListReadied p b interfaces = (i u : ℕ) → slice_get interfaces i ≡ Some u → IsListReadied p b u

@@ -1,5 +1,6 @@
 -- The code of a method, and a position at which the search looks.
-use Rattle.std.specs.Prelude.{◌≡◌, ℕ, List, Option, Some, slice_get, Contains}
+use Rattle.std.specs.Prelude.{◌≡◌, ℕ, List, [], ◌∷◌, Option, Some, slice_get}
+use Rattle.program_model.specs.declared.body.Handler.{Handler}
 use Rattle.program_model.specs.declared.program.Program.{Program}
 use Rattle.program_model.specs.Lookups.{method_at}
 use Rattle.insn_set.specs.declared.form.Insn.{Insn}
@@ -34,12 +35,12 @@ abbrev pub ComesUnder : FlatTable → Spot → Registers → Type 0
 ComesUnder b s x = LandsUnder b s.home s.position x
 
 -- they come to each of some positions
-abbrev pub AllLand : FlatTable → Home → List ℕ → Registers → Type 0
-AllLand b h targets x = (target : ℕ) → Contains targets target → LandsUnder b h target x
+abbrev pub EachLands : FlatTable → Home → List ℕ → Registers → Type 0
+EachLands b h [] x = Unit {0}
+EachLands b h (target ∷ targets) x = LandsUnder b h target x × EachLands b h targets x
 
--- what goes along each of some edges
-abbrev pub AllGo : FlatTable → Home → List (ℕ × Registers) → Type 0
-AllGo b h edges = (q : ℕ × Registers) → Contains edges q → LandsUnder b h q.0 q.1
+abbrev pub HandlersLand : FlatTable → Home → List Handler → Registers → Type 0
+HandlersLand b h handlers x = (i : ℕ) (handler : Handler) → slice_get handlers i ≡ Some handler → LandsUnder b h handler.position x
 
 -- what is left at each target of a switch
 abbrev pub CasesLand : FlatTable → Home → Insn → List ℕ → Registers → Type 0

@@ -170,6 +170,14 @@ impl<'a> Work<'a> {
         }
     }
 
+    /// Whether anything of a body waits.
+    pub(crate) fn has(&self, place: u32) -> bool {
+        match self.lows.as_slice().get(place as usize) {
+            Some(low) => *low != NONE || is_on(&self.risen, place),
+            None => false,
+        }
+    }
+
     /// The body is gone through.
     pub(crate) fn end(&mut self) {
         self.through = NONE;

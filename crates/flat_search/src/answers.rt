@@ -37,7 +37,7 @@ fn value_in(values: &[Value], number: u32) -> Value
 }
 
 /// What a method returns.
-fn result_of(state: &State, method: u32) -> Value
+pub(crate) fn result_of(state: &State, method: u32) -> Value
     ensures { (p : Program) (live : LiveSet) (b : FlatTable) → IsUnderBound p live b state.now → IsUnder result (b.results method) }
 {
     value_in(state.flats.results.as_slice(), method)

@@ -23,7 +23,7 @@ pub(crate) fn value_at(registers: &PatMap<Value>, register: u32) -> Value
 }
 
 /// Puts a value into a register.
-#[tactic(auto, using(crate::proofs::Registers::put_under))]
+#[tactic(auto, using(crate::proofs::Writing::put_under))]
 fn put(
     alloc: Global,
     own: &mut PatMap<Value>,

@@ -1,0 +1,3 @@
+use Rattle.std.specs.Prelude.{ℕ, Bool, false, List, slice_index_or}
+abbrev pub is_marked : List Bool → ℕ → Bool
+is_marked marks n = slice_index_or marks n false

@@ -1,0 +1,6 @@
+//! A probe.
+#![tactic(auto)]
+
+mod registers;
+mod tables;
+mod values;

@@ -42,7 +42,7 @@ comes_under x (Some y) a h under = by a (under y refl)
     by None k = k
     by (Some c) k = λ r. h r (c r) (k r)
 
-module _ (p : Program) (b : FlatTable) (t : Facts) (f : Flats) (within : AreWithin p t f) (under : AreFlatsUnder b f) where
+module _ (p : Program) (b : FlatTable) (t : Facts) (f : Flats) (within : AreWithin p t f) (under : AreFlatsUnder p b f) where
   method_within : (at : MethodAt) (m : Method) (body : Body) → method_at p at ≡ Some m → m.body ≡ Some body → MethodWithin t f m.name body
   method_within at m body is coded =
       let c = from_class (slice_get p.classes at.class) (λ (k : Class). slice_get k.methods at.place) m is in

@@ -35,7 +35,6 @@ fn are_first_within(count: u16, registers: &PatMap<Value>, others: &PatMap<Value
 }
 
 /// Whether there are no registers but those of a bank.
-#[tactic(auto, using(crate::proofs::Comparing::none_beyond))]
 fn is_all(registers: &PatMap<Value>, bank: Bank<'_>) -> bool
     ensures { result ≡ true → (r : ℕ) → bank.entry.count ≤ r → value_at registers.now r ≡ least_value }
 {

@@ -4,8 +4,9 @@ ghost use Rattle.std.specs.Prelude.{◌≡◌, true, IfOk};
 ghost use Rattle.program_model.specs.ProgramRules.{is_well_formed};
 ghost use Rattle.hierarchy.specs.Shapes.{IsResolved};
 ghost use Rattle.dom_frame.specs.Classes.{AreClasses};
+ghost use Rattle.call_graph.specs.Least.{IsLeastSet};
+ghost use Rattle.call_targets.specs.Targeted.{IsTargeted};
 ghost use Rattle.summaries.specs.Certified.{IsCertified};
-ghost use Rattle.flat_search.specs.Flats.{IsGrounded};
 ghost use Rattle.sharp_facts.specs.Sharp.{IsSharp};
 
 use crate::plain::plain_facts;
@@ -29,7 +30,8 @@ fn is_sharp_within(
     bounds: Bounds<'_>,
     facts: &Facts,
 ) -> Result<bool, AllocError>
-    ensures { IsGrounded program.now classes.hierarchy.now classes.entry bounds.entry.outside.now bounds.entry.live.now bounds.entry.found.now
+    ensures { is_well_formed program.now ≡ true → AreClasses program.now classes.entry → IsLeastSet program.now bounds.entry.outside.now bounds.entry.live.now
+        → IsTargeted program.now bounds.entry.outside.now bounds.entry.live.now bounds.entry.found.now
         → IfOk result (λ b. b ≡ true → IsSharp program.now bounds.entry.outside.now facts.now) }
 {
     let found = search(

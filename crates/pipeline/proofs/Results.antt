@@ -11,7 +11,3 @@ module _ {T E : Type 0} where
   pub on_err_so : (r : Result T E) (P Q : Type 0) → (P → Q) → OnErr r P → OnErr r Q
   on_err_so (Ok x) P Q f h = tt
   on_err_so (Err x) P Q f h = f h
-
-  pub ok_so : (r : Result T E) (P Q : T → Type 0) → ((x : T) → P x → Q x) → IfOk r P → IfOk r Q
-  ok_so (Ok x) P Q f h = f x h
-  ok_so (Err x) P Q f h = tt

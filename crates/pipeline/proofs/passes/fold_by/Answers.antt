@@ -1,5 +1,6 @@
 use Rattle.std.proofs.Common.{◌≡◌}
 use Rattle.std.specs.Prelude.{true}
+use Rattle.std.proofs.lemmas.Result.{IfOk-weaker}
 use Rattle.program_model.specs.ProgramRules.{is_well_formed}
 use Rattle.const_prop.specs.Folds.{NoneLeft}
 use Rattle.pipeline.specs.declared.traces.Passed.{Passed}
@@ -7,7 +8,6 @@ use Rattle.pipeline.specs.Changes.{total_of}
 use Rattle.pipeline.specs.Passes.{IsExact}
 use Rattle.pipeline.proofs.Analysed.{known, unknown, exactly, exactly_none}
 use Rattle.pipeline.proofs.Passing.{kept_forms_passed}
-use Rattle.pipeline.proofs.Results.{ok_so}
 use Rattle.pipeline.proofs.passes.fold_by.Goals as goal
 
 pub returns-in-Some-clause-passed : goal.returns-in-Some-clause-passed
@@ -19,7 +19,7 @@ returns-in-Some-clause-exact c = λ graph outside sharp.
     let p = c.args.traced.program in
     let admitted = c.args.admitted.now.methods.items in
     let h = c.args.hierarchy.now in
-    ok_so c.fold_known.result (λ (x : Passed). total_of x.changes ≡ 0 → is_well_formed p ≡ true → NoneLeft p h c.in-Some.facts admitted) (λ (x : Passed). total_of x.changes ≡ 0 → IsExact outside admitted p)
+    IfOk-weaker c.fold_known.result (λ (x : Passed). total_of x.changes ≡ 0 → is_well_formed p ≡ true → NoneLeft p h c.in-Some.facts admitted) (λ (x : Passed). total_of x.changes ≡ 0 → IsExact outside admitted p)
     (λ x left none. exactly outside admitted p c.args.facts.now c.in-Some.facts h graph sharp c.in-Some.is (left none)) (c.fold_known.ensures.none_left graph)
 
 pub returns-in-None-clause-passed : goal.returns-in-None-clause-passed

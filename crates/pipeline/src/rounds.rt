@@ -21,8 +21,8 @@ use crate::counts::{count_instructions, count_members};
 use crate::graph::{hierarchy_of, renew_graph};
 use crate::inlined::inline_sites;
 use crate::passes::{
-    clean_bodies, compact_bodies, facts_of, fold_constants, fold_exactly, loosen_methods, propagate_copies,
-    quiet_calls, rebind_calls, remove_unreached, squeeze_bodies,
+    clean_bodies, compact_bodies, facts_of, fold_constants, fold_exactly, loosen_methods,
+    propagate_copies, quiet_calls, rebind_calls, remove_unreached, squeeze_bodies,
 };
 use crate::prints::changed_bodies;
 use crate::silent::silence;

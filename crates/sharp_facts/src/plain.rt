@@ -117,10 +117,7 @@ fn is_entered(registers: &[Option<PatMap<Value>>]) -> bool {
 }
 
 /// What is known of each position of a body, nothing where no run comes to it.
-fn starts_of(
-    alloc: Global,
-    registers: &[Option<PatMap<Value>>],
-) -> Result<Seq<Start>, AllocError> {
+fn starts_of(alloc: Global, registers: &[Option<PatMap<Value>>]) -> Result<Seq<Start>, AllocError> {
     let mut starts = Seq::new(alloc);
     if !is_entered(registers) {
         return Ok(starts);

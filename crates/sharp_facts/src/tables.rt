@@ -136,7 +136,8 @@ fn are_methods_within(
     ensures { IfOk result (λ b. b ≡ true → MethodsWithin facts.now flats.now methods.now) }
 {
     for method in methods {
-        if !is_method_within(alloc, facts, flats, method)? {
+        let within = is_method_within(alloc, facts, flats, method)?;
+        if !within {
             return Ok(false);
         }
     }
@@ -191,7 +192,8 @@ pub(crate) fn are_within(
     ensures { IfOk result (λ b. b ≡ true → AreWithin program.now facts.now flats.now) }
 {
     for class in program.classes.as_slice() {
-        if !is_class_within(alloc, facts, flats, class)? {
+        let within = is_class_within(alloc, facts, flats, class)?;
+        if !within {
             return Ok(false);
         }
     }

@@ -99,7 +99,7 @@ abbrev pub has_state : Option Table → ℕ → Bool
 has_state None n = true
 has_state (Some t) n = is_some (state_at t n)
 
-abbrev guarded : Bool → Option (ℕ → Flat) → Option (ℕ → Flat)
+abbrev pub guarded : Bool → Option (ℕ → Flat) → Option (ℕ → Flat)
 guarded true x = x
 guarded false x = None
 
@@ -108,13 +108,13 @@ unguarded true x a e = (refl, e)
 unguarded false x a e = none_some a e
 
 module _ (p : NamedProgram) (typed : IsTyped p) where
-  typed_body : (k : MethodKey) (b : NamedBody) → bodies_of p k ≡ Some b → (t : Table) × TypesBody p b t
+  pub typed_body : (k : MethodKey) (b : NamedBody) → bodies_of p k ≡ Some b → (t : Table) × TypesBody p b t
   typed_body k b e =
       let d = body_in p k b e in
       let t = typed.bodies d.class d.method b (contained d.class p.classes d.class_in) (contained d.method d.class.methods d.method_in) d.body in
       (t.0, record { class = d.class; method = d.method; typing = t.1 })
 
-  abbrev table_by : (k : MethodKey) (o : Option NamedBody) → bodies_of p k ≡ o → Option Table
+  abbrev pub table_by : (k : MethodKey) (o : Option NamedBody) → bodies_of p k ≡ o → Option Table
   table_by k None e = None
   table_by k (Some b) e = Some (typed_body k b e).0
 

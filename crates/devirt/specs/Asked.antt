@@ -13,7 +13,7 @@ use Rattle.rewrite_pass.specs.declared.edit.Edit.{Edit}
 use Rattle.verify.specs.Flow.{places_of}
 use Rattle.verify.specs.Methods.{TypesAt, RefusesAt, IsFor}
 use Rattle.verify.specs.Typings.{Table}
-use Rattle.verify.specs.declared.fault.TypeFault.TheVariants as fault
+use Rattle.verify.specs.declared.fault.TypeFault.{TypeFault}
 use Rattle.verify.specs.declared.typed.Typings.{Typings}
 use Rattle.verify.specs.declared.typed.Verifier.{Verifier}
 use Rattle.receivers.specs.Receiving.{IsFinding}
@@ -39,17 +39,10 @@ pub record IsAsked (s : Rebinding) : Type 0 where
 abbrev pub table_of : Option Typings → Option Table
 table_of o = option_map (λ t. places_of t.states.items) o
 
--- a verifier refuses a method, whose code has no typing
-pub record IsRefusedBy (v : Verifier) (at : MethodAt) : Type 0 where
-  pub method : ℕ
-  pub position : ℕ
-  pub register : ℕ
-  pub refuses : RefusesAt v at (fault.IllTyped method position register)
-
--- the least typing of a method by a verifier, or none where its code has none
+-- the least typing of a method by a verifier, or none where it refuses the method
 abbrev pub IsJudgedBy : Verifier → MethodAt → Option Table → Type 0
 IsJudgedBy v at (Some x) = TypesAt v at x
-IsJudgedBy v at None = IsRefusedBy v at
+IsJudgedBy v at None = (e : TypeFault) × RefusesAt v at e
 
 -- What is written whatever the hierarchy is, and where it is that of the program's classes.
 pub record ReboundWell (p : Program) (h : Hierarchy) (facts : Facts) (at : MethodAt) (m : Method) (b : Body) (es : List Edit) : Type 0 where

@@ -1,6 +1,6 @@
 -- What calls on objects bring is joined of what the classes under the named one find: what is at or above each of these, and at or
 -- above joins of such, is at or above it.
-use Rattle.std.proofs.Common.{◌≡◌, ℕ, zero, suc, ◌<◌, Bool, true, false, nat_eq, List, [], ◌∷◌, length, Option, Some, None, refl, sym, ap, ◌∙◌, subst, arith}
+use Rattle.std.proofs.Common.{◌≡◌, ℕ, zero, suc, ◌<◌, Bool, true, false, nat_eq, List, [], ◌∷◌, length, Option, Some, None, refl, ap, subst, arith}
 use Rattle.std.specs.Prelude.{◌&&◌, cond, flat_map, fold, if◌then◌else◌, not, slice_get}
 use Rattle.std.specs.List.{list_any, range_with_len}
 use Rattle.lemmas.proofs.Bools.{and_left, and_right}

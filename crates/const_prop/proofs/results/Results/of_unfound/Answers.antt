@@ -1,8 +1,8 @@
 use Rattle.std.proofs.Common.{ap, ◌∙◌, sym}
 use Rattle.hierarchy.specs.Touring.{subclasses_of}
 use Rattle.const_prop.specs.Given.{by_search}
-use Rattle.const_prop.proofs.Defaults.{finds_nothing}
-use Rattle.const_prop.proofs.defaults.Results.of_unfound.Goals as goal
+use Rattle.const_prop.proofs.Unfound.{finds_nothing}
+use Rattle.const_prop.proofs.results.Results.of_unfound.Goals as goal
 
 pub returns-then-not-has_default : goal.returns-then-not-has_default
 returns-then-not-has_default c = λ k name proto is lt e.

@@ -3,7 +3,7 @@ use Rattle.std.specs.Prelude.{fold}
 use Rattle.receivers.specs.Receiving.{IsReady}
 use Rattle.const_prop.specs.Asked.{IsKnown, IsKeyOf}
 use Rattle.const_prop.specs.Given.{with_class}
-use Rattle.const_prop.proofs.defaults.Results.with_classes.Given as goal
+use Rattle.const_prop.proofs.results.Results.with_classes.Given as goal
 
 abbrev pub invariant-loop-class : goal.invariant-loop-class
 invariant-loop-class l = record {

@@ -3,7 +3,7 @@ use Rattle.std.specs.Prelude.{fold, IfOk}
 use Rattle.hierarchy.specs.Touring.{subclasses_of}
 use Rattle.domains.specs.Values.{Parts}
 use Rattle.const_prop.specs.Given.{with_class}
-use Rattle.const_prop.proofs.defaults.Results.with_subclasses.Goals as goal
+use Rattle.const_prop.proofs.results.Results.with_subclasses.Goals as goal
 
 pub returns : goal.returns
 returns c = λ k r name proto is lt.

@@ -3,7 +3,7 @@ use Rattle.std.specs.Prelude.{◌&&◌}
 use Rattle.std.specs.List.{list_any}
 use Rattle.hierarchy.specs.Naming.{definers_of}
 use Rattle.const_prop.specs.Defaults.{is_default}
-use Rattle.const_prop.proofs.defaults.Results.has_default.Goals as goal
+use Rattle.const_prop.proofs.results.Results.has_default.Goals as goal
 
 pub returns-then-not-is_037 : goal.returns-then-not-is_037
 returns-then-not-is_037 c = λ k name proto is.

@@ -1,7 +1,7 @@
 use Rattle.std.proofs.Common.{sym, ◌∙◌}
 use Rattle.receivers.proofs.Loops.{any_here, none_done, none_more}
 use Rattle.const_prop.specs.Defaults.{is_default}
-use Rattle.const_prop.proofs.defaults.Results.is_one_default.Goals as goal
+use Rattle.const_prop.proofs.results.Results.is_one_default.Goals as goal
 
 pub loop-class-preserved : goal.loop-class-preserved
 loop-class-preserved c = λ k name proto is.

@@ -2,7 +2,7 @@ use Rattle.std.proofs.Common.{ap, ◌∙◌, take_all}
 use Rattle.std.specs.Prelude.{fold}
 use Rattle.const_prop.specs.Given.{with_class}
 use Rattle.const_prop.proofs.Finding.{fold_step}
-use Rattle.const_prop.proofs.defaults.Results.with_classes.Goals as goal
+use Rattle.const_prop.proofs.results.Results.with_classes.Goals as goal
 
 pub loop-class-preserved : goal.loop-class-preserved
 loop-class-preserved c = record {

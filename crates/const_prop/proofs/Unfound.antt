@@ -3,7 +3,7 @@ use Rattle.std.proofs.Common.{◌≡◌, ℕ, zero, suc, ◌<◌, Bool, true, fa
 use Rattle.std.specs.Prelude.{◌&&◌, cond, filter, flat_map, not, slice_get}
 use Rattle.std.specs.List.{list_any}
 use Rattle.lemmas.proofs.Bools.{clash, untrue}
-use Rattle.lemmas.proofs.Lists.{got_short}
+use Rattle.lemmas.proofs.Lists.{any_at, got_short}
 use Rattle.program_model.specs.declared.program.Class.{Class}
 use Rattle.program_model.specs.declared.program.MethodAt.{MethodAt}
 use Rattle.program_model.specs.declared.program.Program.{Program}
@@ -13,12 +13,12 @@ use Rattle.class_defs.specs.Members.{has_code, is_common, is_interface, own_virt
 use Rattle.class_defs.specs.Places.{chain_of, interface_places}
 use Rattle.hierarchy.specs.Climbing.{In}
 use Rattle.hierarchy.specs.Naming.{definers_of}
-use Rattle.hierarchy.proofs.Lowest.{of_any}
 use Rattle.receivers.proofs.Owned.{defines}
+use Rattle.receivers.proofs.Ranges.{in_at}
 use Rattle.const_prop.specs.Defaults.{has_default, is_coded, is_default}
 
 none_in : (t : ℕ → Bool) (xs : List ℕ) (c : ℕ) → In c xs → list_any t xs ≡ false → t c ≡ false
-none_in t xs c i e = untrue (t c) (λ h. clash (list_any t xs) (of_any t xs c i h) e)
+none_in t xs c i e = untrue (t c) (λ h. let k = in_at xs c i in clash (list_any t xs) (any_at t xs k.0 c k.1 h) e)
 
 module _ (p : Program) where
   -- none of these has code

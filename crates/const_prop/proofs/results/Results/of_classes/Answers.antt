@@ -4,7 +4,7 @@ use Rattle.class_defs.specs.Finding.{Search}
 use Rattle.hierarchy.specs.Touring.{subclasses_of}
 use Rattle.receivers.specs.Receiving.{IsReady}
 use Rattle.const_prop.specs.Given.{by_search}
-use Rattle.const_prop.proofs.defaults.Results.of_classes.Goals as goal
+use Rattle.const_prop.proofs.results.Results.of_classes.Goals as goal
 
 pub returns : goal.returns
 returns c = λ k name proto is lt.

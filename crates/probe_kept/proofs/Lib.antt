@@ -1,0 +1,3 @@
+pub mod Joins
+pub mod Virtual
+pub mod Supers

@@ -1,11 +1,13 @@
 -- What a position does, under what a flat table says of it.
-use Rattle.std.specs.Prelude.{◌≡◌, ℕ, ◌+◌, false, true, List, Option, Some, None, slice_get, Contains}
+use Rattle.std.specs.Prelude.{◌≡◌, ◌⊎◌, ℕ, ◌+◌, Bool, false, true, List, Option, Some, None, slice_get, Contains}
 use Rattle.insn_set.specs.declared.ops.InvokeKind.{InvokeKind}
 use Rattle.insn_set.specs.declared.ops.InvokeKind.TheVariants as call
 use Rattle.insn_set.specs.declared.form.Insn.{Insn}
 use Rattle.insn_set.specs.declared.form.Insn.TheVariants as insn
+use Rattle.program_model.specs.declared.pass.Outside.{Outside}
 use Rattle.program_model.specs.declared.program.Field.{Field}
 use Rattle.program_model.specs.declared.program.Program.{Program}
+use Rattle.pass_defs.specs.Flat.{Any}
 use Rattle.domains.specs.Values.{Parts}
 use Rattle.value_ops.specs.Numbers.{stored_value}
 use Rattle.dom_frame.specs.Registers.{Registers, value_at}
@@ -18,7 +20,7 @@ use Rattle.flat_bounds.specs.Under.{IsUnder}
 use Rattle.flat_bounds.specs.Bounds.{FlatTable, IsReadied, StandsIn, before_of, taken_flat}
 use Rattle.flat_search.specs.declared.spots.Spot.{Spot}
 use Rattle.flat_search.specs.Spots.{LandsUnder, MayLand, CasesLand}
-use Rattle.flat_search.specs.States.{MayPass, MayBind, IsListReadied}
+use Rattle.flat_search.specs.States.{MayPass, MayBind, IsListReadied, is_marked}
 
 -- ---- classes
 
@@ -84,9 +86,18 @@ GoesUnder p b s i x = StepsUnder p b s x
 
 -- ---- where runs begin
 
--- what fields of a class hold before they are written
-abbrev pub BeginUnder : Program → FlatTable → List Field → Type 0
-BeginUnder p b fields = (i : ℕ) (f : Field) → slice_get fields i ≡ Some f → IsUnder (begun_parts p f) (b.fields f.name)
+-- the marks are of fields that the framework may write
+abbrev pub AreKept : Outside → List Bool → Type 0
+AreKept o marks = (n : ℕ) → is_marked marks n ≡ true → Contains o.fields n ⊎ Contains o.fields_if n
+
+-- what a field holds before it is written, anything where it is marked
+pub record BeginsUnder (p : Program) (b : FlatTable) (kept : List Bool) (f : Field) : Type 0 where
+  pub opened : is_marked kept f.name ≡ true → b.fields f.name ≡ Any
+  pub first : IsUnder (begun_parts p f) (b.fields f.name)
+
+-- the same of the fields of a class
+abbrev pub BeginUnder : Program → FlatTable → List Bool → List Field → Type 0
+BeginUnder p b kept fields = (i : ℕ) (f : Field) → slice_get fields i ≡ Some f → BeginsUnder p b kept f
 
 -- ---- classes that are initialised
 

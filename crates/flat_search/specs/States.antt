@@ -1,5 +1,5 @@
 -- What is known while the search goes on, under a flat table that bounds.
-use Rattle.std.specs.Prelude.{◌≡◌, ℕ, Bool, true, false, List, Some, is_some, slice_get, slice_index_or}
+use Rattle.std.specs.Prelude.{◌≡◌, ℕ, Bool, true, false, List, Some, is_some, slice_get, slice_index_or, Result, OnOk}
 use Rattle.insn_set.specs.declared.ops.InvokeKind.{InvokeKind}
 use Rattle.insn_set.specs.declared.form.Insn.TheVariants as insn
 use Rattle.program_model.specs.declared.program.Method.{Method}
@@ -7,6 +7,7 @@ use Rattle.program_model.specs.declared.program.MethodAt.{MethodAt}
 use Rattle.program_model.specs.declared.program.Program.{Program}
 use Rattle.program_model.specs.Lookups.{method_at}
 use Rattle.class_defs.specs.Finding.{Finds}
+use Rattle.pass_defs.specs.Flat.{Any}
 use Rattle.domains.specs.Values.{Parts}
 use Rattle.dom_frame.specs.Registers.{Registers}
 use Rattle.call_graph.specs.declared.live_set.LiveSet.{LiveSet}
@@ -56,6 +57,10 @@ MayPass p live b call args x = (link : Link) → IsLink p live link → link.cal
 abbrev pub MayBind : Program → FlatTable → ℕ → ℕ → InvokeKind → List ℕ → Registers → Type 0
 MayBind p b class method kind args x = (at : MethodAt) (m : Method) → finds_bound p class method kind ≡ Finds at → method_at p at ≡ Some m → IsPassedTo b m.name (is_some m.body) args x
 
+-- anything may be passed to a method
+abbrev pub IsOpened : FlatTable → ℕ → Type 0
+IsOpened b m = (word : ℕ) → b.parameters m word ≡ Any
+
 -- a run comes to the initialisers for all that is listed from an interface
 abbrev pub IsListReadied : Program → FlatTable → ℕ → Type 0
 IsListReadied p b c = (d : ℕ) → IsListed p c d → IsReadied p b d
@@ -73,10 +78,10 @@ pub record IsUnderBound (p : Program) (live : LiveSet) (b : FlatTable) (s : Stat
 abbrev pub Under : Ground → FlatTable → State → Type 0
 Under k b s = IsUnderBound k.program.now k.live.now b s
 
--- what is known stays under each flat table that bounds
-abbrev pub Keeps : Ground → State → State → Type 0
-Keeps k old new = (b : FlatTable) → Bounds k b → Under k b old → Under k b new
+-- what is known stays under each flat table that bounds, unless memory ends
+abbrev pub Keeps : {T E : Type 0} → Ground → State → State → Result T E → Type 0
+Keeps k old new r = (b : FlatTable) → Bounds k b → Under k b old → OnOk r (Under k b new)
 
 -- where something holds of the table
-abbrev pub KeepsIf : Ground → (FlatTable → Type 0) → State → State → Type 0
-KeepsIf k P old new = (b : FlatTable) → Bounds k b → P b → Under k b old → Under k b new
+abbrev pub KeepsIf : {T E : Type 0} → Ground → (FlatTable → Type 0) → State → State → Result T E → Type 0
+KeepsIf k P old new r = (b : FlatTable) → Bounds k b → Under k b old → P b → OnOk r (Under k b new)

@@ -1,7 +1,7 @@
 //! Where runs begin: what the framework may enter and need, what fields hold before they are written, and what comes back
 //! from calls that may leave the program.
 
-ghost use Rattle.std.specs.Prelude.{◌≡◌, ◌⊎◌, ℕ, ◌<◌, ◌^◌, true, Some, length, slice_get, IfOk, Contains};
+ghost use Rattle.std.specs.Prelude.{◌≡◌, ◌⊎◌, ℕ, ◌<◌, ◌^◌, true, Some, length, slice_get, IfOk, Contains, OnOk};
 ghost use Rattle.program_model.specs.declared.program.Class.{Class};
 ghost use Rattle.program_model.specs.declared.program.Field.{Field};
 ghost use Rattle.program_model.specs.declared.program.Program.{Program};
@@ -50,7 +50,7 @@ impl Spread<'_> {
         kept: &[bool],
         field: &Field,
     ) -> Result<(), AllocError>
-        ensures { KeepsIf k.now (λ b. BeginsUnder k.now.program.now b kept.now field.now) self.old.state self.new.state }
+        ensures { KeepsIf k.now (λ b. BeginsUnder k.now.program.now b kept.now field.now) self.old.state self.new.state result }
     {
         if is_on(kept, field.name) {
             return self.give_field(alloc, field.name, &Value::any());
@@ -66,7 +66,7 @@ impl Spread<'_> {
         kept: &[bool],
         fields: &[Field],
     ) -> Result<(), AllocError>
-        ensures { KeepsIf k.now (λ b. BeginUnder k.now.program.now b kept.now fields.now) self.old.state self.new.state }
+        ensures { KeepsIf k.now (λ b. BeginUnder k.now.program.now b kept.now fields.now) self.old.state self.new.state result }
     {
         for field in fields {
             self.begin_field(alloc, k, kept, field)?;
@@ -81,7 +81,7 @@ impl Spread<'_> {
         k: &Ground<'_>,
         kept: &[bool],
     ) -> Result<(), AllocError>
-        ensures { AreKept k.now.outside.now kept.now → Keeps k.now self.old.state self.new.state }
+        ensures { AreKept k.now.outside.now kept.now → Keeps k.now self.old.state self.new.state result }
     {
         for class in k.program.classes.as_slice() {
             self.begin_fields(alloc, k, kept, class.fields.as_slice())?;
@@ -91,7 +91,7 @@ impl Spread<'_> {
 
     /// Lets all fields hold what they hold before they are written.
     fn begin_all_fields(&mut self, alloc: Global, k: &Ground<'_>) -> Result<(), AllocError>
-        ensures { Keeps k.now self.old.state self.new.state }
+        ensures { Keeps k.now self.old.state self.new.state result }
     {
         let kept = kept_fields(alloc, k.outside, k.program.fields.len())?;
         self.begin_classes_fields(alloc, k, &kept)
@@ -100,7 +100,7 @@ impl Spread<'_> {
     /// Lets anything come back from calls of a number, if they may leave the program.
     #[tactic(auto, using(crate::proofs::Beginning::left_under))]
     fn begin_answer(&mut self, alloc: Global, k: &Ground<'_>, call: u32) -> Result<(), AllocError>
-        ensures { Keeps k.now self.old.state self.new.state }
+        ensures { Keeps k.now self.old.state self.new.state result }
     {
         if !is_on(k.targets.leaves.as_slice(), call) {
             return Ok(());
@@ -110,7 +110,7 @@ impl Spread<'_> {
 
     /// The same for the calls of all numbers.
     fn begin_answers(&mut self, alloc: Global, k: &Ground<'_>) -> Result<(), AllocError>
-        ensures { Keeps k.now self.old.state self.new.state }
+        ensures { Keeps k.now self.old.state self.new.state result }
     {
         for call in 0..word(k.targets.leaves.len()) {
             self.begin_answer(alloc, k, call)?;
@@ -121,7 +121,7 @@ impl Spread<'_> {
     /// Lets anything be passed to a method.
     fn open_words(&mut self, alloc: Global, method: u32, count: u32) -> Result<(), AllocError>
         ensures { (p : Program) (live : LiveSet) (b : FlatTable) → IsUnderBound p live b self.old.state → IsOpened b method
-            → IsUnderBound p live b self.new.state }
+            → OnOk result (IsUnderBound p live b self.new.state) }
     {
         for word in 0..count {
             self.give_parameter(alloc, method, word, &Value::any())?;
@@ -131,7 +131,7 @@ impl Spread<'_> {
 
     /// Lets the framework enter a method, if it may, with anything in each word.
     fn begin_entry(&mut self, alloc: Global, k: &Ground<'_>, method: u32) -> Result<(), AllocError>
-        ensures { Keeps k.now self.old.state self.new.state }
+        ensures { Keeps k.now self.old.state self.new.state result }
     {
         if !is_on(k.targets.entered.as_slice(), method) {
             return Ok(());
@@ -143,7 +143,7 @@ impl Spread<'_> {
 
     /// Lets the framework enter all methods that it may.
     fn begin_entries(&mut self, alloc: Global, k: &Ground<'_>) -> Result<(), AllocError>
-        ensures { Keeps k.now self.old.state self.new.state }
+        ensures { Keeps k.now self.old.state self.new.state result }
     {
         for method in 0..word(k.targets.entered.len()) {
             self.begin_entry(alloc, k, method)?;
@@ -153,7 +153,7 @@ impl Spread<'_> {
 
     /// Lets a class be initialised that the framework needs, if it does.
     fn begin_class(&mut self, k: &Ground<'_>, class: u32) -> Result<(), AllocError>
-        ensures { Keeps k.now self.old.state self.new.state }
+        ensures { Keeps k.now self.old.state self.new.state result }
     {
         if !is_on(k.targets.begun.as_slice(), class) {
             return Ok(());
@@ -163,7 +163,7 @@ impl Spread<'_> {
 
     /// Lets all classes be initialised that the framework needs.
     fn begin_classes(&mut self, k: &Ground<'_>) -> Result<(), AllocError>
-        ensures { Keeps k.now self.old.state self.new.state }
+        ensures { Keeps k.now self.old.state self.new.state result }
     {
         for class in 0..word(k.targets.begun.len()) {
             self.begin_class(k, class)?;
@@ -174,7 +174,7 @@ impl Spread<'_> {
     /// Searches from where the framework begins: first through the initialisers of classes, since what they put into fields
     /// is read by others.
     pub(crate) fn search(&mut self, alloc: Global, k: &Ground<'_>) -> Result<(), AllocError>
-        ensures { Keeps k.now self.old.state self.new.state }
+        ensures { Keeps k.now self.old.state self.new.state result }
     {
         self.begin_all_fields(alloc, k)?;
         self.begin_answers(alloc, k)?;

@@ -1,6 +1,6 @@
 //! Classes that are initialised.
 
-ghost use Rattle.std.specs.Prelude.{◌≡◌, ℕ, ◌&&◌, not, true, Some, is_some, slice_get};
+ghost use Rattle.std.specs.Prelude.{◌≡◌, ℕ, ◌&&◌, not, true, Some, is_some, slice_get, OnOk};
 ghost use Rattle.std.specs.List.{list_any};
 ghost use Rattle.program_model.specs.declared.program.Program.{Program};
 ghost use Rattle.program_model.specs.declared.program.Method.{Method};
@@ -64,7 +64,7 @@ impl Spread<'_> {
     /// Lets the lists of some interfaces be looked through.
     fn list_all(&mut self, interfaces: &[u32]) -> Result<(), AllocError>
         ensures { (p : Program) (live : LiveSet) (b : FlatTable) → IsUnderBound p live b self.old.state
-            → AreListReadied p b interfaces.now → IsUnderBound p live b self.new.state }
+            → AreListReadied p b interfaces.now → OnOk result (IsUnderBound p live b self.new.state) }
     {
         for place in interfaces {
             self.list(*place)?;
@@ -75,7 +75,7 @@ impl Spread<'_> {
     /// Lets a run enter the initialiser of a class, if it has one.
     #[tactic(auto, using(crate::proofs::Readying::entered))]
     fn enter_initialiser(&mut self, k: &Ground<'_>, class: u32) -> Result<(), AllocError>
-        ensures { KeepsIf k.now (λ b. IsReadied k.now.program.now b class) self.old.state self.new.state }
+        ensures { KeepsIf k.now (λ b. IsReadied k.now.program.now b class) self.old.state self.new.state result }
     {
         match k.classes.hierarchy.initialiser_of(class) {
             Some(at) => match method_at(k.program, at) {
@@ -91,7 +91,7 @@ impl Spread<'_> {
     fn need_super(&mut self, k: &Ground<'_>, place: u32, class: &Class) -> Result<(), AllocError>
         requires is { slice_get k.now.program.now.classes place ≡ Some class.now }
         requires held { is_interface (Some class.now) ≡ false }
-        ensures { KeepsIf k.now (λ b. IsReadied k.now.program.now b place) self.old.state self.new.state }
+        ensures { KeepsIf k.now (λ b. IsReadied k.now.program.now b place) self.old.state self.new.state result }
     {
         match k.classes.hierarchy.super_of(place) {
             Some(above) => self.need(above),
@@ -104,7 +104,7 @@ impl Spread<'_> {
     fn list_above(&mut self, k: &Ground<'_>, place: u32, class: &Class) -> Result<(), AllocError>
         requires is { slice_get k.now.program.now.classes place ≡ Some class.now }
         requires held { is_interface (Some class.now) ≡ false }
-        ensures { KeepsIf k.now (λ b. IsReadied k.now.program.now b place) self.old.state self.new.state }
+        ensures { KeepsIf k.now (λ b. IsReadied k.now.program.now b place) self.old.state self.new.state result }
     {
         if !has_defaults(k) {
             return Ok(());
@@ -114,7 +114,7 @@ impl Spread<'_> {
 
     /// Lets what is initialised before a class be initialised.
     fn need_above(&mut self, k: &Ground<'_>, place: u32) -> Result<(), AllocError>
-        ensures { KeepsIf k.now (λ b. IsReadied k.now.program.now b place) self.old.state self.new.state }
+        ensures { KeepsIf k.now (λ b. IsReadied k.now.program.now b place) self.old.state self.new.state result }
     {
         match k.program.classes.as_slice().get(place as usize) {
             Some(class) => {
@@ -130,7 +130,7 @@ impl Spread<'_> {
 
     /// Initialises a class, if it is to be.
     pub(crate) fn initialise(&mut self, k: &Ground<'_>, place: u32) -> Result<(), AllocError>
-        ensures { Keeps k.now self.old.state self.new.state }
+        ensures { Keeps k.now self.old.state self.new.state result }
     {
         if !is_on(&self.state.needed, place) {
             return Ok(());
@@ -144,7 +144,7 @@ impl Spread<'_> {
     fn need_default(&mut self, k: &Ground<'_>, place: u32, class: &Class) -> Result<(), AllocError>
         requires is { slice_get k.now.program.now.classes place ≡ Some class.now }
         requires interface { is_interface (Some class.now) ≡ true }
-        ensures { KeepsIf k.now (λ b. IsListReadied k.now.program.now b place) self.old.state self.new.state }
+        ensures { KeepsIf k.now (λ b. IsListReadied k.now.program.now b place) self.old.state self.new.state result }
     {
         if !has_default(k, class.methods.as_slice()) {
             return Ok(());
@@ -157,14 +157,14 @@ impl Spread<'_> {
     fn list_lists(&mut self, k: &Ground<'_>, place: u32, class: &Class) -> Result<(), AllocError>
         requires is { slice_get k.now.program.now.classes place ≡ Some class.now }
         requires interface { is_interface (Some class.now) ≡ true }
-        ensures { KeepsIf k.now (λ b. IsListReadied k.now.program.now b place) self.old.state self.new.state }
+        ensures { KeepsIf k.now (λ b. IsListReadied k.now.program.now b place) self.old.state self.new.state result }
     {
         self.list_all(k.classes.hierarchy.interfaces_of(place))
     }
 
     /// Looks through the list of an interface, if it is to be.
     pub(crate) fn look_through(&mut self, k: &Ground<'_>, place: u32) -> Result<(), AllocError>
-        ensures { Keeps k.now self.old.state self.new.state }
+        ensures { Keeps k.now self.old.state self.new.state result }
     {
         if !is_on(&self.state.listed, place) {
             return Ok(());

@@ -1,6 +1,6 @@
 //! What calls on objects pass on, and what comes back to them.
 
-ghost use Rattle.std.specs.Prelude.{◌≡◌, ℕ, slice_get, Some, IfOk};
+ghost use Rattle.std.specs.Prelude.{◌≡◌, ℕ, slice_get, Some, IfOk, OnOk};
 ghost use Rattle.program_model.specs.declared.program.Program.{Program};
 ghost use Rattle.call_graph.specs.declared.live_set.LiveSet.{LiveSet};
 ghost use Rattle.flat_bounds.specs.Under.{AreUnder};
@@ -30,7 +30,7 @@ impl Spread<'_> {
         pool: &PatMap<Value>,
     ) -> Result<(), AllocError>
         ensures { (p : Program) (live : LiveSet) (b : FlatTable) → IsUnderBound p live b self.old.state
-            → AreUnder pool.now (b.parameters method) → IsUnderBound p live b self.new.state }
+            → AreUnder pool.now (b.parameters method) → OnOk result (IsUnderBound p live b self.new.state) }
     {
         for word in 0..count {
             self.give_parameter(alloc, method, word, &value_at(pool, word))?;
@@ -51,7 +51,7 @@ impl Spread<'_> {
     /// Lets a method be entered that calls of a number may find, if a run comes to such a call.
     fn enter_linked(&mut self, link: Link) -> Result<(), AllocError>
         ensures { (p : Program) (live : LiveSet) (b : FlatTable) → IsUnderBound p live b self.old.state → IsLink p live link
-            → IsUnderBound p live b self.new.state }
+            → OnOk result (IsUnderBound p live b self.new.state) }
     {
         if !is_on(&self.state.made, link.call) {
             return Ok(());
@@ -62,7 +62,7 @@ impl Spread<'_> {
     /// Passes on what calls pass to a method that they may find.
     fn pass_link(&mut self, alloc: Global, link: Link) -> Result<(), AllocError>
         ensures { (p : Program) (live : LiveSet) (b : FlatTable) → IsUnderBound p live b self.old.state → IsLink p live link
-            → IsUnderBound p live b self.new.state }
+            → OnOk result (IsUnderBound p live b self.new.state) }
     {
         let pool = self.pool_of(link.call)?;
         let count = word(self.state.words(link.method).len());
@@ -78,7 +78,7 @@ impl Spread<'_> {
         call: u32,
         place: u32,
     ) -> Result<(), AllocError>
-        ensures { Keeps k.now self.old.state self.new.state }
+        ensures { Keeps k.now self.old.state self.new.state result }
     {
         match k.targets.links.as_slice().get(place as usize) {
             Some(link) => {
@@ -99,7 +99,7 @@ impl Spread<'_> {
         call: u32,
         places: &[u32],
     ) -> Result<(), AllocError>
-        ensures { Keeps k.now self.old.state self.new.state }
+        ensures { Keeps k.now self.old.state self.new.state result }
     {
         for place in places {
             self.pass_place(alloc, k, call, *place)?;
@@ -110,7 +110,7 @@ impl Spread<'_> {
     /// Gives what a method returns to the calls that may find it.
     #[tactic(auto, using(crate::proofs::Linking::answers_under))]
     fn give_link(&mut self, alloc: Global, k: &Ground<'_>, link: Link) -> Result<(), AllocError>
-        ensures { KeepsIf k.now (λ b. IsLink k.now.program.now k.now.live.now link) self.old.state self.new.state }
+        ensures { KeepsIf k.now (λ b. IsLink k.now.program.now k.now.live.now link) self.old.state self.new.state result }
     {
         let value = result_of(&self.state, link.method);
         self.give_answer(alloc, k, link.call, &value)
@@ -124,7 +124,7 @@ impl Spread<'_> {
         method: u32,
         place: u32,
     ) -> Result<(), AllocError>
-        ensures { Keeps k.now self.old.state self.new.state }
+        ensures { Keeps k.now self.old.state self.new.state result }
     {
         match k.targets.links.as_slice().get(place as usize) {
             Some(link) => {
@@ -145,7 +145,7 @@ impl Spread<'_> {
         method: u32,
         places: &[u32],
     ) -> Result<(), AllocError>
-        ensures { Keeps k.now self.old.state self.new.state }
+        ensures { Keeps k.now self.old.state self.new.state result }
     {
         for place in places {
             self.give_place(alloc, k, method, *place)?;

@@ -1,6 +1,6 @@
 //! Where an instruction goes on, and one position of a body.
 
-ghost use Rattle.std.specs.Prelude.{◌≡◌, ℕ, ◌+◌, ◌<◌, ◌^◌, length, option_to_list};
+ghost use Rattle.std.specs.Prelude.{◌≡◌, ℕ, ◌+◌, ◌<◌, ◌^◌, length, option_to_list, OnOk};
 ghost use Rattle.program_model.specs.declared.program.Program.{Program};
 ghost use Rattle.insn_set.specs.Flow.{targets_of};
 ghost use Rattle.call_graph.specs.declared.live_set.LiveSet.{LiveSet};
@@ -37,7 +37,7 @@ impl Spread<'_> {
         registers: &PatMap<Value>,
     ) -> Result<(), AllocError>
         ensures { (p : Program) (live : LiveSet) (b : FlatTable) → IsUnderBound p live b self.old.state
-            → HandlersLand b home.now handlers.now registers.now → IsUnderBound p live b self.new.state }
+            → HandlersLand b home.now handlers.now registers.now → OnOk result (IsUnderBound p live b self.new.state) }
     {
         for handler in handlers {
             self.come(alloc, home, handler.position, registers)?;
@@ -54,7 +54,7 @@ impl Spread<'_> {
         registers: &PatMap<Value>,
     ) -> Result<(), AllocError>
         ensures { (p : Program) (live : LiveSet) (b : FlatTable) → IsUnderBound p live b self.old.state
-            → EachLands b home.now (option_to_list rest) registers.now → IsUnderBound p live b self.new.state }
+            → EachLands b home.now (option_to_list rest) registers.now → OnOk result (IsUnderBound p live b self.new.state) }
     {
         match rest {
             Some(position) => self.come(alloc, home, position, registers),
@@ -72,7 +72,7 @@ impl Spread<'_> {
         registers: &PatMap<Value>,
     ) -> Result<(), AllocError>
         ensures { (p : Program) (live : LiveSet) (b : FlatTable) → IsUnderBound p live b self.old.state
-            → EachLands b home.now (handlers_in region.now) registers.now → IsUnderBound p live b self.new.state }
+            → EachLands b home.now (handlers_in region.now) registers.now → OnOk result (IsUnderBound p live b self.new.state) }
     {
         self.come_to_handlers(alloc, home, region.handlers.as_slice(), registers)?;
         self.come_to_rest(alloc, home, region.rest, registers)
@@ -88,7 +88,7 @@ impl Spread<'_> {
         registers: &PatMap<Value>,
     ) -> Result<(), AllocError>
         ensures { (p : Program) (live : LiveSet) (b : FlatTable) → IsUnderBound p live b self.old.state
-            → EachLands b home.now (handlers_at regions.now position) registers.now → IsUnderBound p live b self.new.state }
+            → EachLands b home.now (handlers_at regions.now position) registers.now → OnOk result (IsUnderBound p live b self.new.state) }
     {
         for region in regions {
             if covers(region, position) {
@@ -107,7 +107,7 @@ impl Spread<'_> {
     ) -> Result<(), AllocError>
         ensures { (p : Program) (live : LiveSet) (b : FlatTable) → IsUnderBound p live b self.old.state
             → EachLands b spot.now.home (thrown_to spot.now.home.body.now.regions spot.now.position spot.now.insn.now) registers.now
-            → IsUnderBound p live b self.new.state }
+            → OnOk result (IsUnderBound p live b self.new.state) }
     {
         if !spot.insn.may_throw() {
             return Ok(());
@@ -124,7 +124,7 @@ impl Spread<'_> {
         left: Option<PatMap<Value>>,
     ) -> Result<(), AllocError>
         ensures { (p : Program) (live : LiveSet) (b : FlatTable) → IsUnderBound p live b self.old.state
-            → MayLand b spot.now.home (spot.now.position + 1) left → IsUnderBound p live b self.new.state }
+            → MayLand b spot.now.home (spot.now.position + 1) left → OnOk result (IsUnderBound p live b self.new.state) }
     {
         if spot.position == u32::MAX {
             return Ok(());
@@ -141,7 +141,7 @@ impl Spread<'_> {
         registers: &PatMap<Value>,
     ) -> Result<(), AllocError>
         ensures { (p : Program) (live : LiveSet) (b : FlatTable) → IsUnderBound p live b self.old.state
-            → BranchesUnder b spot.now target registers.now → IsUnderBound p live b self.new.state }
+            → BranchesUnder b spot.now target registers.now → OnOk result (IsUnderBound p live b self.new.state) }
     {
         let taken = branch(alloc, registers, spot.insn, true)?;
         self.land(alloc, &spot.home, target, spot.insn, taken)?;
@@ -159,7 +159,7 @@ impl Spread<'_> {
     ) -> Result<(), AllocError>
         requires { length targets.now < 2 ^ 32 }
         ensures { (p : Program) (live : LiveSet) (b : FlatTable) → IsUnderBound p live b self.old.state
-            → CasesLand b spot.now.home spot.now.insn.now targets.now registers.now → IsUnderBound p live b self.new.state }
+            → CasesLand b spot.now.home spot.now.insn.now targets.now registers.now → OnOk result (IsUnderBound p live b self.new.state) }
     {
         for place in 0..targets.len() {
             let left = switch_at(alloc, registers, spot.insn, place as u32)?;
@@ -178,7 +178,7 @@ impl Spread<'_> {
     ) -> Result<(), AllocError>
         requires { targets_of spot.now.insn.now ≡ targets.now }
         ensures { (p : Program) (live : LiveSet) (b : FlatTable) → IsUnderBound p live b self.old.state
-            → SwitchesUnder b spot.now targets.now registers.now → IsUnderBound p live b self.new.state }
+            → SwitchesUnder b spot.now targets.now registers.now → OnOk result (IsUnderBound p live b self.new.state) }
     {
         if targets.len() >= 4294967296 {
             return Ok(());
@@ -196,7 +196,7 @@ impl Spread<'_> {
         spot: &Spot<'_>,
         registers: &PatMap<Value>,
     ) -> Result<(), AllocError>
-        ensures { IsSpot k.now.program.now spot.now → KeepsIf k.now (λ b. StepsUnder k.now.program.now b spot.now registers.now) self.old.state self.new.state }
+        ensures { IsSpot k.now.program.now spot.now → KeepsIf k.now (λ b. StepsUnder k.now.program.now b spot.now registers.now) self.old.state self.new.state result }
     {
         let value = taken(alloc, k, &self.state, spot)?;
         let left = step(alloc, &k.classes, registers, spot.insn, &value)?;
@@ -212,7 +212,7 @@ impl Spread<'_> {
         registers: &PatMap<Value>,
     ) -> Result<(), AllocError>
         ensures { IsSpot k.now.program.now spot.now
-            → KeepsIf k.now (λ b. GoesUnder k.now.program.now b spot.now spot.now.insn.now registers.now) self.old.state self.new.state }
+            → KeepsIf k.now (λ b. GoesUnder k.now.program.now b spot.now spot.now.insn.now registers.now) self.old.state self.new.state result }
     {
         match spot.insn {
             Insn::Goto { target } => self.come(alloc, &spot.home, *target, registers),
@@ -235,7 +235,7 @@ impl Spread<'_> {
         spot: &Spot<'_>,
         registers: &PatMap<Value>,
     ) -> Result<(), AllocError>
-        ensures { IsSpot k.now.program.now spot.now → KeepsIf k.now (λ b. ComesUnder b spot.now registers.now) self.old.state self.new.state }
+        ensures { IsSpot k.now.program.now spot.now → KeepsIf k.now (λ b. ComesUnder b spot.now registers.now) self.old.state self.new.state result }
     {
         self.need_for(k, spot.insn)?;
         self.throw(alloc, spot, registers)?;
@@ -250,7 +250,7 @@ impl Spread<'_> {
         k: &Ground<'_>,
         spot: &Spot<'_>,
     ) -> Result<(), AllocError>
-        ensures { IsSpot k.now.program.now spot.now → Keeps k.now self.old.state self.new.state }
+        ensures { IsSpot k.now.program.now spot.now → Keeps k.now self.old.state self.new.state result }
     {
         let registers = match self.state.at(spot.home.method.name, spot.position) {
             Some(registers) => registers.share()?,

@@ -23,7 +23,7 @@ pub(crate) fn value_at(registers: &PatMap<Value>, register: u32) -> Value
 }
 
 /// Puts a value into a register.
-#[tactic(auto, using(crate::proofs::Registers::put_under))]
+#[tactic(auto, using(crate::proofs::Writing::put_under))]
 fn put(
     alloc: Global,
     own: &mut PatMap<Value>,
@@ -127,38 +127,38 @@ pub(crate) fn pass(
 fn flatten_at(
     alloc: Global,
     own: &mut PatMap<Value>,
-    register: Option<u16>,
+    register: Option<u32>,
 ) -> Result<(), AllocError>
     ensures { (y : ℕ → Flat) → AreUnder own.old y → AreUnder own.new y }
 {
     let Some(register) = register else {
         return Ok(());
     };
-    if is_flat(&value_at(own, u32::from(register))) {
+    if is_flat(&value_at(own, register)) {
         return Ok(());
     }
-    put(alloc, own, u32::from(register), Value::any())
+    put(alloc, own, register, Value::any())
 }
 
 /// The register of which an instruction tells more than one number: what it writes by reckoning, or compares.
-fn reckoned(insn: &Insn) -> Option<u16> {
+fn reckoned(insn: &Insn) -> Option<u32> {
     match insn {
         Insn::InstanceOf { to, .. }
         | Insn::ArrayLength { to, .. }
         | Insn::Cmp { to, .. }
         | Insn::Unary { to, .. }
         | Insn::Binary { to, .. }
-        | Insn::Literal { to, .. } => Some(*to),
-        Insn::If { a, .. } | Insn::IfZero { a, .. } => Some(*a),
-        Insn::PackedSwitch { on, .. } | Insn::SparseSwitch { on, .. } => Some(*on),
+        | Insn::Literal { to, .. } => Some(u32::from(*to)),
+        Insn::If { a, .. } | Insn::IfZero { a, .. } => Some(u32::from(*a)),
+        Insn::PackedSwitch { on, .. } | Insn::SparseSwitch { on, .. } => Some(u32::from(*on)),
         _ => None,
     }
 }
 
 /// The other register that it compares.
-fn compared(insn: &Insn) -> Option<u16> {
+fn compared(insn: &Insn) -> Option<u32> {
     match insn {
-        Insn::If { b, .. } => Some(*b),
+        Insn::If { b, .. } => Some(u32::from(*b)),
         _ => None,
     }
 }
@@ -200,7 +200,8 @@ pub(crate) fn entry(
     let mut registers = PatMap::empty();
     for register in 0..count {
         let value = entry_value(free, words, register);
-        registers = registers.set(alloc, u32::from(register), value)?;
+        let next = registers.set(alloc, u32::from(register), value)?;
+        registers = next;
     }
     Ok(registers)
 }

@@ -36,7 +36,7 @@ impl Spread<'_> {
         k: &Ground<'_>,
         home: &Home<'_>,
     ) -> Result<(), AllocError>
-        ensures { IsHome k.now.program.now home.now → Keeps k.now self.old.state self.new.state }
+        ensures { IsHome k.now.program.now home.now → Keeps k.now self.old.state self.new.state result }
     {
         let (method, body) = (home.method.name, home.body);
         if !is_on(&self.state.entered, method) || body.ins > body.registers {
@@ -57,7 +57,7 @@ impl Spread<'_> {
         position: u32,
     ) -> Result<(), AllocError>
         requires { insns.now ≡ home.now.body.now.insns }
-        ensures { IsHome k.now.program.now home.now → Keeps k.now self.old.state self.new.state }
+        ensures { IsHome k.now.program.now home.now → Keeps k.now self.old.state self.new.state result }
     {
         if !self.work.take(home.code, position) {
             return Ok(());
@@ -77,7 +77,7 @@ impl Spread<'_> {
 
     /// Goes once through the positions of a body that wait.
     fn sweep(&mut self, alloc: Global, k: &Ground<'_>, home: &Home<'_>) -> Result<(), AllocError>
-        ensures { IsHome k.now.program.now home.now → Keeps k.now self.old.state self.new.state }
+        ensures { IsHome k.now.program.now home.now → Keeps k.now self.old.state self.new.state result }
     {
         let insns = home.body.insns.as_slice();
         for position in self.work.begin(home.code)..word(insns.len()) {
@@ -89,7 +89,7 @@ impl Spread<'_> {
 
     /// Goes through a body until nothing of it waits.
     fn settle(&mut self, alloc: Global, k: &Ground<'_>, home: &Home<'_>) -> Result<(), AllocError>
-        ensures { IsHome k.now.program.now home.now → Keeps k.now self.old.state self.new.state }
+        ensures { IsHome k.now.program.now home.now → Keeps k.now self.old.state self.new.state result }
     {
         for _ in 0..u32::MAX {
             if !self.work.has(home.code) {
@@ -111,7 +111,7 @@ impl Spread<'_> {
         code: u32,
         at: MethodAt,
     ) -> Result<(), AllocError>
-        ensures { Keeps k.now self.old.state self.new.state }
+        ensures { Keeps k.now self.old.state self.new.state result }
     {
         let Some(method) = method_at(k.program, at) else {
             return Ok(());
@@ -132,7 +132,7 @@ impl Spread<'_> {
 
     /// Goes through the body at a place among all bodies.
     fn settle_code(&mut self, alloc: Global, k: &Ground<'_>, place: u32) -> Result<(), AllocError>
-        ensures { Keeps k.now self.old.state self.new.state }
+        ensures { Keeps k.now self.old.state self.new.state result }
     {
         match self.work.code(place) {
             Some(code) => self.settle_at(alloc, k, place, code.at),
@@ -142,7 +142,7 @@ impl Spread<'_> {
 
     /// Looks at one of the classes that wait, and answers whether any did.
     fn turn_to_classes(&mut self, k: &Ground<'_>) -> Result<bool, AllocError>
-        ensures { Keeps k.now self.old.state self.new.state }
+        ensures { Keeps k.now self.old.state self.new.state result }
     {
         if let Some(class) = self.work.needed.take() {
             self.initialise(k, class)?;
@@ -157,7 +157,7 @@ impl Spread<'_> {
 
     /// Looks at one of the calls and results that wait, and answers whether any did.
     fn turn_to_calls(&mut self, alloc: Global, k: &Ground<'_>) -> Result<bool, AllocError>
-        ensures { Keeps k.now self.old.state self.new.state }
+        ensures { Keeps k.now self.old.state self.new.state result }
     {
         if let Some(call) = self.work.calls.take() {
             let places = self.work.found(call);
@@ -174,7 +174,7 @@ impl Spread<'_> {
 
     /// Looks at one of what waits, and answers whether anything did.
     fn turn(&mut self, alloc: Global, k: &Ground<'_>) -> Result<bool, AllocError>
-        ensures { Keeps k.now self.old.state self.new.state }
+        ensures { Keeps k.now self.old.state self.new.state result }
     {
         if self.turn_to_classes(k)? {
             return Ok(true);
@@ -194,7 +194,7 @@ impl Spread<'_> {
     /// Looks at all that waits, until nothing does. What would be left after so many turns as 64 bits number, which no run
     /// lives to see, is left.
     pub(crate) fn run(&mut self, alloc: Global, k: &Ground<'_>) -> Result<(), AllocError>
-        ensures { Keeps k.now self.old.state self.new.state }
+        ensures { Keeps k.now self.old.state self.new.state result }
     {
         for _ in 0..u64::MAX {
             if !self.turn(alloc, k)? {

@@ -24,7 +24,7 @@ impl Spread<'_> {
     /// Lets the class be initialised that an instruction needs.
     #[tactic(auto, using(crate::proofs::Needing::readies))]
     pub(crate) fn need_for(&mut self, k: &Ground<'_>, insn: &Insn) -> Result<(), AllocError>
-        ensures { KeepsIf k.now (λ b. NeedsUnder k.now.program.now b insn.now) self.old.state self.new.state }
+        ensures { KeepsIf k.now (λ b. NeedsUnder k.now.program.now b insn.now) self.old.state self.new.state result }
     {
         let class = needed_by(k, insn);
         self.need_if(class)
@@ -41,7 +41,7 @@ impl Spread<'_> {
     ) -> Result<(), AllocError>
         requires { length args.now < 65536 }
         ensures { (class method : ℕ) (kind : InvokeKind) → finds_bound k.now.program.now class method kind ≡ Finds at
-            → KeepsIf k.now (λ b. MayBind k.now.program.now b class method kind args.now registers.now) self.old.state self.new.state }
+            → KeepsIf k.now (λ b. MayBind k.now.program.now b class method kind args.now registers.now) self.old.state self.new.state result }
     {
         match method_at(k.program, at) {
             Some(found) => self.call(alloc, found, args, registers),
@@ -61,7 +61,7 @@ impl Spread<'_> {
         registers: &PatMap<Value>,
     ) -> Result<(), AllocError>
         requires { length args.now < 65536 }
-        ensures { KeepsIf k.now (λ b. MayBind k.now.program.now b class method kind args.now registers.now) self.old.state self.new.state }
+        ensures { KeepsIf k.now (λ b. MayBind k.now.program.now b class method kind args.now registers.now) self.old.state self.new.state result }
     {
         match bound_target(alloc, k.program, k.classes.hierarchy, class, kind, method)? {
             Target::One(at) => self.call_at(alloc, k, at, args, registers),
@@ -80,7 +80,7 @@ impl Spread<'_> {
         registers: &PatMap<Value>,
     ) -> Result<(), AllocError>
         requires { length args.now < 65536 }
-        ensures { KeepsIf k.now (λ b. MayPass k.now.program.now k.now.live.now b (call_at method interface) args.now registers.now) self.old.state self.new.state }
+        ensures { KeepsIf k.now (λ b. MayPass k.now.program.now k.now.live.now b (call_at method interface) args.now registers.now) self.old.state self.new.state result }
     {
         match call_number(method, interface) {
             Some(call) => self.call_open(alloc, call, args, registers),
@@ -99,7 +99,7 @@ impl Spread<'_> {
         args: &[u16],
         registers: &PatMap<Value>,
     ) -> Result<(), AllocError>
-        ensures { KeepsIf k.now (λ b. PassesUnder k.now.program.now k.now.live.now b class kind method args.now registers.now) self.old.state self.new.state }
+        ensures { KeepsIf k.now (λ b. PassesUnder k.now.program.now k.now.live.now b class kind method args.now registers.now) self.old.state self.new.state result }
     {
         if args.len() >= 65536 {
             return Ok(());
@@ -119,7 +119,7 @@ impl Spread<'_> {
         field: u32,
         value: &Value,
     ) -> Result<(), AllocError>
-        ensures { KeepsIf k.now (λ b. PutsUnder k.now.program.now b field value.now) self.old.state self.new.state }
+        ensures { KeepsIf k.now (λ b. PutsUnder k.now.program.now b field value.now) self.old.state self.new.state result }
     {
         match own_number(k, field) {
             Some(own) => self.give_field(alloc, own, value),
@@ -137,7 +137,7 @@ impl Spread<'_> {
         registers: &PatMap<Value>,
     ) -> Result<(), AllocError>
         ensures { KeepsIf k.now (λ b. SendsUnder k.now.program.now k.now.live.now b home.now.at.class home.now.method.now.name insn.now registers.now)
-            self.old.state self.new.state }
+            self.old.state self.new.state result }
     {
         match insn {
             Insn::Invoke { kind, method, args } => {

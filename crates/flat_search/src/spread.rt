@@ -1,6 +1,6 @@
 //! What is known, with what waits.
 
-ghost use Rattle.std.specs.Prelude.{◌≡◌, ℕ, ◌<◌, length, is_some};
+ghost use Rattle.std.specs.Prelude.{◌≡◌, ℕ, ◌<◌, length, is_some, OnOk};
 ghost use Rattle.program_model.specs.declared.program.Program.{Program};
 ghost use Rattle.call_graph.specs.declared.live_set.LiveSet.{LiveSet};
 ghost use Rattle.flat_bounds.specs.Under.{IsUnder};
@@ -37,13 +37,13 @@ impl Spread<'_> {
         registers: &PatMap<Value>,
     ) -> Result<(), AllocError>
         ensures { (p : Program) (live : LiveSet) (b : FlatTable) → IsUnderBound p live b self.old.state
-            → LandsUnder b home.now target registers.now → IsUnderBound p live b self.new.state }
+            → LandsUnder b home.now target registers.now → OnOk result (IsUnderBound p live b self.new.state) }
     {
         let (method, count) = (home.method.name, u32::from(home.body.registers));
-        if self.state.come(alloc, method, target, count, registers)? {
-            self.work.wait(home.code, target)?;
+        if !self.state.come(alloc, method, target, count, registers)? {
+            return Ok(());
         }
-        Ok(())
+        self.work.wait(home.code, target)
     }
 
     /// Lets what an instruction leaves come to a position, if it leaves anything there.
@@ -56,7 +56,7 @@ impl Spread<'_> {
         left: Option<PatMap<Value>>,
     ) -> Result<(), AllocError>
         ensures { (p : Program) (live : LiveSet) (b : FlatTable) → IsUnderBound p live b self.old.state
-            → MayLand b home.now target left → IsUnderBound p live b self.new.state }
+            → MayLand b home.now target left → OnOk result (IsUnderBound p live b self.new.state) }
     {
         let Some(mut registers) = left else {
             return Ok(());
@@ -74,12 +74,12 @@ impl Spread<'_> {
         value: &Value,
     ) -> Result<(), AllocError>
         ensures { (p : Program) (live : LiveSet) (b : FlatTable) → IsUnderBound p live b self.old.state
-            → IsUnder value.now (b.parameters method word) → IsUnderBound p live b self.new.state }
+            → IsUnder value.now (b.parameters method word) → OnOk result (IsUnderBound p live b self.new.state) }
     {
-        if self.state.raise_parameter(alloc, method, word, value)? {
-            self.work.rise(method)?;
+        if !self.state.raise_parameter(alloc, method, word, value)? {
+            return Ok(());
         }
-        Ok(())
+        self.work.rise(method)
     }
 
     /// Raises what a method returns.
@@ -91,12 +91,12 @@ impl Spread<'_> {
         value: &Value,
     ) -> Result<(), AllocError>
         ensures { (p : Program) (live : LiveSet) (b : FlatTable) → IsUnderBound p live b self.old.state
-            → IsUnder value.now (b.results method) → IsUnderBound p live b self.new.state }
+            → IsUnder value.now (b.results method) → OnOk result (IsUnderBound p live b self.new.state) }
     {
-        if self.state.raise_result(alloc, method, value)? {
-            self.work.wake_result(k, method)?;
+        if !self.state.raise_result(alloc, method, value)? {
+            return Ok(());
         }
-        Ok(())
+        self.work.wake_result(k, method)
     }
 
     /// Raises what a field holds.
@@ -107,12 +107,12 @@ impl Spread<'_> {
         value: &Value,
     ) -> Result<(), AllocError>
         ensures { (p : Program) (live : LiveSet) (b : FlatTable) → IsUnderBound p live b self.old.state
-            → IsUnder value.now (b.fields field) → IsUnderBound p live b self.new.state }
+            → IsUnder value.now (b.fields field) → OnOk result (IsUnderBound p live b self.new.state) }
     {
-        if self.state.raise_field(alloc, field, value)? {
-            self.work.wake_field(field)?;
+        if !self.state.raise_field(alloc, field, value)? {
+            return Ok(());
         }
-        Ok(())
+        self.work.wake_field(field)
     }
 
     /// Raises what calls of a number get back.
@@ -124,40 +124,40 @@ impl Spread<'_> {
         value: &Value,
     ) -> Result<(), AllocError>
         ensures { (p : Program) (live : LiveSet) (b : FlatTable) → IsUnderBound p live b self.old.state
-            → IsAnswerUnder p b call value.now → IsUnderBound p live b self.new.state }
+            → IsAnswerUnder p b call value.now → OnOk result (IsUnderBound p live b self.new.state) }
     {
-        if self.state.raise_answer(alloc, call, value)? {
-            self.work.wake_answer(k, call)?;
+        if !self.state.raise_answer(alloc, call, value)? {
+            return Ok(());
         }
-        Ok(())
+        self.work.wake_answer(k, call)
     }
 
     /// Lets a run enter a method.
     pub(crate) fn enter(&mut self, method: u32) -> Result<(), AllocError>
         ensures { (p : Program) (live : LiveSet) (b : FlatTable) → IsUnderBound p live b self.old.state
-            → IsReached b method → IsUnderBound p live b self.new.state }
+            → IsReached b method → OnOk result (IsUnderBound p live b self.new.state) }
     {
-        if self.state.enter(method) {
-            self.work.rise(method)?;
+        if !self.state.enter(method) {
+            return Ok(());
         }
-        Ok(())
+        self.work.rise(method)
     }
 
     /// Lets a class be initialised.
     pub(crate) fn need(&mut self, class: u32) -> Result<(), AllocError>
         ensures { (p : Program) (live : LiveSet) (b : FlatTable) → IsUnderBound p live b self.old.state
-            → IsReadied p b class → IsUnderBound p live b self.new.state }
+            → IsReadied p b class → OnOk result (IsUnderBound p live b self.new.state) }
     {
-        if self.state.need(class) {
-            self.work.needed.add(class)?;
+        if !self.state.need(class) {
+            return Ok(());
         }
-        Ok(())
+        self.work.needed.add(class)
     }
 
     /// Lets a class be initialised, if there is one.
     pub(crate) fn need_if(&mut self, class: Option<u32>) -> Result<(), AllocError>
         ensures { (p : Program) (live : LiveSet) (b : FlatTable) → IsUnderBound p live b self.old.state
-            → ReadiesIf p b class → IsUnderBound p live b self.new.state }
+            → ReadiesIf p b class → OnOk result (IsUnderBound p live b self.new.state) }
     {
         match class {
             Some(class) => self.need(class),
@@ -168,12 +168,12 @@ impl Spread<'_> {
     /// Lets the list of an interface be looked through.
     pub(crate) fn list(&mut self, class: u32) -> Result<(), AllocError>
         ensures { (p : Program) (live : LiveSet) (b : FlatTable) → IsUnderBound p live b self.old.state
-            → IsListReadied p b class → IsUnderBound p live b self.new.state }
+            → IsListReadied p b class → OnOk result (IsUnderBound p live b self.new.state) }
     {
-        if self.state.list(class) {
-            self.work.listed.add(class)?;
+        if !self.state.list(class) {
+            return Ok(());
         }
-        Ok(())
+        self.work.listed.add(class)
     }
 
     /// Passes registers to a method as its words.
@@ -186,7 +186,7 @@ impl Spread<'_> {
     ) -> Result<(), AllocError>
         requires { length args.now < 65536 }
         ensures { (p : Program) (live : LiveSet) (b : FlatTable) → IsUnderBound p live b self.old.state
-            → ArePassed args.now registers.now (b.parameters method) → IsUnderBound p live b self.new.state }
+            → ArePassed args.now registers.now (b.parameters method) → OnOk result (IsUnderBound p live b self.new.state) }
     {
         for word in 0..args.len() {
             let value = value_at(registers, u32::from(args[word]));
@@ -205,7 +205,7 @@ impl Spread<'_> {
     ) -> Result<(), AllocError>
         requires { length args.now < 65536 }
         ensures { (p : Program) (live : LiveSet) (b : FlatTable) → IsUnderBound p live b self.old.state
-            → IsPassedTo b found.now.name (is_some found.now.body) args.now registers.now → IsUnderBound p live b self.new.state }
+            → IsPassedTo b found.now.name (is_some found.now.body) args.now registers.now → OnOk result (IsUnderBound p live b self.new.state) }
     {
         self.give_words(alloc, found.name, args, registers)?;
         match &found.body {
@@ -224,13 +224,13 @@ impl Spread<'_> {
     ) -> Result<(), AllocError>
         requires { length args.now < 65536 }
         ensures { (p : Program) (live : LiveSet) (b : FlatTable) → IsUnderBound p live b self.old.state
-            → MayPass p live b call args.now registers.now → IsUnderBound p live b self.new.state }
+            → MayPass p live b call args.now registers.now → OnOk result (IsUnderBound p live b self.new.state) }
     {
         let rose = self.state.pass(alloc, call, args, registers)?;
         let first = self.state.make(call);
-        if rose || first {
-            self.work.calls.add(call)?;
+        if !rose && !first {
+            return Ok(());
         }
-        Ok(())
+        self.work.calls.add(call)
     }
 }

@@ -49,11 +49,15 @@ fn no_flats(alloc: Global, program: &Program) -> Result<Flats, AllocError>
     ensures { (p : Program) (b : FlatTable) → IfOk result (AreFlatsUnder p b) }
 {
     let methods = program.methods.len();
+    let frames = no_tables(alloc, methods)?;
+    let parameters = no_lists(alloc, methods)?;
+    let results = nothings(alloc, methods)?;
+    let fields = nothings(alloc, program.fields.len())?;
     Ok(Flats {
-        frames: no_tables(alloc, methods)?,
-        parameters: no_lists(alloc, methods)?,
-        results: nothings(alloc, methods)?,
-        fields: nothings(alloc, program.fields.len())?,
+        frames,
+        parameters,
+        results,
+        fields,
     })
 }
 
@@ -86,14 +90,21 @@ impl State {
     {
         let (methods, classes) = (program.methods.len(), program.classes.len());
         let calls = methods.saturating_mul(2);
+        let flats = first_flats(alloc, program, codes)?;
+        let answers = nothings(alloc, calls)?;
+        let pools = no_pools(alloc, calls)?;
+        let made = no_marks(alloc, calls)?;
+        let entered = no_marks(alloc, methods)?;
+        let needed = no_marks(alloc, classes)?;
+        let listed = no_marks(alloc, classes)?;
         Ok(State {
-            flats: first_flats(alloc, program, codes)?,
-            answers: nothings(alloc, calls)?,
-            pools: no_pools(alloc, calls)?,
-            made: no_marks(alloc, calls)?,
-            entered: no_marks(alloc, methods)?,
-            needed: no_marks(alloc, classes)?,
-            listed: no_marks(alloc, classes)?,
+            flats,
+            answers,
+            pools,
+            made,
+            entered,
+            needed,
+            listed,
         })
     }
 

@@ -182,10 +182,11 @@ pub(crate) fn put_nothings(
     ensures { (y : ℕ → ℕ → Flat) → AreListsUnder lists.old.items y → AreListsUnder lists.new.items y }
 {
     let place = number as usize;
-    if place < lists.len() {
-        let values = nothings(alloc, count)?;
-        lists[place] = Seq::of_vec(values);
+    if place >= lists.len() {
+        return Ok(());
     }
+    let values = nothings(alloc, count)?;
+    lists[place] = Seq::of_vec(values);
     Ok(())
 }
 
@@ -199,9 +200,10 @@ pub(crate) fn put_frames(
     ensures { (y : ℕ → ℕ → Option (ℕ → Flat)) → AreTablesUnder tables.old.items y → AreTablesUnder tables.new.items y }
 {
     let place = method as usize;
-    if place < tables.len() {
-        let frames = no_frames(alloc, count)?;
-        tables[place] = Seq::of_vec(frames);
+    if place >= tables.len() {
+        return Ok(());
     }
+    let frames = no_frames(alloc, count)?;
+    tables[place] = Seq::of_vec(frames);
     Ok(())
 }

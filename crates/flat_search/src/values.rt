@@ -38,7 +38,7 @@ fn flattened(value: &Value) -> Value
 }
 
 /// Raises a value by another, and answers whether it rose.
-#[tactic(auto, using(crate::proofs::Values::joined_under))]
+#[tactic(auto, using(crate::proofs::Rising::joined_under))]
 pub(crate) fn raise(alloc: Global, own: &mut Value, value: &Value) -> Result<bool, AllocError>
     ensures { (x : Flat) → IsUnder own.old x → IsUnder value.now x → IsUnder own.new x }
 {

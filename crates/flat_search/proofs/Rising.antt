@@ -1,10 +1,11 @@
 -- What is kept of values that are joined.
-use Rattle.std.proofs.Common.{◌≡◌, ℕ, inl, inr, refl, sym, subst}
+use Rattle.std.proofs.Common.{◌≡◌, ℕ, Bool, false, inl, inr, refl, sym, subst}
+use Rattle.std.specs.Prelude.{cond}
 use Rattle.pass_defs.specs.Flat.{Flat, Bottom, KnownWord, KnownWide, Any}
-use Rattle.domains.specs.Values.{Parts, least_value, constant_value, wide_value, value_joined}
+use Rattle.domains.specs.Values.{Parts, least_value, any_value, constant_value, wide_value, value_joined}
 use Rattle.flat_bounds.specs.Under.{IsUnder}
 use Rattle.flat_bounds.proofs.Under.{under_joined}
-use Rattle.flat_search.specs.Tables.{flattened}
+use Rattle.flat_search.specs.Tables.{is_flat, flattened}
 
 -- a value that is nothing or one number stays as it is
 flattened_under : (v : Parts) (x : Flat) → IsUnder v x → IsUnder (flattened v) x
@@ -17,3 +18,7 @@ flattened_under v (KnownWide n) (inr e) = inr (subst (λ (w : Parts). flattened 
 
 pub joined_under : (v w : Parts) (x : Flat) → IsUnder v x → IsUnder w x → IsUnder (flattened (value_joined v w)) x
 joined_under v w x h k = flattened_under (value_joined v w) x (under_joined v w x h k)
+
+-- and any other is under no single number
+pub any_under : (v : Parts) (x : Flat) → IsUnder v x → is_flat v ≡ false → IsUnder any_value x
+any_under v x h e = subst (λ (b : Bool). IsUnder (cond b v any_value) x) e (flattened_under v x h)

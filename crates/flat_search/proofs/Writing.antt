@@ -1,5 +1,5 @@
 -- Registers that are written, and what they hold at an entry.
-use Rattle.std.proofs.Common.{◌≡◌, ℕ, ◌+◌, ◌<◌, ◌≤◌, Bool, true, false, List, refl, sym, ◌∙◌, subst, arith, eqb-true}
+use Rattle.std.proofs.Common.{◌≡◌, ℕ, ◌+◌, ◌<◌, ◌≤◌, Bool, true, false, List, Option, Some, None, refl, sym, ◌∙◌, subst, arith, eqb-true}
 use Rattle.std.specs.Prelude.{◌==◌, if◌then◌else◌}
 use Rattle.std.specs.FinMap as finite
 use Rattle.std.proofs.lemmas.Bool.{eqb-false}
@@ -7,7 +7,7 @@ use Rattle.pass_defs.specs.Flat.{Flat}
 use Rattle.domains.specs.Values.{Parts, least_value}
 use Rattle.dom_frame.specs.Registers.{Registers, value_at, put}
 use Rattle.dom_frame.proofs.Reading.{value_put, value_none}
-use Rattle.flat_bounds.specs.Under.{IsUnder, AreUnder}
+use Rattle.flat_bounds.specs.Under.{IsUnder, AreUnder, ArriveUnder}
 use Rattle.flat_bounds.proofs.Under.{under_least}
 use Rattle.flat_search.specs.Tables.{entry_value, IsEntry}
 
@@ -20,6 +20,15 @@ put_under x r v y h g q = subst (λ (w : Parts). IsUnder w (y q)) (sym (value_pu
 
 pub none_under : (y : ℕ → Flat) → AreUnder finite.empty y
 none_under y r = subst (λ (w : Parts). IsUnder w (y r)) (sym (value_none r)) (under_least (y r))
+
+-- registers that stay under flat ones, where some come
+pub arrive_one : (x z : Registers) (y : Option (ℕ → Flat)) → ((a : ℕ → Flat) → AreUnder x a → AreUnder z a) → ArriveUnder x y → ArriveUnder z y
+arrive_one x z None f h = absurd h
+arrive_one x z (Some a) f h = f a h
+
+pub arrive_both : (x w z : Registers) (y : Option (ℕ → Flat)) → ((a : ℕ → Flat) → AreUnder x a → AreUnder w a → AreUnder z a) → ArriveUnder x y → ArriveUnder w y → ArriveUnder z y
+arrive_both x w z None f h k = absurd h
+arrive_both x w z (Some a) f h k = f a h k
 
 -- ---- entries
 

@@ -1,0 +1,5 @@
+use Rattle.flat_search.proofs.Tabling.{lists_set}
+use Rattle.flat_search.proofs.tables.raise_in.Goals as goal
+
+pub returns-in-Some : goal.returns-in-Some
+returns-in-Some c = λ y h g. lists_set c.args.lists.now.items c.args.list c.in-Some.own.now c.raise_at.new.values.items y c.in-Some.ensures.value (λ k. c.raise_at.ensures (y c.args.list) k g) h

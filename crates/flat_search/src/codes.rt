@@ -54,7 +54,8 @@ impl Codes {
             ins: body.ins,
             length,
             first,
-        })
+        })?;
+        Ok(())
     }
 
     /// Adds the body of a method, if it has one that is live.
@@ -209,7 +210,8 @@ impl Maps {
             return Ok(());
         }
         self.readers.add(key, word(self.places.len()))?;
-        self.places.push(place)
+        self.places.push(place)?;
+        Ok(())
     }
 
     /// Notes what the positions of a body read.

@@ -21,14 +21,14 @@ mod looks;
 mod positions;
 mod registers;
 mod rows;
-mod search;
 mod sends;
 mod spots;
 mod spread;
 mod state;
 mod tables;
+mod turns;
 mod values;
 mod work;
 
 pub use flats::Flats;
-pub use search::search;
+pub use turns::search;

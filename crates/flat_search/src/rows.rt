@@ -21,10 +21,10 @@ impl Rows {
 
     /// Adds to the list of a number, if it has one.
     pub(crate) fn add(&mut self, number: u32, item: u32) -> Result<(), AllocError> {
-        match self.rows.get_mut(number as usize) {
-            Some(row) => row.items.push(item),
-            None => Ok(()),
+        if let Some(row) = self.rows.get_mut(number as usize) {
+            row.items.push(item)?;
         }
+        Ok(())
     }
 
     /// The list of a number.

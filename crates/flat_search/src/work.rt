@@ -35,7 +35,8 @@ impl Waits {
             return Ok(());
         }
         set(&mut self.marks, number, true);
-        self.queue.push_back(number)
+        self.queue.push_back(number)?;
+        Ok(())
     }
 
     /// The number that has waited longest, and does no more.

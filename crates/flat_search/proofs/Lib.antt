@@ -1,6 +1,7 @@
 pub mod Beginning
 pub mod Bounding
 pub mod Entering
+pub mod Finding
 pub mod Landing
 pub mod Linking
 pub mod Lists

@@ -31,7 +31,6 @@ fn mark_all(marks: &mut Vec<bool>, numbers: &[u32])
 }
 
 /// Marks of the fields that the framework may write, by number.
-#[tactic(auto, using(crate::proofs::Beginning::are_kept))]
 fn kept_fields(alloc: Global, outside: &Outside, count: usize) -> Result<Vec<bool>, AllocError>
     ensures { IfOk result (λ marks. AreKept outside.now marks.items) }
 {
@@ -98,7 +97,6 @@ impl Spread<'_> {
     }
 
     /// Lets anything come back from calls of a number, if they may leave the program.
-    #[tactic(auto, using(crate::proofs::Beginning::left_under))]
     fn begin_answer(&mut self, alloc: Global, k: &Ground<'_>, call: u32) -> Result<(), AllocError>
         ensures { Keeps k.now self.old.state self.new.state result }
     {

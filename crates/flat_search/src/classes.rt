@@ -73,7 +73,6 @@ impl Spread<'_> {
     }
 
     /// Lets a run enter the initialiser of a class, if it has one.
-    #[tactic(auto, using(crate::proofs::Readying::entered))]
     fn enter_initialiser(&mut self, k: &Ground<'_>, class: u32) -> Result<(), AllocError>
         ensures { KeepsIf k.now (λ b. IsReadied k.now.program.now b class) self.old.state self.new.state result }
     {
@@ -87,7 +86,6 @@ impl Spread<'_> {
     }
 
     /// Lets the superclass of a class be initialised that isn't an interface.
-    #[tactic(auto, using(crate::proofs::Readying::above))]
     fn need_super(&mut self, k: &Ground<'_>, place: u32, class: &Class) -> Result<(), AllocError>
         requires is { slice_get k.now.program.now.classes place ≡ Some class.now }
         requires held { is_interface (Some class.now) ≡ false }
@@ -100,7 +98,6 @@ impl Spread<'_> {
     }
 
     /// Lets the lists of its interfaces be looked through, where these may have methods with code.
-    #[tactic(auto, using(crate::proofs::Readying::listed))]
     fn list_above(&mut self, k: &Ground<'_>, place: u32, class: &Class) -> Result<(), AllocError>
         requires is { slice_get k.now.program.now.classes place ≡ Some class.now }
         requires held { is_interface (Some class.now) ≡ false }
@@ -140,7 +137,6 @@ impl Spread<'_> {
     }
 
     /// Lets an interface be initialised that has a virtual method with code.
-    #[tactic(auto, using(crate::proofs::Readying::default))]
     fn need_default(&mut self, k: &Ground<'_>, place: u32, class: &Class) -> Result<(), AllocError>
         requires is { slice_get k.now.program.now.classes place ≡ Some class.now }
         requires interface { is_interface (Some class.now) ≡ true }
@@ -153,7 +149,6 @@ impl Spread<'_> {
     }
 
     /// Lets the lists of the interfaces above an interface be looked through.
-    #[tactic(auto, using(crate::proofs::Readying::listed_above))]
     fn list_lists(&mut self, k: &Ground<'_>, place: u32, class: &Class) -> Result<(), AllocError>
         requires is { slice_get k.now.program.now.classes place ≡ Some class.now }
         requires interface { is_interface (Some class.now) ≡ true }

@@ -43,7 +43,7 @@ impl Spread<'_> {
         ensures { (p : Program) (live : LiveSet) (b : FlatTable) → IsUnderBound p live b self.now.state → IfOk result (IsPoolUnder p live b call) }
     {
         match self.state.pools.as_slice().get(call as usize) {
-            Some(pool) => pool.share(),
+            Some(pool) => Ok(pool.share()?),
             None => Ok(PatMap::empty()),
         }
     }
@@ -108,7 +108,6 @@ impl Spread<'_> {
     }
 
     /// Gives what a method returns to the calls that may find it.
-    #[tactic(auto, using(crate::proofs::Linking::answers_under))]
     fn give_link(&mut self, alloc: Global, k: &Ground<'_>, link: Link) -> Result<(), AllocError>
         ensures { KeepsIf k.now (λ b. IsLink k.now.program.now k.now.live.now link) self.old.state self.new.state result }
     {

@@ -63,7 +63,6 @@ impl Spread<'_> {
     }
 
     /// Lets registers come to each handler of a region.
-    #[tactic(auto, using(crate::proofs::Landing::handlers_land, crate::proofs::Landing::rest_lands))]
     fn throw_in(
         &mut self,
         alloc: Global,
@@ -227,7 +226,6 @@ impl Spread<'_> {
     }
 
     /// What the instruction at a position does with these registers.
-    #[tactic(auto, using(crate::proofs::Bounding::needs_under, crate::proofs::Bounding::throws_under, crate::proofs::Bounding::sends_under, crate::proofs::Bounding::goes_under))]
     fn pass(
         &mut self,
         alloc: Global,

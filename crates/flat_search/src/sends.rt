@@ -22,7 +22,6 @@ use value_ops::stored;
 
 impl Spread<'_> {
     /// Lets the class be initialised that an instruction needs.
-    #[tactic(auto, using(crate::proofs::Needing::readies))]
     pub(crate) fn need_for(&mut self, k: &Ground<'_>, insn: &Insn) -> Result<(), AllocError>
         ensures { KeepsIf k.now (λ b. NeedsUnder k.now.program.now b insn.now) self.old.state self.new.state result }
     {

@@ -29,7 +29,6 @@ use std::alloc::{AllocError, Global};
 
 impl Spread<'_> {
     /// Lets a run come to the entry of a body with what it is passed.
-    #[tactic(auto, using(crate::proofs::Entering::entry_under))]
     fn begin_body(
         &mut self,
         alloc: Global,

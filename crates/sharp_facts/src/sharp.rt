@@ -9,10 +9,9 @@ ghost use Rattle.call_targets.specs.Targeted.{IsTargeted};
 ghost use Rattle.summaries.specs.Certified.{IsCertified};
 ghost use Rattle.sharp_facts.specs.Sharp.{IsSharp};
 
-use crate::plain::plain_facts;
 use crate::tables::are_within;
-use call_graph::live_members;
-use call_targets::targets;
+use call_graph::{LiveSet, live_members};
+use call_targets::{Targets, targets};
 use class_places::{classes_of, places_of};
 use dom_frame::Classes;
 use facts::Facts;
@@ -20,30 +19,22 @@ use flat_search::search;
 use hierarchy::Hierarchy;
 use program_model::{Outside, Program};
 use std::alloc::{AllocError, Global};
-use summaries::Bounds;
 
-/// Whether facts say no less than what a search with constants alone finds.
+/// Whether facts say no less than what a search with constants alone finds, by the live set and the call targets of a program.
 fn is_sharp_within(
     alloc: Global,
     program: &Program,
     classes: Classes<'_>,
-    bounds: Bounds<'_>,
+    outside: &Outside,
+    live: &LiveSet,
+    targets: &Targets,
     facts: &Facts,
 ) -> Result<bool, AllocError>
-    ensures { is_well_formed program.now ≡ true → AreClasses program.now classes.entry → IsLeastSet program.now bounds.entry.outside.now bounds.entry.live.now
-        → IsTargeted program.now bounds.entry.outside.now bounds.entry.live.now bounds.entry.found.now
-        → IfOk result (λ b. b ≡ true → IsSharp program.now bounds.entry.outside.now facts.now) }
+    ensures { is_well_formed program.now ≡ true → AreClasses program.now classes.entry → IsLeastSet program.now outside.now live.now
+        → IsTargeted program.now outside.now live.now targets.now → IfOk result (λ b. b ≡ true → IsSharp program.now outside.now facts.now) }
 {
-    let found = search(
-        alloc,
-        program,
-        classes.hierarchy,
-        classes,
-        bounds.outside,
-        bounds.live,
-        bounds.found,
-    )?;
-    are_within(alloc, program, facts, &found.flats)
+    let flats = search(alloc, program, classes, outside, live, targets)?;
+    are_within(alloc, program, facts, &flats)
 }
 
 /// The same by the table of the program's classes.
@@ -59,12 +50,7 @@ fn is_sharp_by(
     let hierarchy = classes.hierarchy;
     let live = live_members(alloc, program, hierarchy, outside)?;
     let found = targets(alloc, program, hierarchy, outside, &live)?;
-    let bounds = Bounds {
-        outside,
-        live: &live,
-        found: &found,
-    };
-    is_sharp_within(alloc, program, classes, bounds, facts)
+    is_sharp_within(alloc, program, classes, outside, &live, &found, facts)
 }
 
 /// Whether facts say no less than what a search with constants alone finds: so they are sharp. The only error is want of memory.
@@ -82,28 +68,12 @@ fn is_sharp(
     is_sharp_by(alloc, program, classes, outside, facts)
 }
 
-/// The facts that a plain search finds, where they are closed and sharp. Else memory is said to be wanting.
-fn plain_sharp(
-    alloc: Global,
-    program: &Program,
-    hierarchy: &Hierarchy,
-    outside: &Outside,
-) -> Result<Facts, AllocError>
-    ensures certified { is_well_formed program.now ≡ true → IsResolved program.now hierarchy.now → IfOk result (IsCertified program.now outside.now) }
-    ensures sharp { is_well_formed program.now ≡ true → IsResolved program.now hierarchy.now → IfOk result (IsSharp program.now outside.now) }
-{
-    let facts = plain_facts(alloc, program, hierarchy, outside)?;
-    let sharp = is_sharp(alloc, program, hierarchy, outside, &facts)?;
-    if sharp { Ok(facts) } else { Err(AllocError) }
-}
-
-/// Facts of a program that are sharp: these, where they say no less than what a plain search with constants alone finds, and
-/// else those of that search. The hierarchy is that of the program's classes.
+/// Facts of a program that are sharp: these, which say no less than what a plain search with constants alone finds. The hierarchy
+/// is that of the program's classes.
 ///
-/// It is an error that memory is wanting. The same error is answered where these facts say less than the plain search at some
-/// place and the facts of the plain search aren't closed, or not compared so with themselves. No clause says that this
-/// never happens. It would be a fault of a search, since each of the two finds what is closed, and the first one at least as
-/// much as the second.
+/// It is an error that memory is wanting. The same error is answered where the facts say less than the plain search at some
+/// place, so that they may not be sharp. No clause says that this never happens to facts of `summaries`; it would be a fault of one
+/// of the two searches, since the first one goes by what is known more closely, and both keep to the same rules.
 pub fn sharpened(
     alloc: Global,
     program: &Program,
@@ -116,8 +86,5 @@ pub fn sharpened(
     ensures sharp { is_well_formed program.now ≡ true → IsResolved program.now hierarchy.now → IfOk result (IsSharp program.now outside.now) }
 {
     let sharp = is_sharp(alloc, program, hierarchy, outside, &facts)?;
-    if sharp {
-        return Ok(facts);
-    }
-    plain_sharp(alloc, program, hierarchy, outside)
+    if sharp { Ok(facts) } else { Err(AllocError) }
 }

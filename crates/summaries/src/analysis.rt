@@ -116,10 +116,10 @@ fn with_frames(facts: Facts, frames: Vec<Seq<Option<Frame>>>) -> Facts
 
 /// What facts are checked against.
 #[derive(Clone, Copy)]
-pub struct Bounds<'a> {
-    pub outside: &'a Outside,
-    pub live: &'a LiveSet,
-    pub found: &'a Targets,
+struct Bounds<'a> {
+    outside: &'a Outside,
+    live: &'a LiveSet,
+    found: &'a Targets,
 }
 
 /// What the search finds.
@@ -176,8 +176,8 @@ fn searched_of(
     searched_in(alloc, program, classes, bounds, &codes)
 }
 
-/// What a search found as facts, if they are closed.
-pub fn certified(
+/// What the search found as facts, if they are closed.
+fn certified(
     alloc: Global,
     program: &Program,
     classes: Classes<'_>,

@@ -38,6 +38,5 @@ mod unknown;
 mod waits;
 mod walks;
 
-pub use analysis::{Bounds, analyse, certified};
+pub use analysis::analyse;
 pub use facts::Facts;
-pub use tables::Pieces;

@@ -221,11 +221,11 @@ fn fields_of(alloc: Global, spread: &Spread<'_>) -> Result<Vec<Value>, AllocErro
 
 /// What the search found, as it is checked: tables without frames, pools, marks, and what is known where nodes begin.
 #[derive(Drop)]
-pub struct Pieces {
-    pub facts: Facts,
-    pub pools: Pools,
-    pub marks: Marks,
-    pub starts: Vec<Seq<Start>>,
+pub(crate) struct Pieces {
+    pub(crate) facts: Facts,
+    pub(crate) pools: Pools,
+    pub(crate) marks: Marks,
+    pub(crate) starts: Vec<Seq<Start>>,
 }
 
 /// What the search found.

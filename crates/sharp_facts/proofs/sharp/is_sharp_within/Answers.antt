@@ -10,6 +10,6 @@ pub returns : goal.returns
 returns c = λ formed classes least targeted.
     let p = c.args.program.now in
     let t = c.args.facts.now in
-    let f = c.in_ok-found.found.flats in
-    IfOk-weaker c.are_within.result (λ (b : Bool). b ≡ true → AreWithin p t f) (λ (b : Bool). b ≡ true → IsSharp p c.args.bounds.outside.now t)
-    (λ b within yes table bound. facts_under p table t f (within yes) (c.in_ok-found.ensures (record { formed = formed; resolved = classes.hierarchy; classes = classes; least = least; targeted = targeted }) table bound)) c.are_within.ensures
+    let f = c.in_ok-flats.flats in
+    IfOk-weaker c.are_within.result (λ (b : Bool). b ≡ true → AreWithin p t f) (λ (b : Bool). b ≡ true → IsSharp p c.args.outside.now t)
+    (λ b within yes table bound. facts_under p table t f (within yes) (c.in_ok-flats.ensures formed classes least targeted table bound)) c.are_within.ensures

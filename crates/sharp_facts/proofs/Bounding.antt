@@ -46,7 +46,7 @@ module _ (p : Program) (b : FlatTable) (t : Facts) (f : Flats) (within : AreWith
   method_within : (at : MethodAt) (m : Method) (body : Body) → method_at p at ≡ Some m → m.body ≡ Some body → MethodWithin t f m.name body
   method_within at m body is coded =
       let c = from_class (slice_get p.classes at.class) (λ (k : Class). slice_get k.methods at.place) m is in
-      (within at.class c.0 c.1.0).methods at.place m c.1.1 body coded
+      (within at.class c.0 c.1).methods at.place m c.2 body coded
 
   pub facts_under : AreFactsUnder p b t
   facts_under = record {
@@ -62,5 +62,5 @@ module _ (p : Program) (b : FlatTable) (t : Facts) (f : Flats) (within : AreWith
         within_under _ (slice_get f.results.items m.name) (b.results m.name) w.results (under.results m.name);
     fields = λ at field is.
         let c = from_class (slice_get p.classes at.0) (λ (k : Class). slice_get k.fields at.1) field is in
-        within_under _ (slice_get f.fields.items field.name) (b.fields field.name) ((within at.0 c.0 c.1.0).fields at.1 field c.1.1) (under.fields field.name);
+        within_under _ (slice_get f.fields.items field.name) (b.fields field.name) ((within at.0 c.0 c.1).fields at.1 field c.2) (under.fields field.name);
   }

@@ -97,7 +97,9 @@ fn rows(rt: &HostRuntime) -> io::Result<()> {
     let mut section = Section::Base;
     for line in text.lines() {
         if let Some(name) = line.strip_prefix("section ") {
+            // (a section begins without a program)
             section = Section::named(name);
+            page = Page::new(alloc);
             page.write_line(line);
         } else if page.takes(line) {
             tell(rt, section, &mut page, line)?;

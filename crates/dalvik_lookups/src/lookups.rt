@@ -214,23 +214,53 @@ pub(crate) fn class_in(class_of: &[u32], kind: Kind) -> Option<u32>
     }
 }
 
+/// The numbers of a program's types and texts, and its classes by type.
+#[derive(Drop)]
+struct Numbers {
+    kinds: Vec<Kind>,
+    strings: Vec<usize>,
+    class_of: Vec<u32>,
+    class_kinds: Vec<Kind>,
+}
+
+/// The numbers of a program's types and texts, which are added, and its classes by type.
+fn numbers_of<'a>(
+    alloc: Global,
+    program: &'a Program,
+    types: &mut Types<'a>,
+    texts: &mut Texts<'a>,
+) -> Result<Numbers, AllocError>
+    ensures kinds { AreKept types.old → IfOk result (λ made. KindsMade program.now types.old types.new made.kinds.items (length program.now.types)) }
+    ensures strings { AreTexts texts.old → IfOk result (λ made. StringsMade program.now texts.new made.strings.items (length program.now.strings)) }
+    ensures own { IfOk result (λ made. made.class_kinds.items ≡ map (λ c. kind_in made.kinds.items c.name) program.now.classes) }
+    ensures places { AreTypes types.old → length program.now.classes < 2 ^ 32 → IfOk result (λ made. ArePlaces made.class_kinds.items made.class_of.items) }
+{
+    let kinds = kinds_of(alloc, program, types)?;
+    let strings = strings_of(alloc, program, texts)?;
+    let class_kinds = class_kinds(alloc, program, kinds.as_slice())?;
+    let class_of = classes_by_type(alloc, types.len(), class_kinds.as_slice())?;
+    Ok(Numbers {
+        kinds,
+        strings,
+        class_of,
+        class_kinds,
+    })
+}
+
 /// The names of a program by numbers.
 fn names_of<'a>(alloc: Global, program: &'a Program) -> Result<Names<'a>, AllocError>
     ensures { length program.now.classes < 2 ^ 32 → IfOk result (λ names. HasNames program.now names) }
 {
     let mut types = Types::new(alloc)?;
     let mut texts = Texts::new(alloc);
-    let kinds = kinds_of(alloc, program, &mut types)?;
-    let strings = strings_of(alloc, program, &mut texts)?;
-    let class_kinds = class_kinds(alloc, program, kinds.as_slice())?;
-    let class_of = classes_by_type(alloc, types.len(), class_kinds.as_slice())?;
+    let numbers = numbers_of(alloc, program, &mut types, &mut texts)?;
     Ok(Names {
         types,
         texts,
-        kinds,
-        strings,
-        class_of,
-        class_kinds,
+        kinds: numbers.kinds,
+        strings: numbers.strings,
+        class_of: numbers.class_of,
+        class_kinds: numbers.class_kinds,
     })
 }
 
@@ -285,8 +315,7 @@ fn plays_in<'a>(
     ensures are { is_well_formed program.now ≡ true → HasNames program.now names.old → IfOk result (λ plays. ArePlays program.now names.new.types names.new.texts script.now plays.items) }
 {
     let declared = Declared::new(alloc, program, names)?;
-    let plays = plays_of(alloc, names, &declared, script)?;
-    Ok(plays)
+    plays_of(alloc, names, &declared, script)
 }
 
 /// The names of a program and a script by numbers, and the moves of the script.
@@ -351,6 +380,30 @@ fn marks_of(
     })
 }
 
+/// All that is made of a program, a script and a framework over the program's hierarchy.
+fn parts_of<'a>(
+    alloc: Global,
+    program: &'a Program,
+    outside: &Outside,
+    framework: &'a Framework,
+    script: &'a [Move],
+    hierarchy: &Hierarchy,
+) -> Result<(Stood<'a>, Marked), AllocError>
+    ensures names { is_well_formed program.now ≡ true → IfOk result (λ made. HasNames program.now made.0.names) }
+    ensures above { is_well_formed program.now ≡ true → IfOk result (λ made. AreAbove program.now framework.now made.0.names.types made.0.above) }
+    ensures plays { is_well_formed program.now ≡ true → IfOk result (λ made. ArePlays program.now made.0.names.types made.0.names.texts script.now made.0.plays.items) }
+    ensures slots { IfOk result (λ made. made.1.slots.items ≡ slots_from 0 program.now.classes) }
+    ensures outer { IfOk result (λ made. IsOuter program.now outside.now made.1.outer) }
+    ensures classes { is_well_formed program.now ≡ true → IfOk result (λ made. AreTypeMarks program.now made.0.names.types outside.now.classes made.1.outer.classes.items) }
+    ensures constructed { is_well_formed program.now ≡ true → IfOk result (λ made. AreTypeMarks program.now made.0.names.types (constructed_kinds program.now outside.now.methods) made.1.outer.constructed.items) }
+    ensures constructors { IfOk result (λ made. made.1.constructors.items ≡ map (is_constructor program.now) program.now.methods) }
+    ensures defaults { IsOf program.now hierarchy.now → IfOk result (λ made. made.1.defaults.items ≡ map (class_default program.now) program.now.classes) }
+{
+    let made = names_above(alloc, program, framework, script)?;
+    let marked = marks_of(alloc, program, outside, hierarchy, &made.names)?;
+    Ok((made, marked))
+}
+
 /// The tables of a program over its hierarchy and its names.
 fn tables_of<'a>(
     program: &'a Program,
@@ -406,10 +459,10 @@ fn both_of<'a>(
     ensures tables { is_well_formed program.now ≡ true → IsResolved program.now hierarchy → IfOk result (λ both. IsRight both.0) }
     ensures plays { is_well_formed program.now ≡ true → IfOk result (λ both. ArePlays program.now both.0.types both.0.texts script.now both.1.items) }
 {
-    let made = names_above(alloc, program, framework, script)?;
-    let marked = marks_of(alloc, program, outside, &hierarchy, &made.names)?;
+    let parts = parts_of(alloc, program, outside, framework, script, &hierarchy)?;
+    let made = parts.0;
     let tables = tables_of(
-        program, framework, hierarchy, made.names, made.above, marked,
+        program, framework, hierarchy, made.names, made.above, parts.1,
     );
     Ok((tables, made.plays))
 }

@@ -4,7 +4,7 @@ use Rattle.std.specs.Prelude.{◌&&◌, ◌||◌, not, cond, nat_lt, is_some, sl
 use Rattle.std.specs.Int.{w32, w64, cast_unsigned}
 use Rattle.std.specs.Option.{option_map, unwrap_or}
 use Rattle.std.specs.Ordering.{int_eq}
-use Rattle.insn_set.specs.Flow.{divides_by_literal, targets_of}
+use Rattle.insn_set.specs.Flow.{divides, divides_by_literal, targets_of}
 use Rattle.insn_set.specs.Widths.{binary_is_wide, second_is_wide}
 use Rattle.insn_set.specs.declared.ops.Item.{Item}
 use Rattle.insn_set.specs.declared.ops.Item.TheVariants as item
@@ -55,6 +55,7 @@ use Rattle.dalvik_defs.specs.declared.tables.Floats.{Floats}
 use Rattle.dalvik_defs.specs.declared.tables.Framework.{Framework}
 use Rattle.dalvik_defs.proofs.Frames.{now}
 use Rattle.domains.specs.Values.{Parts, value_holds}
+use Rattle.value_ops.specs.Left.{is_nothing}
 use Rattle.dom_frame.specs.Registers.{Registers, value_at}
 use Rattle.dom_frame.specs.declared.frames.Frame.{Frame as Values}
 use Rattle.facts.specs.declared.facts.Facts.{Facts}
@@ -70,7 +71,7 @@ use Rattle.pass_defs.specs.Analysis.{Analysis}
 use Rattle.pass_defs.specs.Facts as by_name
 use Rattle.pass_defs.specs.Pure.{is_quiet_field}
 use Rattle.run_laws.proofs.Fine.{each_get}
-use Rattle.lemmas.proofs.Bools.{and_left, and_right}
+use Rattle.lemmas.proofs.Bools.{and_left, and_right, and_false}
 use Rattle.lemmas.proofs.Lists.{contains_here, get_there, got_short}
 use Rattle.lemmas.proofs.Options.{none_some, some_same}
 use Rattle.removal_bridge.proofs.Formed.{no_object}
@@ -88,7 +89,7 @@ use Rattle.cover_law.proofs.Waiting.{formed}
 use Rattle.cover_law.specs.Operators.{operators}
 use Rattle.thin_laws.proofs.Tidied.{code_rules}
 use Rattle.bodies_kept.proofs.Inside.{some_position, get_contains}
-use Rattle.quiet_methods.specs.Forms.{quiet_if, starts_quietly, gets_quietly, method_demand, found_demand, call_demand, never_throws, form_demand, demand, ways}
+use Rattle.quiet_methods.specs.Forms.{quiet_if, starts_quietly, gets_quietly, method_demand, found_demand, call_demand, never_throws, form_demand, demand, one_if, division_ways, ways}
 use Rattle.quiet_methods.specs.Settled.{rank_at, IsLower}
 use Rattle.quiet_methods.specs.Bodies.{frame_in, demand_in, ways_in}
 use Rattle.quiet_methods.specs.Quiet.{is_on, frames_of, ranks_of, IsCode, IsMet, IsQuietAt, IsQuietBody, AreQuiet}
@@ -97,7 +98,7 @@ use Rattle.quiet_methods.proofs.Falling.{ranks_fall}
 use Rattle.thin_laws.specs.Calls.{Rank, EntersQuietly, Advances, GoesOn, CallsOne, EndsIt}
 use Rattle.calls_kept.proofs.Standing.{alone, Run, Stands, Framed, framed, same_code, form_same, form_there, code, insn as insn_of, method as method_of, body as code_of, A, T, S, settled, based, setting}
 use Rattle.calls_kept.proofs.Ways.{IsBranch, OnTest, OnZero, Packed, Sparse, edge_in_ways, Listed, listed}
-use Rattle.calls_kept.proofs.Dividing.{Writes, binary_writes, literal_writes}
+use Rattle.calls_kept.proofs.Dividing.{Writes, something, binary_writes, literal_writes}
 use Rattle.calls_kept.proofs.Entering.{QuietKey, QuietTarget, target_of, now_is, ready_class, EntersIt, static_enters}
 
 module _ (program : Program) (facts : Facts) (o : Outer) (f : Framework) (floats : Floats) (script : List Move) (run : Run program facts o f floats script) (marks : List Bool) (are : AreQuiet program facts.frames.items marks) where
@@ -294,6 +295,10 @@ module _ (program : Program) (facts : Facts) (o : Outer) (f : Framework) (floats
     writes_goes : (i : Insn) (e : i0 ≡ i) (wide : Bool) (to : ℕ) → ways i n x ≡ (n + 1) ∷ [] → Writes floats w g wide to (act (face_of p f).under floats (form_of program i) w g) → Adv
     writes_goes i e wide to way h = goes i e (record g { position = n + 1; registers = h.registers }) h.is refl (subst (λ l. Contains l (n + 1)) (sym way) (first (n + 1)))
 
+    -- what divides by something goes on
+    division_goes : (op : BinaryOp) (v : Parts) → is_nothing v ≡ false → division_ways op v n ≡ (n + 1) ∷ []
+    division_goes op v e = ap (λ c. one_if (not c) (n + 1)) (ap (λ c. divides op && c) e ∙ and_false (divides op))
+
     -- ---- a field of a class that is done
 
     static_goes : (i : Item) (to field : ℕ) (e : i0 ≡ insn.StaticGet i to field) → gets_quietly program field ≡ true → Adv
@@ -445,7 +450,7 @@ module _ (program : Program) (facts : Facts) (o : Outer) (f : Framework) (floats
     by_form insn.ReturnVoid e h = ends insn.ReturnVoid e None refl
     by_form (insn.Return t from) e h = ends (insn.Return t from) e (Some (register g from)) refl
     by_form (insn.Binary op to a c) e h = let y = form.Binary op to a c in let l = looked y (form_is (insn.Binary op to a c) e) in
-        writes_goes (insn.Binary op to a c) e (binary_is_wide op) to refl
+        writes_goes (insn.Binary op to a c) e (binary_is_wide op) to (division_goes op (value_at x c) (something p (value_at x c) (kind_of w (register g c)) (register g c) (seen_by_number c l.1.0)))
         (binary_writes floats w g p op to a c (value_at x c) (suited y (form_is (insn.Binary op to a c) e)).1 (seen_by_number c l.1.0) (quiet_true (never_throws op (value_at x c)) h))
     by_form (insn.Literal op to a value) e h = writes_goes (insn.Literal op to a value) e false to refl
         (literal_writes floats w g op to a value (suited (form.Literal op to a value) (form_is (insn.Literal op to a value) e)).1 (quiet_true (not (divides_by_literal op) || not (int_eq value (pos 0))) h))

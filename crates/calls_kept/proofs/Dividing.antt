@@ -54,16 +54,19 @@ module _ (p : NamedProgram) (v : Parts) (k : Text) (u : Value) (held : value_hol
   by_number true (Some n) e i j = not_zero u n (only p v true (Wide n) (ap (λ c. if c then Some (zero_number true) else only_number true v) i ∙ e) k u held) j
   by_number false (Some n) e i j = ap (λ z. nat_eq (word_of z) 0) (only p v false (Word n) (ap (λ c. if c then Some (zero_number false) else only_number false v) i ∙ e) k u held) ∙ not_true (nat_eq n 0) j
 
-  something : is_nothing v ≡ false
+  pub something : is_nothing v ≡ false
   something = by (is_nothing v) refl
     where
       by : (c : Bool) → is_nothing v ≡ c → c ≡ false
       by true e = absurd (nothing_held v (datum_of p k u) e held)
       by false e = refl
 
-  pub other_than_zero : (b : Bool) → is_no_zero b v ≡ true → nat_eq (word_of u) 0 ≡ false
-  other_than_zero true e = by_number true (known_wide_of v) refl something (sym (ap (λ c. c || is_other_than_zero (known_wide_of v)) something) ∙ e)
-  other_than_zero false e = by_number false (known_of v) refl something (sym (ap (λ c. c || is_other_than_zero (known_of v)) something) ∙ e)
+  pub other_than_zero : is_no_zero v ≡ true → nat_eq (word_of u) 0 ≡ false
+  other_than_zero e = by (or_cases (is_other_than_zero (known_of v)) (is_other_than_zero (known_wide_of v)) (sym (ap (λ c. c || (is_other_than_zero (known_of v) || is_other_than_zero (known_wide_of v))) something) ∙ e))
+    where
+      by : (is_other_than_zero (known_of v) ≡ true) ⊎ (is_other_than_zero (known_wide_of v) ≡ true) → nat_eq (word_of u) 0 ≡ false
+      by (inl z) = by_number false (known_of v) refl something z
+      by (inr z) = by_number true (known_wide_of v) refl something z
 
 -- ---- divisions
 
@@ -176,11 +179,11 @@ module _ (floats : Floats) (w : World) (g : Frame) where
   nonzero_sort (OnDouble op) a b l e = tt
 
   module _ (p : NamedProgram) (op : BinaryOp) (to a b : ℕ) (v : Parts) (l : NumberOf (second_is_wide op) (register g b)) (held : value_holds v (datum_of p (kind_of w (register g b)) (register g b))) where
-    nonzero_answers : is_no_zero (second_is_wide op) v ≡ true → Answers (sort_of op) a b
-    nonzero_answers e = nonzero_sort (sort_of op) a b (subst (λ c. NumberOf c (register g b)) (second_sort op) l) (other_than_zero p v (kind_of w (register g b)) (register g b) held (second_is_wide op) e)
+    nonzero_answers : is_no_zero v ≡ true → Answers (sort_of op) a b
+    nonzero_answers e = nonzero_sort (sort_of op) a b (subst (λ c. NumberOf c (register g b)) (second_sort op) l) (other_than_zero p v (kind_of w (register g b)) (register g b) held e)
 
     answers : never_throws op v ≡ true → Answers (sort_of op) a b
-    answers e = elim (or_cases (not (divides op)) (is_no_zero (second_is_wide op) v) e) [
+    answers e = elim (or_cases (not (divides op)) (is_no_zero v) e) [
       | inl d ↦ plain_sort (sort_of op) a b (sort_throws op ∙ not_true (divides op) d)
       | inr z ↦ nonzero_answers z
     ]
@@ -191,7 +194,7 @@ module _ (floats : Floats) (w : World) (g : Frame) where
     pub binary_writes : never_throws op v ≡ true → Writes (binary_is_wide op) to (binary floats (sort_of op) w g to a b)
     binary_writes e = widened (sort_writes (sort_of op) to a b (answers e))
 
-    pub division_writes : is_no_zero (second_is_wide op) v ≡ true → Writes (binary_is_wide op) to (binary floats (sort_of op) w g to a b)
+    pub division_writes : is_no_zero v ≡ true → Writes (binary_is_wide op) to (binary floats (sort_of op) w g to a b)
     division_writes e = widened (sort_writes (sort_of op) to a b (nonzero_answers e))
 
   pub literal_writes : (op : LiteralOp) (to a : ℕ) (z : ℤ) → IsSmall z → (not (divides_by_literal op) || not (int_eq z (pos 0))) ≡ true → Writes false to (literal op w g to a z)

@@ -1,6 +1,6 @@
 -- A call that does nothing by the facts enters a quiet method in each state of a run.
 use Rattle.std.proofs.Common.{◌≡◌, ◌⊎◌, inl, inr, ℕ, zero, suc, ◌<◌, Bool, true, false, true≢false, List, [], ◌∷◌, length, map, Option, Some, None, refl, sym, ap, ap₂, ◌∙◌, subst, arith, nat_eq}
-use Rattle.std.specs.Prelude.{◌&&◌, not, cond, is_some, slice_get, option_and_then, nat_lt, codes, Contains}
+use Rattle.std.specs.Prelude.{◌&&◌, ◌||◌, not, cond, is_some, slice_get, option_and_then, nat_lt, codes, Contains}
 use Rattle.std.specs.List.{range_with_len}
 use Rattle.std.specs.Option.{option_map}
 use Rattle.std.proofs.lemmas.Bool.{eqb-true, eq-eqb, ltb-true}
@@ -429,12 +429,12 @@ module _ (program : Program) (facts : Facts) (o : Outer) (f : Framework) (floats
     record Found_so (static : Bool) (q : MethodName) (x : Option MethodAt) : Type 0 where
       at : MethodAt
       is : x ≡ Some at
-      ordinary : is_constructor program q ≡ false
+      ordinary : static ≡ false → is_constructor program q ≡ false
       target : QuietTarget program marks at
 
     found_so : (static : Bool) (q : MethodName) (x : Option MethodAt) → is_quiet_found program marks static q x ≡ true → Found_so static q x
     found_so static q None e = absurd (true≢false (sym e))
-    found_so static q (Some at) e = by (look.method_at program at) refl (and_right (not (is_constructor program q)) (is_quiet_target program marks static at.class (look.method_at program at)) e)
+    found_so static q (Some at) e = by (look.method_at program at) refl (and_right (static || not (is_constructor program q)) (is_quiet_target program marks static at.class (look.method_at program at)) e)
       where
         by : (y : Option Method) → look.method_at program at ≡ y → is_quiet_target program marks static at.class y ≡ true → Found_so static q (Some at)
         by None i j = absurd (true≢false (sym j))
@@ -444,7 +444,8 @@ module _ (program : Program) (facts : Facts) (o : Outer) (f : Framework) (floats
             record {
               at = at;
               is = refl;
-              ordinary = not_true (is_constructor program q) (and_left (not (is_constructor program q)) (is_quiet_target program marks static at.class (look.method_at program at)) e);
+              ordinary = λ k. not_true (is_constructor program q) (sym (ap (λ z. z || not (is_constructor program q)) k)
+                  ∙ and_left (static || not (is_constructor program q)) (is_quiet_target program marks static at.class (look.method_at program at)) e);
               target = target_of at m i (and_left (is_some m.body) (is_on marks m.name) both) (and_right (is_some m.body) (is_on marks m.name) both) (and_right (is_some m.body && is_on marks m.name) (starts_quietly program at.class) k);
             }
 
@@ -479,7 +480,7 @@ module _ (program : Program) (facts : Facts) (o : Outer) (f : Framework) (floats
         below q class (Some at) i c pl v j =
             let z = found_so false q (Some at) (and_left (is_quiet_found program marks false q (Some at)) (not (is_overridden program q class at)) j) in
             let same : at ≡ z.at = some_same at z.at z.is in
-            virtual_quietly callee q class at i c pl v (not_true (is_overridden program q class at) (and_right (is_quiet_found program marks false q (Some at)) (not (is_overridden program q class at)) j)) z.ordinary
+            virtual_quietly callee q class at i c pl v (not_true (is_overridden program q class at) (and_right (is_quiet_found program marks false q (Some at)) (not (is_overridden program q class at)) j)) (z.ordinary refl)
             (subst (QuietTarget program marks) (sym same) z.target) r rs e (receiver_there call.Virtual (naming.method_at program callee) r rs e held)
 
         placed : (q : MethodName) (x : Option ℕ) → slice_get program.methods callee ≡ Some q → class_place program q.class ≡ x → is_quiet_under program marks q x ≡ true → Quiet_here

@@ -4,7 +4,7 @@ use Rattle.std.proofs.Common.{◌≡◌, ℕ, suc, Bool, true, List, ◌∷◌, 
 use Rattle.std.specs.Prelude.{slice_get}
 use Rattle.std.specs.Option.{unwrap_or}
 use Rattle.insn_set.specs.Flow.{divides}
-use Rattle.insn_set.specs.Widths.{binary_is_wide, second_is_wide}
+use Rattle.insn_set.specs.Widths.{binary_is_wide}
 use Rattle.insn_set.specs.declared.ops.BinaryOp.{BinaryOp}
 use Rattle.insn_set.specs.declared.ops.InvokeKind.{InvokeKind}
 use Rattle.insn_set.specs.declared.form.Insn.{Insn}
@@ -92,7 +92,7 @@ pub record SpareAt (p : Program) (s : Sound p) (frames : Frames) (k : MethodKey)
   pub x : ℕ
   pub y : ℕ
   pub there : slice_get body.insns n ≡ Some (insn.Binary op to x y)
-  pub well : divides_well (frame_at frames method.name n) op y ≡ true
+  pub well : divides_well (frame_at frames method.name n) y ≡ true
 
 module _ (program : Program) (facts : Facts) (o : Outer) (f : Framework) (floats : Floats) (script : List Move) (run : Run program facts o f floats script) (marks : List Bool) (w : World) (cs : Classes) (g : Frame)
     (st : Stands program facts o f floats script run w cs g) where
@@ -121,7 +121,7 @@ module _ (program : Program) (facts : Facts) (o : Outer) (f : Framework) (floats
 
   -- ---- divisions
 
-  module _ (op : BinaryOp) (to x y : ℕ) (e : st.form ≡ form.Binary op to x y) (well : divides_well (frame_for (method_of program facts o f floats script run w cs g st)) op y ≡ true) where
+  module _ (op : BinaryOp) (to x y : ℕ) (e : st.form ≡ form.Binary op to x y) (well : divides_well (frame_for (method_of program facts o f floats script run w cs g st)) y ≡ true) where
     abbrev at : Form
     at = form.Binary op to x y
 
@@ -140,8 +140,8 @@ module _ (program : Program) (facts : Facts) (o : Outer) (f : Framework) (floats
     fr : Framed program facts o f floats script run w cs g st
     fr = framed program facts o f floats script run w cs g st
 
-    no_zero : is_no_zero (second_is_wide op) (value_at st.number.here.registers y) ≡ true
-    no_zero = ap (λ r. is_no_zero (second_is_wide op) (value_at r y)) (sym fr.registers) ∙ (ap (λ z. divides_well z op y) (sym fr.there) ∙ well)
+    no_zero : is_no_zero (value_at st.number.here.registers y) ≡ true
+    no_zero = ap (λ r. is_no_zero (value_at r y)) (sym fr.registers) ∙ (ap (λ z. divides_well z y) (sym fr.there) ∙ well)
 
     written : Writes floats w g (binary_is_wide op) to (act (face_of (named program) f).under floats at w g)
     written = division_writes floats w g (named program) op to x y (value_at st.number.here.registers y) suited.1 held no_zero
@@ -160,7 +160,7 @@ module _ (program : Program) (facts : Facts) (o : Outer) (f : Framework) (floats
       let same : st.form ≡ form.Binary h.op h.to h.x h.y = form_is i (insn_there h.method h.body i h.code h.is_number h.there) in
       let is : x ≡ st.form = some_same x st.form (sym here ∙ form_there program facts o f floats script run w cs g st) in
       subst (λ y. WorksAlone (setting_of (named program) o f floats) (bodies_of (named program)) w cs g y) (sym (is ∙ same))
-      (works_so h.op h.to h.x h.y same (ap (λ (m : Method). divides_well (frame_for m) h.op h.y) (sym (method_there h.method h.body h.code h.is_number)) ∙ h.well))
+      (works_so h.op h.to h.x h.y same (ap (λ (m : Method). divides_well (frame_for m) h.y) (sym (method_there h.method h.body h.code h.is_number)) ∙ h.well))
 
 -- ---- all runs
 

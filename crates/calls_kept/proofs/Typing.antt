@@ -216,23 +216,23 @@ module _ (p : Program) (fits : is_well_formed p ≡ true) (marks : List Bool) wh
         by None i j = absurd (true≢false j)
         by (Some units) i j = ap (λ (y : Option (List ℕ)). is_constructor_name (elim y as (λ y. Text) [ Some t ↦ t | None ↦ [] ])) i ∙ j
 
-    found_ordinary : (static : Bool) (x : Option MethodAt) → is_quiet_found p marks static q x ≡ true → is_constructor_name (naming.method_at p callee).name ≡ false
-    found_ordinary static None e = absurd (true≢false (sym e))
-    found_ordinary static (Some at) e = ordinary_name (not_true (is_constructor p q) (and_left (not (is_constructor p q)) (is_quiet_target p marks static at.class (look.method_at p at)) e))
+    found_ordinary : (x : Option MethodAt) → is_quiet_found p marks false q x ≡ true → is_constructor_name (naming.method_at p callee).name ≡ false
+    found_ordinary None e = absurd (true≢false (sym e))
+    found_ordinary (Some at) e = ordinary_name (not_true (is_constructor p q) (and_left (not (is_constructor p q)) (is_quiet_target p marks false at.class (look.method_at p at)) e))
 
-  named_ordinary : (static : Bool) (callee : ℕ) → is_quiet_named p marks static callee (slice_get p.methods callee) ≡ true → is_constructor_name (naming.method_at p callee).name ≡ false
-  named_ordinary static callee e = by (slice_get p.methods callee) refl e
+  named_ordinary : (callee : ℕ) → is_quiet_named p marks false callee (slice_get p.methods callee) ≡ true → is_constructor_name (naming.method_at p callee).name ≡ false
+  named_ordinary callee e = by (slice_get p.methods callee) refl e
     where
-      by : (x : Option MethodName) → slice_get p.methods callee ≡ x → is_quiet_named p marks static callee x ≡ true → is_constructor_name (naming.method_at p callee).name ≡ false
+      by : (x : Option MethodName) → slice_get p.methods callee ≡ x → is_quiet_named p marks false callee x ≡ true → is_constructor_name (naming.method_at p callee).name ≡ false
       by None i j = absurd (true≢false (sym j))
-      by (Some q) i j = found_ordinary callee q i static (finds_static p callee) j
+      by (Some q) i j = found_ordinary callee q i (finds_static p callee) j
 
   virtual_ordinary : (callee : ℕ) → is_quiet_virtual p marks (slice_get p.methods callee) ≡ true → is_constructor_name (naming.method_at p callee).name ≡ false
   virtual_ordinary callee e = by (slice_get p.methods callee) refl e
     where
       below : (q : MethodName) (class : ℕ) (x : Option MethodAt) → slice_get p.methods callee ≡ Some q → is_quiet_for_all p marks q class x ≡ true → is_constructor_name (naming.method_at p callee).name ≡ false
       below q class None i j = absurd (true≢false (sym j))
-      below q class (Some at) i j = found_ordinary callee q i false (Some at) (and_left (is_quiet_found p marks false q (Some at)) (not (is_overridden p q class at)) j)
+      below q class (Some at) i j = found_ordinary callee q i (Some at) (and_left (is_quiet_found p marks false q (Some at)) (not (is_overridden p q class at)) j)
 
       placed : (q : MethodName) (x : Option ℕ) → slice_get p.methods callee ≡ Some q → is_quiet_under p marks q x ≡ true → is_constructor_name (naming.method_at p callee).name ≡ false
       placed q None i j = absurd (true≢false (sym j))
@@ -248,7 +248,7 @@ module _ (p : Program) (fits : is_well_formed p ≡ true) (marks : List Bool) wh
       static : (z : Bool) → (z && false) ≡ false
       static true = refl
       static false = refl
-  call_ordinary o call.Direct callee args e = ap (λ z. z && true) (named_ordinary false callee (and_right (has_object o args) (is_quiet_named p marks false callee (slice_get p.methods callee)) e))
+  call_ordinary o call.Direct callee args e = ap (λ z. z && true) (named_ordinary callee (and_right (has_object o args) (is_quiet_named p marks false callee (slice_get p.methods callee)) e))
   call_ordinary o call.Virtual callee args e = ap (λ z. z && true) (virtual_ordinary callee (and_right (has_object o args) (is_quiet_virtual p marks (slice_get p.methods callee)) e))
   call_ordinary o kind callee args e = absurd (true≢false (sym e))
 

@@ -1,19 +1,14 @@
 -- Which registers meet, as rows.
-use Rattle.std.specs.Prelude.{◌≡◌, ◌↔◌, ℕ, ◌+◌, ◌<◌, ◌⊎◌, Bool, true, ◌||◌, min, List, length, slice_get, Contains}
+use Rattle.std.specs.Prelude.{◌≡◌, ◌↔◌, ℕ, ◌<◌, ◌⊎◌, Bool, true, List, length, Contains}
 use Rattle.std.specs.List.{list_any, filter}
 use Rattle.insn_set.specs.declared.form.Insn.{Insn}
 use Rattle.program_model.specs.declared.body.Body.{Body}
 use Rattle.walk_marks.specs.Walks.{row_of, is_on}
 use Rattle.body_graph.specs.Walks.{IsRead}
-use Rattle.live_regs.specs.Live.{is_live}
-use Rattle.live_regs.specs.Liveness.{writes_at}
 use Rattle.live_regs.specs.declared.table.Live.{Live}
+pub use Rattle.register_criteria.specs.Live.{is_hit}
 use Rattle.compact.specs.Packed.{Conflict, is_used}
 use Rattle.compact.specs.declared.clash.Clash.{Clash}
-
--- whether a register is live behind a position, or written there
-abbrev pub is_hit : Live → List Insn → ℕ → ℕ → Bool
-is_hit live insns s n = is_live live (min (n + 1) 4294967295) s || writes_at s (slice_get insns n)
 
 -- the marks of the registers that a body uses
 pub record AreUsed (b : Body) (used : List Bool) : Type 0 where

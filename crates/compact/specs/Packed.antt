@@ -1,6 +1,6 @@
 -- Bodies whose registers have the least numbers that they can have (Dalvik bytecode, "Instruction formats"; this project's
 -- profile). `w` are the widths of the arguments of all methods.
-use Rattle.std.specs.Prelude.{◌≡◌, ℕ, suc, ◌-◌, ◌<◌, Bool, true, false, ◌&&◌, ◌||◌, not, nat_eq, List, [], ◌++◌, Some, Contains}
+use Rattle.std.specs.Prelude.{◌≡◌, ℕ, suc, ◌<◌, Bool, true, false, ◌&&◌, ◌||◌, not, nat_eq, List, [], ◌++◌, Some, Contains}
 use Rattle.std.specs.List.{list_any}
 use Rattle.insn_set.specs.Registers.{in_operand, reads_of, writes_of}
 use Rattle.insn_set.specs.Widths.{is_wide_slot, is_wide_item, unary_writes_wide, binary_is_wide}
@@ -10,6 +10,7 @@ use Rattle.insn_set.specs.declared.form.Insn.TheVariants.{Move, MoveResult, Cons
 use Rattle.program_model.specs.declared.body.Body.{Body}
 use Rattle.insn_regs.specs.Wides.{first_if, wides_read}
 use Rattle.body_graph.specs.Walks.{insn_at, onward, IsRead}
+pub use Rattle.register_criteria.specs.Locals.{locals}
 
 -- ---- wide operands
 
@@ -66,10 +67,6 @@ binds w f r = list_any (λ at. in_operand true at r) (wides_of w f) || in_range_
 -- never half of a wide, and in no such call
 abbrev pub is_free : List (List Bool) → Body → ℕ → Bool
 is_free w b r = not (list_any (λ f. binds w f r) b.insns)
-
--- how many registers are no arguments: these have the numbers below
-abbrev pub locals : Body → ℕ
-locals b = b.registers - b.ins
 
 -- Each register that is used and never half of a wide, nor in such a call, conflicts with each lower number, and the
 -- greatest register that is no argument is used.

@@ -15,6 +15,7 @@ use crate::writers::writers_of;
 use insn_set::Insn;
 use live_regs::{Live, has, live, write_word};
 use program_model::Body;
+use register_criteria::is_hit;
 use seq::Seq;
 use std::alloc::{AllocError, Global};
 use walk_marks::turned;
@@ -25,23 +26,6 @@ use walk_marks::turned;
 pub(crate) struct Clash {
     pub(crate) rows: Vec<Seq<u32>>,
     pub(crate) back: Vec<Seq<u32>>,
-}
-
-/// Whether the instruction at a position writes a register.
-fn writes_at(insns: &[Insn], position: u32, register: u32) -> bool
-    ensures { result ≡ writes_at register (slice_get insns.now position) }
-{
-    match insns.get(position as usize) {
-        Some(insn) => insn.writes(register),
-        None => false,
-    }
-}
-
-/// Whether a register is live behind a position, or written there.
-fn is_hit(live: &Live, insns: &[Insn], register: u32, position: u32) -> bool
-    ensures { result ≡ is_hit live.now insns.now register position }
-{
-    live.before(position.saturating_add(1), register) || writes_at(insns, position, register)
 }
 
 /// Whether a register is live behind one of the positions, or written there.

@@ -3,8 +3,6 @@
 ghost use Rattle.std.specs.Prelude.{◌≡◌, ◌<◌, ◌≤◌, ◌+◌, ◌-◌, ◌^◌, ◌⊎◌, ℕ, [], length, map, true, slice_index, IfOk, OnOk, IsTrue};
 ghost use Rattle.insn_regs.specs.Wides.{widths_of};
 ghost use Rattle.insn_regs.specs.Remade.{remade};
-ghost use Rattle.walk_marks.specs.Walks.{is_on};
-ghost use Rattle.compact.specs.Packed.{locals};
 ghost use Rattle.compact.specs.Renamed.{renamed, IsCompacted, IsCompactedMethod, IsCompactedClass, IsCompactedProgram, AreEdited, IsCounted};
 ghost use Rattle.compact.specs.Clashes.{AreUsed};
 ghost use Rattle.compact.specs.Choosing.{IsChoice, Moves};
@@ -16,8 +14,10 @@ use crate::places::places_of;
 use crate::runs::floor_of;
 use crate::ties::ties_of;
 use crate::used::used_in;
+use criteria::is_admitted;
 use insn_regs::widths_of;
 use program_model::{Admitted, Body, Changed, Class, Method, Program};
+use register_criteria::locals;
 use seq::Seq;
 use std::alloc::{AllocError, Global};
 
@@ -28,13 +28,6 @@ fn is_countable(body: &Body) -> bool
 {
     let most = u32::MAX as usize;
     body.insns.len() < most && body.regions.len() <= most - body.insns.len()
-}
-
-/// How many registers are no arguments.
-fn locals(body: &Body) -> u16
-    ensures { result ≡ locals body.now }
-{
-    body.registers.saturating_sub(body.ins)
 }
 
 /// The new numbers of a body's registers.
@@ -104,16 +97,6 @@ fn compact_body(alloc: Global, widths: &[Seq<bool>], body: &mut Body) -> Result<
     Ok(1)
 }
 
-/// Whether a number is marked.
-fn is_on(marks: &[bool], number: u32) -> bool
-    ensures { result ≡ is_on marks.now number }
-{
-    match marks.get(number as usize) {
-        Some(mark) => *mark,
-        None => false,
-    }
-}
-
 /// Compacts the body of a method where it is admitted, and counts the bodies that change.
 fn compact_method(
     alloc: Global,
@@ -124,7 +107,7 @@ fn compact_method(
     ensures is { IfOk result (λ count. IsCompactedMethod widths.now admitted.now method.old method.new) }
     ensures count { IfOk result (λ count. IsCounted count method.old method.new) }
 {
-    if is_on(admitted, method.name) {
+    if is_admitted(admitted, method.name) {
         if let Some(body) = &mut method.body {
             return compact_body(alloc, widths, body);
         }

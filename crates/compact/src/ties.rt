@@ -4,43 +4,33 @@ ghost use Rattle.std.specs.Prelude.{◌≡◌, ◌++◌, ◌+◌, ◌<◌, ◌^�
 ghost use Rattle.std.specs.List.{filter, list_all};
 ghost use Rattle.insn_set.specs.Spelling.{fit_nibbles};
 ghost use Rattle.walk_marks.specs.Walks.{row_of};
-ghost use Rattle.insn_regs.specs.Wides.{first_if};
 ghost use Rattle.compact.specs.Packed.{wides_written};
 ghost use Rattle.compact.specs.Ties.{has_next, tied_words, range_ties, ties_of, ties_at, AreTies, has_some};
 
 use insn_regs::wides_read;
 use insn_set::Insn;
 use program_model::Body;
+use register_criteria::add_wide;
 use seq::Seq;
 use std::alloc::{AllocError, Global};
 use walk_marks::turned;
-
-/// Adds the register of an operand where it is wide.
-fn add_if(wide: bool, register: u16, found: &mut Vec<u32>) -> Result<(), AllocError>
-    ensures { OnOk result (found.new.items ≡ found.old.items ++ first_if wide register) }
-{
-    if wide {
-        found.push(u32::from(register))?;
-    }
-    Ok(())
-}
 
 /// Adds the first register of a wide operand that an instruction writes.
 fn add_written(insn: &Insn, found: &mut Vec<u32>) -> Result<(), AllocError>
     ensures { OnOk result (found.new.items ≡ found.old.items ++ wides_written insn.now) }
 {
     match insn {
-        Insn::Move { slot, to, .. } | Insn::MoveResult { slot, to } => add_if(
+        Insn::Move { slot, to, .. } | Insn::MoveResult { slot, to } => add_wide(
             slot.is_wide(),
             *to,
             found,
         ),
-        Insn::ConstWide { to, .. } => add_if(true, *to, found),
+        Insn::ConstWide { to, .. } => add_wide(true, *to, found),
         Insn::ArrayGet { item, to, .. }
         | Insn::InstanceGet { item, to, .. }
-        | Insn::StaticGet { item, to, .. } => add_if(item.is_wide(), *to, found),
-        Insn::Unary { op, to, .. } => add_if(op.writes_wide(), *to, found),
-        Insn::Binary { op, to, .. } => add_if(op.is_wide(), *to, found),
+        | Insn::StaticGet { item, to, .. } => add_wide(item.is_wide(), *to, found),
+        Insn::Unary { op, to, .. } => add_wide(op.writes_wide(), *to, found),
+        Insn::Binary { op, to, .. } => add_wide(op.is_wide(), *to, found),
         _ => Ok(()),
     }
 }

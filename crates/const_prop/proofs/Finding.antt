@@ -37,6 +37,10 @@ definers_more s class key first definers n known more old l step k name proto is
     let at : get_or definers n 0 < count_of s = below n (get_or definers n 0) (slice_get-get_or definers n 0 l) in
     step k name proto is lt at ∙ (ap (λ v. f v (get_or definers n 0)) (old k name proto is lt below) ∙ sym (fold_more f first definers n 0 l))
 
+-- one item more
+pub fold_step : (f : Parts → ℕ → Parts) (first : Parts) (xs : List ℕ) (n : ℕ) (known more : Parts) → n < length xs → known ≡ fold f first (take n xs) → more ≡ f known (get_or xs n 0) → more ≡ fold f first (take (n + 1) xs)
+fold_step f first xs n known more l old step = step ∙ (ap (λ v. f v (get_or xs n 0)) old ∙ sym (fold_more f first xs n 0 l))
+
 -- ---- places of classes
 
 range_below : (count a n : ℕ) → a + n ≤ count → AreBelow count (range_with_len a n)

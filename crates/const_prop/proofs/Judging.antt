@@ -28,7 +28,7 @@ use Rattle.const_prop.proofs.Plans.{plan_weaker}
 
 judged_for : (p : Program) (h : Hierarchy) (v : Verifier) (at : MethodAt) (t : Option Table) → IsFor p h v → IsJudgedBy v at t → IsJudged p h at t
 judged_for p h v at (Some x) f j = record { verifier = v; is = f; types = j }
-judged_for p h v at None f j = (j.0, record { verifier = v; is = f; refuses = j.1 })
+judged_for p h v at None f j = record { method = j.method; position = j.position; register = j.register; refuses = record { verifier = v; is = f; refuses = j.refuses } }
 
 pub folds_well : (s : Results) (v : Verifier) (at : MethodAt) (m : Method) (b : Body) (xs : List Fold) (t : Option Table) (es : List Edit) → IsFor s.program.now s.hierarchy.now v → All (IsFound b) xs
     → (IsKnown s → xs ≡ folds_of s.program.now s.facts.now at.class m.name b) → (list_any (is_asked b) xs ≡ true → IsJudgedBy v at t) → es ≡ edits_of t b xs

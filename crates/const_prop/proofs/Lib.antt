@@ -5,3 +5,5 @@ pub mod Plans
 pub mod Finding
 pub mod Invariants
 pub mod Judging
+pub mod Unfound
+pub mod Bounds

@@ -14,7 +14,7 @@ use Rattle.dom_frame.specs.Classes.{AreClasses}
 use Rattle.dom_frame.specs.declared.classes.Classes.{Classes}
 use Rattle.hierarchy.specs.Shapes.{IsResolved}
 use Rattle.hierarchy.specs.declared.build.Hierarchy.{Hierarchy}
-use Rattle.verify.specs.declared.fault.TypeFault.{TypeFault}
+use Rattle.verify.specs.declared.fault.TypeFault.TheVariants as fault
 use Rattle.verify.specs.declared.typed.Typings.{Typings}
 use Rattle.verify.specs.declared.typed.Verifier.{Verifier}
 use Rattle.verify.specs.Flow.{places_of}
@@ -98,14 +98,28 @@ edits_of t b (x ∷ xs) = if is_typed t b x then edit_of x ∷ edits_of t b xs e
 abbrev pub table_of : Option Typings → Option Table
 table_of o = option_map (λ t. places_of t.states.items) o
 
--- the least typing of a method by a verifier, or none where it refuses the method
+-- a verifier refuses a method, whose code has no typing
+pub record IsRefusedBy (v : Verifier) (at : MethodAt) : Type 0 where
+  pub method : ℕ
+  pub position : ℕ
+  pub register : ℕ
+  pub refuses : RefusesAt v at (fault.IllTyped method position register)
+
+-- a verifier of the program does so
+pub record IsRefused (p : Program) (h : Hierarchy) (at : MethodAt) : Type 0 where
+  pub method : ℕ
+  pub position : ℕ
+  pub register : ℕ
+  pub refuses : RefusesFor p h at (fault.IllTyped method position register)
+
+-- the least typing of a method by a verifier, or none where its code has none
 abbrev pub IsJudgedBy : Verifier → MethodAt → Option Table → Type 0
 IsJudgedBy v at (Some x) = TypesAt v at x
-IsJudgedBy v at None = (e : TypeFault) × RefusesAt v at e
+IsJudgedBy v at None = IsRefusedBy v at
 
 abbrev pub IsJudged : Program → Hierarchy → MethodAt → Option Table → Type 0
 IsJudged p h at (Some x) = TypesFor p h at x
-IsJudged p h at None = (e : TypeFault) × RefusesFor p h at e
+IsJudged p h at None = IsRefused p h at
 
 -- Just what the facts and the kinds allow is written over the body of a method: each allowed position, and no other one. The
 -- typing is the method's, where it has to be asked.

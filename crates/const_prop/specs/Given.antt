@@ -10,10 +10,11 @@ use Rattle.program_model.specs.declared.program.Method.{Method}
 use Rattle.program_model.specs.declared.program.MethodAt.{MethodAt}
 use Rattle.program_model.specs.declared.program.Program.{Program}
 use Rattle.program_model.specs.Lookups.{class_place, method_at}
-use Rattle.class_defs.specs.Finding.{finds_from, finds_virtual, candidates, is_037}
+use Rattle.class_defs.specs.Finding.{Search, Nothing, Clash, Finds, finds_from, finds_virtual, finds_at, candidates, is_037}
 use Rattle.class_defs.specs.Members.{own_virtual, is_interface}
 use Rattle.class_defs.specs.Places.{super_place, is_under}
 use Rattle.hierarchy.specs.Naming.{definers_of}
+use Rattle.hierarchy.specs.Touring.{subclasses_of}
 use Rattle.domains.specs.Values.{Parts, least_value, any_value, value_joined}
 use Rattle.facts.specs.declared.facts.Facts.{Facts}
 use Rattle.facts.specs.Lent.{frame_at}
@@ -41,8 +42,30 @@ module _ (p : Program) (facts : Facts) where
   abbrev pub with_definer : ℕ → ℕ → ℕ → Parts → ℕ → Parts
   with_definer name proto class v definer = if not (nat_eq definer class) && is_under p definer class then with_maybe v (own_virtual p name proto definer) else v
 
+  -- what a look-up gives: anything where it finds nothing, and nothing where candidates clash
+  abbrev pub search_value : Search → Parts
+  search_value Nothing = any_value
+  search_value Clash = least_value
+  search_value (Finds at) = found_value (Some at)
+
+  -- what an object of one class more finds
+  abbrev pub with_class : ℕ → ℕ → Parts → ℕ → Parts
+  with_class name proto v class = value_joined v (search_value (finds_at p class name proto))
+
+  -- what a class finds, and some others: anything where the first one finds nothing
+  abbrev pub by_search : ℕ → ℕ → List ℕ → Search → Parts
+  by_search name proto others Nothing = any_value
+  by_search name proto others Clash = fold (with_class name proto) least_value others
+  by_search name proto others (Finds at) = fold (with_class name proto) (found_value (Some at)) others
+
+  -- Where a class has a virtual method or inherits one, each class under it finds this one or one that a class under the first
+  -- one defines. Where it has none, each class under it finds what it has itself, inherits, or its interfaces give.
+  abbrev pub by_found : ℕ → ℕ → ℕ → Option MethodAt → Parts
+  by_found name proto class (Some at) = fold (with_definer name proto class) (found_value (Some at)) (definers_of p name proto)
+  by_found name proto class None = by_search name proto (subclasses_of p class) (finds_at p class name proto)
+
   abbrev pub virtual_value : ℕ → ℕ → ℕ → Parts
-  virtual_value name proto class = fold (with_definer name proto class) (found_value (finds_virtual p name proto class)) (definers_of p name proto)
+  virtual_value name proto class = by_found name proto class (finds_virtual p name proto class)
 
   -- of an interface its receiver may be any object, since kinds say nothing of interfaces, and so one that finds no code
   abbrev pub receiver_value : ℕ → ℕ → ℕ → Parts

@@ -8,3 +8,4 @@ pub mod Allowed
 pub mod Folds
 pub mod Measure
 pub mod Asked
+pub mod Defaults

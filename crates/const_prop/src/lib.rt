@@ -20,6 +20,7 @@
 
 mod asking;
 mod choices;
+mod defaults;
 mod folding;
 mod kinds;
 mod numbers;

@@ -1,13 +1,13 @@
 //! What calls and gets bring, by the facts of what they find.
 
-ghost use Rattle.std.specs.Prelude.{◌≡◌, ◌<◌, ◌∷◌, [], ℕ, fold, IfOk, slice_get};
+ghost use Rattle.std.specs.Prelude.{◌≡◌, ◌<◌, ◌∷◌, [], ℕ, Some, fold, IfOk, slice_get};
 ghost use Rattle.std.specs.Option.{option_copied};
 ghost use Rattle.program_model.specs.Lookups.{method_at};
 ghost use Rattle.class_defs.specs.Finding.{candidates, is_037};
 ghost use Rattle.class_defs.specs.Members.{is_interface};
 ghost use Rattle.class_defs.specs.Places.{super_place};
 ghost use Rattle.const_prop.specs.Asked.{IsKnown, IsKeyOf, AreBelow, count_of};
-ghost use Rattle.const_prop.specs.Given.{method_value, found_value, with_found, with_definer, virtual_value, receiver_value, among_value};
+ghost use Rattle.const_prop.specs.Given.{method_value, found_value, with_found, with_definer, by_found, virtual_value, receiver_value, among_value};
 ghost use Rattle.const_prop.specs.Given.{above_value, super_value, kind_value, call_value, behind};
 ghost use Rattle.const_prop.specs.Known.{field_in, field_value, is_quiet_field};
 
@@ -31,7 +31,7 @@ pub(crate) struct Results<'a> {
 
 impl<'a> Results<'a> {
     /// The method at a place.
-    fn method_at(&self, at: MethodAt) -> Option<&'a Method>
+    pub(crate) fn method_at(&self, at: MethodAt) -> Option<&'a Method>
         ensures { option_copied result ≡ method_at self.now.program.now at }
     {
         let class = self.program.classes.as_slice().get(at.class as usize)?;
@@ -52,7 +52,11 @@ impl<'a> Results<'a> {
     }
 
     /// What a method that was found can give: anything where none was.
-    fn of_found(&self, alloc: Global, found: Option<MethodAt>) -> Result<Value, AllocError>
+    pub(crate) fn of_found(
+        &self,
+        alloc: Global,
+        found: Option<MethodAt>,
+    ) -> Result<Value, AllocError>
         ensures { IfOk result (λ v. v ≡ found_value self.now.program.now self.now.facts.now found) }
     {
         match found {
@@ -110,18 +114,35 @@ impl<'a> Results<'a> {
         Ok(known)
     }
 
-    /// What a call on an object of a class of the program, or of one under it, can give: what the class finds gives, and what a
-    /// class under it defines. Each class under it finds one of these.
+    /// What a call on an object of a class of the program, or of one under it, can give, where the class has or inherits a
+    /// virtual method: what this one gives, and what a class under the first one defines. Each class under it finds one of these.
+    fn of_inherited(
+        &self,
+        alloc: Global,
+        class: u32,
+        key: u32,
+        found: MethodAt,
+    ) -> Result<Value, AllocError>
+        ensures { IsKnown self.now → (name proto : ℕ) → IsKeyOf self.now key name proto → class < count_of self.now
+            → IfOk result (λ v. v ≡ by_found self.now.program.now self.now.facts.now name proto class (Some found)) }
+    {
+        let first = self.of_found(alloc, Some(found))?;
+        self.with_definers(alloc, class, key, first, self.hierarchy.definers_of(key))
+    }
+
+    /// What a call on an object of a class of the program, or of one under it, can give.
     fn of_virtual(&self, alloc: Global, class: u32, key: u32) -> Result<Value, AllocError>
         ensures { IsKnown self.now → (name proto : ℕ) → IsKeyOf self.now key name proto → class < count_of self.now
             → IfOk result (λ v. v ≡ virtual_value self.now.program.now self.now.facts.now name proto class) }
     {
-        let first = self.of_found(alloc, self.hierarchy.find_virtual(self.program, class, key))?;
-        self.with_definers(alloc, class, key, first, self.hierarchy.definers_of(key))
+        match self.hierarchy.find_virtual(self.program, class, key) {
+            Some(found) => self.of_inherited(alloc, class, key, found),
+            None => self.of_unfound(alloc, class, key),
+        }
     }
 
     /// Whether the class at a place is an interface.
-    fn is_interface(&self, class: u32) -> bool
+    pub(crate) fn is_interface(&self, class: u32) -> bool
         ensures { result ≡ is_interface (slice_get self.now.program.now.classes class) }
     {
         match self.program.classes.as_slice().get(class as usize) {
@@ -182,7 +203,7 @@ impl<'a> Results<'a> {
     }
 
     /// Whether the program is of version 037.
-    fn is_037(&self) -> bool
+    pub(crate) fn is_037(&self) -> bool
         ensures { result ≡ is_037 self.now.program.now.version }
     {
         match self.program.version {

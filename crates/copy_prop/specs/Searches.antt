@@ -15,6 +15,7 @@ use Rattle.body_graph.specs.Walks.{insn_at, onward, caught, IsReached, IsReadAt}
 use Rattle.copy_prop.specs.Stale.{in_copy, casts, is_cast, reading, units, overlaps, IsCopy, IsSpoilt, StandsFor, IsWorthIt, IsStaleBy}
 use Rattle.copy_prop.specs.declared.steps.Steps.{Steps}
 use Rattle.copy_prop.specs.declared.copied.Copied.{Copied}
+pub use Rattle.register_criteria.specs.Copies.{touches}
 
 abbrev pub onward_from : Option Insn → ℕ → List ℕ
 onward_from None n = []
@@ -39,10 +40,6 @@ pub record AreSteps (b : Body) (s : Steps) : Type 0 where
   pub reached : (n : ℕ) → n < length b.insns → (is_on s.reached.items n ≡ true) ↔ IsReached b n
 
 -- ---- where a copy is spoilt
-
--- a test of some register of a copy
-abbrev pub touches : (ℕ → Bool) → Slot → ℕ → ℕ → Bool
-touches p slot to from = (p to || p from) || (is_wide_slot slot && (p (to + 1) || p (from + 1)))
 
 abbrev pub when : Bool → List ℕ → List ℕ
 when true xs = xs

@@ -5,8 +5,8 @@ ghost use Rattle.copy_prop.specs.Propagated.{IsPropagated, IsPropagatedMethod, I
 
 use crate::copied::Copied;
 use crate::pass::is_countable;
-use crate::searches::is_on;
 use crate::stale::stale_copies;
+use criteria::is_admitted;
 use insn_regs::widths_of;
 use program_model::{Admitted, Body, Class, Method, Program};
 use seq::Seq;
@@ -48,7 +48,7 @@ fn is_stale_method(
     ensures none { IfOk result (λ some. some ≡ false → IsPropagatedMethod widths.now admitted.now method.now method.now) }
     ensures some { IfOk result (λ some. some ≡ true → HasStaleMethod widths.now admitted.now method.now) }
 {
-    if is_on(admitted, method.name) {
+    if is_admitted(admitted, method.name) {
         if let Some(body) = &method.body {
             return has_stale_read(alloc, widths, body);
         }

@@ -2,13 +2,12 @@
 
 ghost use Rattle.std.specs.Prelude.{◌≡◌, ◌↔◌, ◌<◌, ◌+◌, ◌^◌, ℕ, [], length, IfOk, OnOk, IsTrue};
 ghost use Rattle.insn_regs.specs.Wides.{widths_of};
-ghost use Rattle.walk_marks.specs.Walks.{is_on};
 ghost use Rattle.copy_prop.specs.Propagated.{IsPropagated, RewritesBody, IsPropagatedMethod, IsPropagatedClass, IsPropagatedProgram, reread_row, one_if_some, AreReread, AreEdited, IsCounted};
 
 use crate::copied::Copied;
 use crate::reading::reread;
-use crate::searches::is_on;
 use crate::stale::stale_copies;
+use criteria::is_admitted;
 use insn_regs::widths_of;
 use insn_set::Insn;
 use program_model::{Admitted, Body, Changed, Class, Method, Program};
@@ -86,7 +85,7 @@ fn propagate_method(
     ensures is { IfOk result (λ count. IsPropagatedMethod widths.now admitted.now method.old method.new) }
     ensures count { IfOk result (λ count. IsCounted count method.old method.new) }
 {
-    if is_on(admitted, method.name) {
+    if is_admitted(admitted, method.name) {
         if let Some(body) = &mut method.body {
             return propagate_body(alloc, widths, body);
         }

@@ -8,8 +8,10 @@ ghost use Rattle.copy_prop.specs.Searches.{AreSteps, AreSpoilt, touches, seeds_t
 
 use crate::copied::Copied;
 use crate::steps::{Steps, insn_at};
+use criteria::is_on;
 use insn_set::Insn;
 use program_model::Body;
+use register_criteria::writes_copy;
 use std::alloc::{AllocError, Global};
 use walk_marks::{Gate, marked};
 
@@ -29,21 +31,11 @@ impl Gate for Elsewhere {
     }
 }
 
-/// Whether an instruction writes a register of a copy.
-fn writes_copy(insn: &Insn, copy: &Copied) -> bool
-    ensures { result ≡ touches (writes_of insn.now) copy.now.slot copy.now.to copy.now.from }
-{
-    let to = u32::from(copy.to);
-    let from = u32::from(copy.from);
-    (insn.writes(to) || insn.writes(from))
-        || (copy.slot.is_wide() && (insn.writes(to + 1) || insn.writes(from + 1)))
-}
-
 /// Whether an instruction that isn't the Move itself writes a register of its copy.
 fn writes_elsewhere(insn: &Insn, copy: &Copied, position: u32) -> bool
     ensures { result ≡ (not (nat_eq position copy.now.at) && touches (writes_of insn.now) copy.now.slot copy.now.to copy.now.from) }
 {
-    position != copy.at && writes_copy(insn, copy)
+    position != copy.at && writes_copy(insn, copy.slot, copy.to, copy.from)
 }
 
 /// Whether an instruction is a cast of a register of a copy.
@@ -58,16 +50,6 @@ fn casts_copy(insn: &Insn, copy: &Copied) -> bool
             (to == on || from == on) || (copy.slot.is_wide() && (to + 1 == on || from + 1 == on))
         }
         _ => false,
-    }
-}
-
-/// Whether a number is marked.
-pub(crate) fn is_on(marks: &[bool], number: u32) -> bool
-    ensures { result ≡ is_on marks.now number }
-{
-    match marks.get(number as usize) {
-        Some(mark) => *mark,
-        None => false,
     }
 }
 

@@ -1,6 +1,6 @@
 //! Which reads are stale, and by which Moves.
 
-ghost use Rattle.std.specs.Prelude.{◌≡◌, ◌↔◌, ◌+◌, ◌<◌, ◌^◌, ℕ, true, false, ◌&&◌, not, replicate, [], ◌∷◌, ◌++◌, length, nat_eq, slice_get, slice_index_or, IfOk, OnOk, IsTrue};
+ghost use Rattle.std.specs.Prelude.{◌≡◌, ◌↔◌, ◌+◌, ◌<◌, ◌^◌, ℕ, true, false, ◌&&◌, replicate, [], ◌∷◌, ◌++◌, length, nat_eq, slice_get, slice_index_or, IfOk, OnOk, IsTrue};
 ghost use Rattle.std.specs.List.{list_any};
 ghost use Rattle.walk_marks.specs.Walks.{is_on, row_of};
 ghost use Rattle.copy_prop.specs.Stale.{IsCopy};
@@ -9,9 +9,10 @@ ghost use Rattle.copy_prop.specs.Searches.{AreSteps, AreGood, AllGood, StandsBeh
 use crate::copied::Copied;
 use crate::moves::copied_at;
 use crate::reading::can_read;
-use crate::searches::{both, is_on, spoilt};
+use crate::searches::{both, spoilt};
 use crate::steps::{Steps, insn_at};
 use crate::walking::steps_of;
+use criteria::{is_kept, is_on};
 use insn_set::Insn;
 use program_model::Body;
 use seq::Seq;
@@ -54,13 +55,6 @@ impl Gate for Unwritten<'_> {
     fn is_open(&self, from: u32, to: u32) -> bool {
         !writes_at(self.insns, self.register, from) || is_caught(self.backs, from, to)
     }
-}
-
-/// Whether a position is reached and not spoilt.
-fn is_kept(reached: &[bool], spoilt: &[bool], position: u32) -> bool
-    ensures { result ≡ (is_on reached.now position && not (is_on spoilt.now position)) }
-{
-    is_on(reached, position) && !is_on(spoilt, position)
 }
 
 /// Whether an instruction to which the copy is kept can read the original. The only error is want of memory.

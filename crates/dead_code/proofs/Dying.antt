@@ -1,5 +1,5 @@
 -- What is marked dead is dead, and the other way round.
-use Rattle.std.proofs.Common.{◌≡◌, ◌↔◌, ◌⊎◌, inl, inr, ℕ, suc, ◌+◌, ◌<◌, if◌then◌else◌, Bool, true, false, not, ◌&&◌, ◌||◌, List, [], ◌∷◌, ◌++◌, length, map, Option, Some, None, option_to_list, slice_get, nat_eq, nat_lt, Contains, refl, sym, ap, ◌∙◌, subst, arith, lt-ltb, ltb-true}
+use Rattle.std.proofs.Common.{◌≡◌, ◌↔◌, ◌⊎◌, inl, inr, ℕ, suc, ◌+◌, ◌<◌, if◌then◌else◌, Bool, true, false, not, ◌&&◌, ◌||◌, List, [], ◌∷◌, ◌++◌, length, Option, Some, None, slice_get, nat_eq, nat_lt, Contains, refl, sym, ap, ◌∙◌, subst, arith, lt-ltb, ltb-true}
 use Rattle.std.specs.List.{list_any}
 use Rattle.std.proofs.lemmas.Bool.{cases_lt, false≢true, and_parts, and_from, or_cases, or_left, or_right, not-true, not_from_false, false_from_ne_true, eqb-true, eq-eqb}
 use Rattle.std.proofs.lemmas.List.{length_push, get_or_push, get_or_append_left}
@@ -7,8 +7,6 @@ use Rattle.insn_set.specs.declared.form.Insn.{Insn}
 use Rattle.insn_set.specs.declared.form.Insn.TheVariants as insn
 use Rattle.insn_set.specs.Registers.{in_operand, writes_of}
 use Rattle.program_model.specs.declared.body.Body.{Body}
-use Rattle.std.proofs.lemmas.List.Folds.{list_any-append}
-use Rattle.program_model.specs.declared.body.Handler.{Handler}
 use Rattle.program_model.specs.declared.body.Region.{Region}
 use Rattle.flow_cfg.specs.Walks.{covers, handlers_in, handlers_at, successors_of}
 use Rattle.insn_set.specs.Flow.{throws}
@@ -73,10 +71,6 @@ any_to p (n ∷ ns) m c h = elim (split n ns m c) [
 
 -- ---- what a walk goes to
 
-or_false : (t : Bool) → (t || false) ≡ t
-or_false true = refl
-or_false false = refl
-
 -- a pure form goes on to the next position
 pure_onward : (quiet : ℕ → Bool) (i : Insn) (n : ℕ) → is_pure quiet i ≡ true → onward i n ≡ (n + 1) ∷ []
 pure_onward quiet insn.Nop n h = refl
@@ -94,24 +88,6 @@ pure_onward quiet (insn.Unary op to from) n h = refl
 pure_onward quiet (insn.Binary op to a b) n h = refl
 pure_onward quiet (insn.Literal op to a value) n h = refl
 pure_onward quiet i n h = absurd (false≢true h)
-
-any_map : (p : ℕ → Bool) (hs : List Handler) → list_any (λ h. p h.position) hs ≡ list_any p (map (λ h. h.position) hs)
-any_map p [] = refl
-any_map p (h ∷ hs) = ap (λ (t : Bool). p h.position || t) (any_map p hs)
-
-pub handled_rest : (live : Live) (region : Region) (n r : ℕ) → region.rest ≡ Some n → (list_any (λ h. is_live live h.position r) region.handlers || is_live live n r) ≡ list_any (λ m. is_live live m r) (handlers_in region)
-handled_rest live region n r e =
-    ap (λ (t : Bool). t || is_live live n r) (any_map (λ m. is_live live m r) region.handlers)
-    ∙ ap (λ (t : Bool). list_any (λ m. is_live live m r) (map (λ h. h.position) region.handlers) || t) (sym (or_false (is_live live n r)))
-    ∙ sym (list_any-append (λ m. is_live live m r) (map (λ h. h.position) region.handlers) (n ∷ []))
-    ∙ ap (λ (o : Option ℕ). list_any (λ m. is_live live m r) (map (λ h. h.position) region.handlers ++ option_to_list o)) (sym e)
-
-pub handled_alone : (live : Live) (region : Region) (r : ℕ) → region.rest ≡ None → list_any (λ h. is_live live h.position r) region.handlers ≡ list_any (λ m. is_live live m r) (handlers_in region)
-handled_alone live region r e =
-    any_map (λ m. is_live live m r) region.handlers
-    ∙ sym (or_false (list_any (λ m. is_live live m r) (map (λ h. h.position) region.handlers)))
-    ∙ sym (list_any-append (λ m. is_live live m r) (map (λ h. h.position) region.handlers) [])
-    ∙ ap (λ (o : Option ℕ). list_any (λ m. is_live live m r) (map (λ h. h.position) region.handlers ++ option_to_list o)) (sym e)
 
 -- at the handlers of the region that covers a position
 covered : (live : Live) (r : ℕ) (rs : List Region) (n : ℕ) → is_live_caught live r (slice_get rs (covering rs n)) ≡ list_any (λ m. is_live live m r) (handlers_at rs n)

@@ -1,25 +1,22 @@
 -- Which positions of a body compute what nobody reads, by number (Dalvik bytecode, "Summary of bytecode set"; this
 -- project's profile).
-use Rattle.std.specs.Prelude.{◌≡◌, ◌↔◌, ℕ, ◌+◌, ◌<◌, Bool, true, false, ◌&&◌, ◌||◌, not, nat_eq, nat_lt, List, length, Option, Some, None, slice_get, slice_index_or}
-use Rattle.std.specs.List.{list_any}
-use Rattle.std.specs.Int.{w32, cast_unsigned}
-use Rattle.insn_set.specs.Flow.{throws, divides, divides_by_literal}
+use Rattle.std.specs.Prelude.{◌≡◌, ◌↔◌, ℕ, ◌+◌, ◌<◌, Bool, true, false, ◌&&◌, not, nat_lt, List, length, Option, Some, None, slice_get, slice_index_or}
 use Rattle.insn_set.specs.Widths.{is_wide_slot, is_wide_item, unary_writes_wide, binary_is_wide}
 use Rattle.insn_set.specs.Registers.{writes_of}
 use Rattle.insn_set.specs.declared.form.Insn.{Insn}
 use Rattle.insn_set.specs.declared.form.Insn.TheVariants as insn
 use Rattle.program_model.specs.declared.body.Body.{Body}
-use Rattle.program_model.specs.declared.body.Region.{Region}
 use Rattle.program_model.specs.declared.program.Program.{Program}
 use Rattle.class_defs.specs.Finding.{resolves_field}
 use Rattle.class_defs.specs.Starts.{is_trivial}
 use Rattle.hierarchy.specs.Tables.{answer}
 use Rattle.hierarchy.specs.declared.build.Hierarchy.{Hierarchy}
 use Rattle.walk_marks.specs.Walks.{is_on}
-use Rattle.flow_cfg.specs.Walks.{handlers_in}
 use Rattle.body_graph.specs.Walks.{insn_at, IsRead, IsReadAfter}
 use Rattle.live_regs.specs.Live.{is_live}
 use Rattle.live_regs.specs.declared.table.Live.{Live}
+pub use Rattle.criteria.specs.Pure.{is_pure}
+pub use Rattle.register_criteria.specs.Live.{is_live_caught, is_live_after}
 
 -- ---- pure forms
 
@@ -39,24 +36,6 @@ quiet_in h field = trivial_in h (answer (slice_get h.targets.fields.items field)
 pub record AreQuiet (h : Hierarchy) (count : ℕ) (table : List Bool) : Type 0 where
   pub long : length table ≡ count
   pub each : (n : ℕ) → n < count → is_on table n ≡ quiet_in h n
-
--- pure whatever the registers hold, where gets of these static fields are
-abbrev pub is_pure : (ℕ → Bool) → Insn → Bool
-is_pure quiet insn.Nop = true
-is_pure quiet (insn.Move slot to from) = true
-is_pure quiet (insn.MoveResult slot to) = true
-is_pure quiet (insn.MoveException to) = true
-is_pure quiet (insn.Const to value) = true
-is_pure quiet (insn.ConstWide to value) = true
-is_pure quiet (insn.ConstString to string) = true
-is_pure quiet (insn.ConstClass to kind) = true
-is_pure quiet (insn.InstanceOf to from kind) = true
-is_pure quiet (insn.Cmp op to a b) = true
-is_pure quiet (insn.StaticGet item to field) = quiet field
-is_pure quiet (insn.Unary op to from) = true
-is_pure quiet (insn.Binary op to a b) = not (divides op)
-is_pure quiet (insn.Literal op to a value) = not (divides_by_literal op) || not (nat_eq (cast_unsigned w32 value) 0)
-is_pure quiet i = false
 
 -- ---- dead positions
 
@@ -105,16 +84,6 @@ written_of (insn.Unary op to from) = Some (to, unary_writes_wide op)
 written_of (insn.Binary op to a b) = Some (to, binary_is_wide op)
 written_of (insn.Literal op to a value) = Some (to, false)
 written_of i = None
-
--- the register is live at a handler of a region, where there is one
-abbrev pub is_live_caught : Live → ℕ → Option Region → Bool
-is_live_caught live r None = false
-is_live_caught live r (Some s) = list_any (λ n. is_live live n r) (handlers_in s)
-
--- The register is live where a pure form goes: at the next position, or at a handler of the region at a place where the form
--- may throw.
-abbrev pub is_live_after : Live → Body → ℕ → ℕ → Insn → ℕ → Bool
-is_live_after live b k n i r = is_live live (n + 1) r || (throws i && is_live_caught live r (slice_get b.regions k))
 
 abbrev pub unread_by : (ℕ → Bool) → ℕ → ℕ → Bool → Bool
 unread_by behind registers to false = nat_lt to registers && not (behind to)

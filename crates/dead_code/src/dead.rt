@@ -1,66 +1,17 @@
 //! Which positions are dead.
 
 ghost use Rattle.std.specs.Prelude.{◌≡◌, ◌+◌, ◌<◌, ◌^◌, length, slice_get, IfOk};
-ghost use Rattle.std.specs.List.{list_any};
-ghost use Rattle.flow_cfg.specs.Walks.{handlers_in};
 ghost use Rattle.walk_marks.specs.Walks.{is_on};
-ghost use Rattle.live_regs.specs.Live.{is_live};
-ghost use Rattle.dead_code.specs.Dead.{AreDead, is_live_caught, is_live_after, unread_by, dead_by, dead_at};
+ghost use Rattle.dead_code.specs.Dead.{AreDead, is_live_after, unread_by, dead_by, dead_at};
 
-use crate::quiet::is_pure;
 use crate::written::written;
 use body_graph::covers_of;
+use criteria::is_pure;
 use insn_set::Insn;
 use live_regs::{Live, live};
-use program_model::{Body, Handler, Region};
+use program_model::Body;
+use register_criteria::is_live_after;
 use std::alloc::{AllocError, Global};
-
-/// Whether a register is live at one of some handlers.
-fn is_live_handled(live: &Live, handlers: &[Handler], register: u32) -> bool
-    ensures { result ≡ list_any (λ h. is_live live.now h.position register) handlers.now }
-{
-    handlers
-        .iter()
-        .any(|handler| live.before(handler.position, register))
-}
-
-/// Whether a register is live at a handler of a region.
-fn is_live_in(live: &Live, region: &Region, register: u32) -> bool
-    ensures { result ≡ list_any (λ n. is_live live.now n register) (handlers_in region.now) }
-{
-    let handled = is_live_handled(live, region.handlers.as_slice(), register);
-    match region.rest {
-        Some(position) => handled || live.before(position, register),
-        None => handled,
-    }
-}
-
-/// Whether a register is live at a handler of the region at a place.
-fn is_live_caught(live: &Live, regions: &[Region], region: u32, register: u32) -> bool
-    ensures { result ≡ is_live_caught live.now register (slice_get regions.now region) }
-{
-    match regions.get(region as usize) {
-        Some(one) => is_live_in(live, one, register),
-        None => false,
-    }
-}
-
-/// Whether a register is live where a pure form goes: at the next position, and at the handlers of its region where it may
-/// throw.
-fn is_live_after(
-    live: &Live,
-    body: &Body,
-    insn: &Insn,
-    position: u32,
-    region: u32,
-    register: u32,
-) -> bool
-    requires { position + 1 < 2 ^ 32 }
-    ensures { result ≡ is_live_after live.now body.now region position insn.now register }
-{
-    live.before(position + 1, register)
-        || insn.may_throw() && is_live_caught(live, body.regions.as_slice(), region, register)
-}
 
 /// Whether a register of the body, and the next one too where the write is wide, is live nowhere where a pure form goes.
 fn is_unread(

@@ -30,7 +30,7 @@ ok_both (Err e) P Q S B h p q = tt
 
 judged_for : (p : Program) (h : Hierarchy) (v : Verifier) (at : MethodAt) (t : Option Table) → IsFor p h v → IsJudgedBy v at t → IsJudged p h at t
 judged_for p h v at (Some x) f j = record { verifier = v; is = f; types = j }
-judged_for p h v at None f j = (j.0, record { verifier = v; is = f; refuses = j.1 })
+judged_for p h v at None f j = (j.0, j.1, j.2, record { verifier = v; is = f; refuses = j.3 })
 
 module _ (p : Program) (h : Hierarchy) (facts : Facts) (at : MethodAt) (m : Method) (b : Body) where
   each_typed : IsResolved p h → (t : Option Table) → AreRebindingsIn p facts t at m b (typed_edits p facts at.class m.name b t)

@@ -13,7 +13,7 @@ use Rattle.rewrite_pass.specs.declared.edit.Edit.{Edit}
 use Rattle.verify.specs.Flow.{places_of}
 use Rattle.verify.specs.Methods.{TypesAt, RefusesAt, IsFor}
 use Rattle.verify.specs.Typings.{Table}
-use Rattle.verify.specs.declared.fault.TypeFault.{TypeFault}
+use Rattle.verify.specs.declared.fault.TypeFault.TheVariants as fault
 use Rattle.verify.specs.declared.typed.Typings.{Typings}
 use Rattle.verify.specs.declared.typed.Verifier.{Verifier}
 use Rattle.receivers.specs.Receiving.{IsFinding}
@@ -39,10 +39,10 @@ pub record IsAsked (s : Rebinding) : Type 0 where
 abbrev pub table_of : Option Typings → Option Table
 table_of o = option_map (λ t. places_of t.states.items) o
 
--- the least typing of a method by a verifier, or none where it refuses the method
+-- the least typing of a method by a verifier, or none where the method is ill typed
 abbrev pub IsJudgedBy : Verifier → MethodAt → Option Table → Type 0
 IsJudgedBy v at (Some x) = TypesAt v at x
-IsJudgedBy v at None = (e : TypeFault) × RefusesAt v at e
+IsJudgedBy v at None = (method : ℕ) × (position : ℕ) × (register : ℕ) × RefusesAt v at (fault.IllTyped method position register)
 
 -- What is written whatever the hierarchy is, and where it is that of the program's classes.
 pub record ReboundWell (p : Program) (h : Hierarchy) (facts : Facts) (at : MethodAt) (m : Method) (b : Body) (es : List Edit) : Type 0 where

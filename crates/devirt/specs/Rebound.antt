@@ -21,7 +21,7 @@ use Rattle.facts.specs.Lent.{frame_at}
 use Rattle.facts.specs.declared.facts.Facts.{Facts}
 use Rattle.verify.specs.Methods.{TypesFor, RefusesFor}
 use Rattle.verify.specs.Typings.{Table, kind_before}
-use Rattle.verify.specs.declared.fault.TypeFault.{TypeFault}
+use Rattle.verify.specs.declared.fault.TypeFault.TheVariants as fault
 use Rattle.verify.specs.declared.kinds.Kind.{Kind}
 use Rattle.verify.specs.declared.kinds.Kind.TheVariants as kind
 use Rattle.rewrite_pass.specs.declared.edit.Edit.{Edit}
@@ -183,10 +183,10 @@ edits_of p facts class method b x = if is_any_open p b then typed_edits p facts 
 
 -- ---- methods and programs
 
--- the least typing of a method, or none where it is refused
+-- the least typing of a method, or none where it is ill typed
 abbrev pub IsJudged : Program → Hierarchy → MethodAt → Option Table → Type 0
 IsJudged p h at (Some x) = TypesFor p h at x
-IsJudged p h at None = (e : TypeFault) × RefusesFor p h at e
+IsJudged p h at None = (method : ℕ) × (position : ℕ) × (register : ℕ) × RefusesFor p h at (fault.IllTyped method position register)
 
 abbrev pub AreRebindingsIn : Program → Facts → Option Table → MethodAt → Method → Body → List Edit → Type 0
 AreRebindingsIn p facts (Some x) at m b es = All (IsRebinding p facts x at m b) es

@@ -13,11 +13,12 @@ ghost use Rattle.facts_check.specs.Tables.{ComesBelow, TakesParameters, LeavesFr
 
 use crate::fields::is_on;
 use crate::known::Known;
-use crate::order::{are_below, is_any, is_below, value_at};
+use crate::order::are_below;
 use crate::positions::{Site, placed};
 use crate::starts::Start;
 use dom_frame::Frame;
 use domains::Value;
+use facts_order::{is_any, is_below, value_at};
 use pat_map::PatMap;
 use program_model::{Body, Insn};
 use std::alloc::{AllocError, Global};

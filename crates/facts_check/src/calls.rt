@@ -11,9 +11,9 @@ ghost use Rattle.facts_check.specs.Tables.{ArePassed, ArePooled};
 use crate::fields::is_on;
 use crate::known::Known;
 use crate::looks::method_at;
-use crate::order::{is_below, value_at};
 use call_targets::{Target, bound_target};
 use domains::Value;
+use facts_order::{is_below, is_passed, value_at};
 use pat_map::PatMap;
 use program_model::{Insn, InvokeKind, Method};
 use std::alloc::{AllocError, Global};
@@ -25,7 +25,7 @@ fn are_passed(known: &Known<'_>, method: u32, args: &[u16], registers: &PatMap<V
 {
     for place in 0..args.len() {
         let value = value_at(registers, u32::from(args[place]));
-        if !is_below(&value, known.facts.parameter(method, place as u32)) {
+        if !is_passed(known.facts, method, place as u32, &value) {
             return false;
         }
     }

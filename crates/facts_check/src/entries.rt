@@ -10,10 +10,10 @@ ghost use Rattle.facts_check.specs.Tables.{AreAny, TakesAny, IsOpened, IsOpenEnd
 
 use crate::fields::is_on;
 use crate::known::Known;
-use crate::order::{is_any, is_below, value_at};
 use call_targets::Link;
 use dom_frame::Frame;
 use domains::Value;
+use facts_order::{is_answered, is_any, is_below, value_at};
 use pat_map::PatMap;
 use program_model::{Class, Method};
 use seq::Seq;
@@ -179,7 +179,7 @@ fn link_holds(known: &Known<'_>, link: &Link) -> bool
         pools.answers.as_slice().get(link.call as usize),
     ) {
         (Some(pool), Some(answer)) => {
-            is_below(known.facts.result(link.method), answer)
+            is_answered(known.facts, link.method, answer)
                 && (!is_on(&pools.reached, link.call)
                     || (is_on(&known.marks.entered, link.method)
                         && words_hold(words_of(known, link.method), pool)))

@@ -18,8 +18,8 @@ ghost use Rattle.facts_check.specs.Tables.{IsHeld, AreHeld, AreAllHeld};
 
 use crate::known::Known;
 use crate::looks::own_number;
-use crate::order::{is_any, is_below, value_at};
 use domains::Value;
+use facts_order::{is_below, is_open_field, value_at};
 use pat_map::PatMap;
 use program_model::{EncValue, Field, Flags, Insn, Program};
 use value_ops::{any_object, stored};
@@ -187,7 +187,7 @@ fn kept_hold(known: &Known<'_>) -> bool
     ensures { result ≡ true → (i n : ℕ) → slice_get known.now.outside.now.fields i ≡ Some n → IsBelow any_value (field_at known.now.facts.now n) }
 {
     for field in known.outside.fields.as_slice() {
-        if !is_any(known.facts.field(*field)) {
+        if !is_open_field(known.facts, *field) {
             return false;
         }
     }

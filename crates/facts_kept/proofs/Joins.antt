@@ -89,3 +89,9 @@ abbrev pub Answers : Program → Facts → Parts → Search → Type 0
 Answers p t v Nothing = Under any_value v
 Answers p t v Clash = Unit {0}
 Answers p t v (Finds at) = Under (found_value p t (Some at)) v
+
+-- anything covers every answer
+pub any_answers : (p : Program) (t : Facts) (y : Search) → Answers p t any_value y
+any_answers p t Nothing = λ d h. h
+any_answers p t Clash = tt
+any_answers p t (Finds at) = below_any (found_value p t (Some at))

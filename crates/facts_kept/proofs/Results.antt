@@ -54,7 +54,7 @@ use Rattle.facts_kept.proofs.Made.{made_number, MadeNumber}
 use Rattle.facts_kept.proofs.Numbers.{number_of_method}
 use Rattle.const_prop.specs.Given.{above_value, among_value, call_value, found_value, kind_value, method_value, named_value, receiver_value, super_value, virtual_value}
 use Rattle.facts_kept.proofs.Classes.{place_short, placed_class, super_interface, super_short}
-use Rattle.facts_kept.proofs.Joins.{Answers, below_any, Under}
+use Rattle.facts_kept.proofs.Joins.{any_answers, below_any, Answers, Under}
 use Rattle.facts_kept.proofs.Supers.{bare_value, lowest_given}
 use Rattle.facts_kept.proofs.Virtual.{given_at}
 
@@ -120,11 +120,6 @@ module _ (p : Program) (o : Outside) (live : LiveSet) (g : IsMarked p o live) (t
   option_answers None = itself any_value
   option_answers (Some at) = itself (found_value p t (Some at))
 
-  any_answers : (y : Search) → Answers p t any_value y
-  any_answers look_up.Nothing = itself any_value
-  any_answers look_up.Clash = tt
-  any_answers (look_up.Finds at) = below_any (found_value p t (Some at))
-
   -- ---- a call that names a class of the program
 
   module _ (class : ℕ) (c : Class) (is_class : slice_get p.classes class ≡ Some c) (method : ℕ) (q : MethodName) (is_name : slice_get p.methods method ≡ Some q) (top : ℕ) (is_top : class_place p q.class ≡ Some top)
@@ -151,7 +146,7 @@ module _ (p : Program) (o : Outside) (live : LiveSet) (g : IsMarked p o live) (t
     above_answers = by (super_place p class)
       where
         by : (x : Option ℕ) → Answers p t (above_value p t q.name q.proto x) (search_of (finds_from p q.name q.proto x))
-        by None = any_answers (search_of (finds_from p q.name q.proto None))
+        by None = any_answers p t (search_of (finds_from p q.name q.proto None))
         by (Some u) = option_answers (finds_from p q.name q.proto (Some u))
 
     super_answers : Answers p t (super_value p t class q.name q.proto top) (finds_super p class method)

@@ -1,9 +1,10 @@
--- What a class under another one finds is what that one finds, or what a class strictly under it defines, by number.
+-- What a class under another one finds is what that one finds, or what a class strictly under it defines, by number; and it is
+-- among what const_prop takes for the result of a virtual call.
 use Rattle.std.proofs.Common.{◌≡◌, ◌⊎◌, inl, inr, ℕ, zero, suc, ◌+◌, ◌<◌, ◌≤◌, Bool, true, false, true≢false, List, [], ◌∷◌, length, Option, Some, None, refl, sym, ap, ◌∙◌, subst, arith, eqb-true, ltb-true}
-use Rattle.std.specs.Prelude.{◌&&◌, ◌||◌, cond, flat_map, if◌then◌else◌, is_some, nat_eq, nat_lt, not, slice_get, Contains}
+use Rattle.std.specs.Prelude.{◌&&◌, ◌||◌, cond, flat_map, fold, if◌then◌else◌, is_some, nat_eq, nat_lt, not, slice_get, Contains}
 use Rattle.std.specs.List.{list_any, range_with_len}
 use Rattle.std.specs.Option.{option_or}
-use Rattle.lemmas.proofs.Bools.{and_left, and_right, clash}
+use Rattle.lemmas.proofs.Bools.{and_both, and_left, and_right, clash}
 use Rattle.lemmas.proofs.Lists.{contains_here, contains_there}
 use Rattle.lemmas.proofs.Options.{none_some, some_same}
 use Rattle.program_model.specs.declared.program.MethodAt.{MethodAt}
@@ -13,10 +14,11 @@ use Rattle.class_defs.specs.Members.{is_interface, own_method, own_virtual, virt
 use Rattle.class_defs.specs.Places.{above_places, chain_from, chain_of, interface_places, is_under, placed, super_place, walks}
 use Rattle.hierarchy.specs.Naming.{definers_of}
 use Rattle.hierarchy.specs.Ranks.{IsRanked, is_lower, is_lower_all}
-use Rattle.domains.specs.Values.{any_value, Parts}
+use Rattle.hierarchy.specs.Touring.{subclasses_of}
+use Rattle.domains.specs.Values.{least_value, Parts}
 use Rattle.facts.specs.declared.facts.Facts.{Facts}
-use Rattle.const_prop.specs.Given.{found_value, virtual_value, with_definer, with_maybe}
-use Rattle.facts_kept.proofs.Joins.{filter_there, first_joined, fold_grows, fold_reaches, below_any, range_there, second_joined, under_on, Answers, Under}
+use Rattle.const_prop.specs.Given.{by_found, by_search, found_value, search_value, virtual_value, with_class, with_definer, with_maybe}
+use Rattle.facts_kept.proofs.Joins.{any_answers, filter_there, first_joined, fold_grows, fold_reaches, range_there, second_joined, under_on, Answers, Under}
 
 -- ---- lists
 
@@ -53,6 +55,13 @@ walks_more above (suc k) (suc m) c d l e = by (λ u i. walks_more above k m u d 
     by : ((u : ℕ) → walks above k u d ≡ true → walks above m u d ≡ true) → (b : Bool) → cond b true (list_any (λ u. walks above k u d) (above c)) ≡ true → cond b true (list_any (λ u. walks above m u d) (above c)) ≡ true
     by more true e = refl
     by more false e = any_more (λ u. walks above k u d) (λ u. walks above m u d) more (above c) e
+
+-- each class of a program has its number
+place_there : (p : Program) (c : ℕ) → c < length p.classes → slice_get (range_with_len 0 (length p.classes)) c ≡ Some c
+place_there p c l = range_there 0 (length p.classes) c l ∙ ap Some (plain_sum c)
+  where
+    plain_sum : (n : ℕ) → 0 + n ≡ n
+    plain_sum n = omega arith
 
 module _ (p : Program) (r : IsRanked p) where
   behind : (c : ℕ) → c < length p.classes → (nat_lt (r.rank c) (length p.classes) && is_lower r.rank (r.rank c) (super_place p c) && is_lower_all r.rank (r.rank c) (interface_places p c)) ≡ true
@@ -178,67 +187,94 @@ module _ (p : Program) (r : IsRanked p) where
       -- ---- what may be given
 
       module _ (t : Facts) where
-        abbrev all : Parts
-        all = virtual_value p t name proto top
+        -- where the class has a virtual method or inherits one
+        module _ (first : MethodAt) where
+          abbrev handed : Parts
+          handed = by_found p t name proto top (Some first)
 
-        with_more : (v : Parts) (o : Option MethodAt) → Under v (with_maybe p t v o)
-        with_more v None d h = h
-        with_more v (Some at) d h = first_joined v (found_value p t (Some at)) d h
+          with_more : (v : Parts) (o : Option MethodAt) → Under v (with_maybe p t v o)
+          with_more v None d h = h
+          with_more v (Some at) d h = first_joined v (found_value p t (Some at)) d h
 
-        grows : (v : Parts) (x : ℕ) → Under v (with_definer p t name proto top v x)
-        grows v x = by (not (nat_eq x top) && is_under p x top)
+          grows : (v : Parts) (x : ℕ) → Under v (with_definer p t name proto top v x)
+          grows v x = by (not (nat_eq x top) && is_under p x top)
+            where
+              by : (b : Bool) → Under v (if b then with_maybe p t v (own_virtual p name proto x) else v)
+              by true = with_more v (own_virtual p name proto x)
+              by false = λ d h. h
+
+          base : Under (found_value p t (Some first)) handed
+          base = fold_grows (with_definer p t name proto top) grows (definers_of p name proto) (found_value p t (Some first))
+
+          defines : (x : ℕ) (at : MethodAt) → own_virtual p name proto x ≡ Some at → is_some (own_method p name proto x) ≡ true
+          defines x at e = by (own_method p name proto x) e
+            where
+              by : (o : Option MethodAt) → virtual_only p o ≡ Some at → is_some o ≡ true
+              by None i = none_some at i
+              by (Some y) i = refl
+
+          lower_given : (o : Option MethodAt) (h : Lower o) → Under (found_value p t (Some h.at)) handed
+          lower_given o h =
+              let i = filter_there (λ c. is_some (own_method p name proto c)) (range_with_len 0 (length p.classes)) h.class h.class (place_there p h.class h.short) (defines h.class h.at h.there) in
+              fold_reaches (with_definer p t name proto top) grows (definers_of p name proto) (found_value p t (Some first)) i.0 h.class (found_value p t (Some h.at)) i.1 one
+            where
+              one : (w : Parts) → Under (found_value p t (Some h.at)) (with_definer p t name proto top w h.class)
+              one w = by (not (nat_eq h.class top)) (is_under p h.class top) (ap not h.apart) h.under
+                where
+                  by : (a b : Bool) → a ≡ true → b ≡ true → Under (found_value p t (Some h.at)) (if a && b then with_maybe p t w (own_virtual p name proto h.class) else w)
+                  by true true i j = subst (λ o. Under (found_value p t (Some h.at)) (with_maybe p t w o)) (sym h.there) (second_joined w (found_value p t (Some h.at)))
+                  by true false i j = absurd (true≢false (sym j))
+                  by false b i j = absurd (true≢false (sym i))
+
+          found_given : (o : Option MethodAt) (y : Search) → finds_virtual p name proto top ≡ Some first → Covered o → Answers p t (by_found p t name proto top (Some first)) (found_or o y)
+          found_given None y e (inl i) = none_some first (i ∙ e)
+          found_given None y e (inr h) = none_some h.at h.is
+          found_given (Some at) y e (inl i) = subst (λ a. Under (found_value p t (Some a)) handed) (sym (some_same at first (i ∙ e))) base
+          found_given (Some at) y e (inr h) = subst (λ a. Under (found_value p t (Some a)) handed) (sym (some_same at h.at h.is)) (lower_given (Some at) h)
+
+        -- ---- where it has none
+
+        class_grows : (v : Parts) (x : ℕ) → Under v (with_class p t name proto v x)
+        class_grows v x = first_joined v (search_value p t (finds_at p x name proto))
+
+        answered : (v : Parts) (y : Search) → Under (search_value p t y) v → Answers p t v y
+        answered v Nothing h = h
+        answered v Clash h = tt
+        answered v (Finds at) h = h
+
+        -- what another class under it finds is joined in
+        other_given : (z : Parts) (place : ℕ) → place < length p.classes → is_under p place top ≡ true → nat_eq place top ≡ false
+            → Answers p t (fold (with_class p t name proto) z (subclasses_of p top)) (finds_at p place name proto)
+        other_given z place l under apart =
+            let i = filter_there (λ c. is_under p c top && not (nat_eq c top)) (range_with_len 0 (length p.classes)) place place (place_there p place l)
+            (and_both (is_under p place top) (not (nat_eq place top)) under (ap not apart)) in
+            answered (fold (with_class p t name proto) z (subclasses_of p top)) (finds_at p place name proto)
+            (fold_reaches (with_class p t name proto) class_grows (subclasses_of p top) z i.0 place (search_value p t (finds_at p place name proto)) i.1 (λ w. second_joined w (search_value p t (finds_at p place name proto))))
+
+        -- what it finds itself is where that begins
+        each_given : (z : Parts) (y : Search) → finds_at p top name proto ≡ y → Under (search_value p t y) z → (place : ℕ) → place < length p.classes → is_under p place top ≡ true
+            → Answers p t (fold (with_class p t name proto) z (subclasses_of p top)) (finds_at p place name proto)
+        each_given z y e h place l under = by (nat_eq place top) refl
           where
-            by : (b : Bool) → Under v (if b then with_maybe p t v (own_virtual p name proto x) else v)
-            by true = with_more v (own_virtual p name proto x)
-            by false = λ d h. h
+            own : Under (search_value p t y) (fold (with_class p t name proto) z (subclasses_of p top))
+            own = under_on (search_value p t y) z (fold (with_class p t name proto) z (subclasses_of p top)) h (fold_grows (with_class p t name proto) class_grows (subclasses_of p top) z)
 
-        base : Under (found_value p t (finds_virtual p name proto top)) all
-        base = fold_grows (with_definer p t name proto top) grows (definers_of p name proto) (found_value p t (finds_virtual p name proto top))
+            by : (b : Bool) → nat_eq place top ≡ b → Answers p t (fold (with_class p t name proto) z (subclasses_of p top)) (finds_at p place name proto)
+            by true i = subst (λ c. Answers p t (fold (with_class p t name proto) z (subclasses_of p top)) (finds_at p c name proto)) (sym (eqb-true place top i))
+                (answered (fold (with_class p t name proto) z (subclasses_of p top)) (finds_at p top name proto)
+                (subst (λ x. Under (search_value p t x) (fold (with_class p t name proto) z (subclasses_of p top))) (sym e) own))
+            by false i = other_given z place l under i
 
-        defines : (x : ℕ) (at : MethodAt) → own_virtual p name proto x ≡ Some at → is_some (own_method p name proto x) ≡ true
-        defines x at e = by (own_method p name proto x) e
-          where
-            by : (o : Option MethodAt) → virtual_only p o ≡ Some at → is_some o ≡ true
-            by None i = none_some at i
-            by (Some y) i = refl
-
-        lower_given : (o : Option MethodAt) (h : Lower o) → Under (found_value p t (Some h.at)) all
-        lower_given o h =
-            let place : slice_get (range_with_len 0 (length p.classes)) h.class ≡ Some h.class = range_there 0 (length p.classes) h.class h.short ∙ ap Some (plain_sum h.class) in
-            let i = filter_there (λ c. is_some (own_method p name proto c)) (range_with_len 0 (length p.classes)) h.class h.class place (defines h.class h.at h.there) in
-            fold_reaches (with_definer p t name proto top) grows (definers_of p name proto) (found_value p t (finds_virtual p name proto top)) i.0 h.class (found_value p t (Some h.at)) i.1 one
-          where
-            plain_sum : (n : ℕ) → 0 + n ≡ n
-            plain_sum n = omega arith
-
-            one : (w : Parts) → Under (found_value p t (Some h.at)) (with_definer p t name proto top w h.class)
-            one w = by (not (nat_eq h.class top)) (is_under p h.class top) (ap not h.apart) h.under
-              where
-                by : (a b : Bool) → a ≡ true → b ≡ true → Under (found_value p t (Some h.at)) (if a && b then with_maybe p t w (own_virtual p name proto h.class) else w)
-                by true true i j = subst (λ o. Under (found_value p t (Some h.at)) (with_maybe p t w o)) (sym h.there) (second_joined w (found_value p t (Some h.at)))
-                by true false i j = absurd (true≢false (sym j))
-                by false b i j = absurd (true≢false (sym i))
-
-        abbrev Given : Search → Type 0
-        Given y = Answers p t (virtual_value p t name proto top) y
+        search_given : (y : Search) → finds_at p top name proto ≡ y → (place : ℕ) → place < length p.classes → is_under p place top ≡ true
+            → Answers p t (by_search p t name proto (subclasses_of p top) y) (finds_at p place name proto)
+        search_given Nothing e place l under = any_answers p t (finds_at p place name proto)
+        search_given Clash e place l under = each_given least_value Clash e (λ d h. h) place l under
+        search_given (Finds at) e place l under = each_given (found_value p t (Some at)) (Finds at) e (λ d h. h) place l under
 
         -- what a class under it finds is among what may be given, and anything is where it finds nothing
         pub given_at : (place : ℕ) → place < length p.classes → is_under p place top ≡ true → Answers p t (virtual_value p t name proto top) (finds_at p place name proto)
-        given_at place l under = by (finds_virtual p name proto place) (finds_among p (interfaces place) name proto) (finds_covered place l under)
+        given_at place l under = by (finds_virtual p name proto top) refl
           where
-            interfaces : ℕ → List ℕ
-            interfaces c = flat_map (interface_places p) (chain_of p (Some c))
-
-            free_base : finds_virtual p name proto top ≡ None → Under any_value all
-            free_base e = subst (λ o. Under (found_value p t o) all) e base
-
-            unfound : (y : Search) → finds_virtual p name proto top ≡ None → Given y
-            unfound Nothing e = free_base e
-            unfound Clash e = tt
-            unfound (Finds at) e = under_on (found_value p t (Some at)) any_value all (below_any (found_value p t (Some at))) (free_base e)
-
-            by : (o : Option MethodAt) (y : Search) → Covered o → Given (found_or o y)
-            by None y (inl e) = unfound y (sym e)
-            by None y (inr h) = none_some h.at h.is
-            by (Some at) y (inl e) = subst (λ o. Under (found_value p t o) all) (sym e) base
-            by (Some at) y (inr h) = subst (λ a. Under (found_value p t (Some a)) all) (sym (some_same at h.at h.is)) (lower_given (Some at) h)
+            by : (o : Option MethodAt) → finds_virtual p name proto top ≡ o → Answers p t (by_found p t name proto top o) (finds_at p place name proto)
+            by (Some first) e = found_given first (finds_virtual p name proto place) (finds_among p (flat_map (interface_places p) (chain_of p (Some place))) name proto) e (finds_covered place l under)
+            by None e = search_given (finds_at p top name proto) refl place l under

@@ -105,15 +105,15 @@ module _ (p : Program) (quiet : List Bool) (o : Option Frame) (b : Body) (n : �
   division_is : (live : Option Live) → LiveIn b live → (op : BinaryOp) (to x y : ℕ) → slice_get b.insns n ≡ Some (insn.Binary op to x y)
       → (division_at o live b n op to y ≡ true) ↔ DoesNothing p quiet o b n (insn.Binary op to x y)
   division_is None is op to x y at = (
-    (λ h. absurd (false≢true ((and_parts (divides op && divides_well o op y) false h).1))),
+    (λ h. absurd (false≢true ((and_parts (divides op && divides_well o y) false h).1))),
     (λ w. clash (list_any is_division b.insns) (any_at is_division b.insns n (insn.Binary op to x y) at w.0) is),
   )
   division_is (Some live) is op to x y at = (
     (λ h.
-        (let outer = and_parts (divides op && divides_well o op y) (unread_by (is_live_after live b n) b.registers (binary_is_wide op) to) h in
-        let inner = and_parts (divides op) (divides_well o op y) outer.0 in
+        (let outer = and_parts (divides op && divides_well o y) (unread_by (is_live_after live b n) b.registers (binary_is_wide op) to) h in
+        let inner = and_parts (divides op) (divides_well o y) outer.0 in
         (inner.0, inner.1, (unread_is b live is n (binary_is_wide op) to).0 outer.1))),
-    (λ w. and_from (divides op && divides_well o op y) (unread_by (is_live_after live b n) b.registers (binary_is_wide op) to) (and_from (divides op) (divides_well o op y) w.0 w.1)
+    (λ w. and_from (divides op && divides_well o y) (unread_by (is_live_after live b n) b.registers (binary_is_wide op) to) (and_from (divides op) (divides_well o y) w.0 w.1)
         ((unread_is b live is n (binary_is_wide op) to).1 w.2)),
   )
 

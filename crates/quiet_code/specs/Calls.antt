@@ -1,6 +1,6 @@
 -- Which calls do nothing, by which methods are quiet and by what is known of registers, by number (Dalvik bytecode, "Summary of
 -- bytecode set"; this project's profile).
-use Rattle.std.specs.Prelude.{ℕ, ◌&&◌, not, Bool, true, false, nat_eq, codes, List, [], ◌∷◌, Option, Some, None, is_some, slice_get}
+use Rattle.std.specs.Prelude.{ℕ, ◌&&◌, ◌||◌, not, Bool, true, false, nat_eq, codes, List, [], ◌∷◌, Option, Some, None, is_some, slice_get}
 use Rattle.std.specs.Cmp.Lexicographic.{pointwise}
 use Rattle.insn_set.specs.declared.ops.InvokeKind.{InvokeKind}
 use Rattle.insn_set.specs.declared.ops.InvokeKind.TheVariants as call
@@ -41,9 +41,9 @@ abbrev pub is_quiet_target : Program → List Bool → Bool → ℕ → Option M
 is_quiet_target p quiet static class (Some m) = is_called_so static m && is_quiet_at p quiet class m
 is_quiet_target p quiet static class None = false
 
--- what is found by a name is such a method, static or not as the call wants it, and no constructor
+-- What is found by a name is such a method, static or not as the call wants it. A call on an object calls no constructor.
 abbrev pub is_quiet_found : Program → List Bool → Bool → MethodName → Option MethodAt → Bool
-is_quiet_found p quiet static q (Some at) = not (is_constructor p q) && is_quiet_target p quiet static at.class (method_at p at)
+is_quiet_found p quiet static q (Some at) = (static || not (is_constructor p q)) && is_quiet_target p quiet static at.class (method_at p at)
 is_quiet_found p quiet static q None = false
 
 -- what a static or direct call of a method number finds

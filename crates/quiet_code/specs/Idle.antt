@@ -4,7 +4,7 @@ use Rattle.std.specs.Prelude.{◌≡◌, ◌↔◌, ℕ, ◌+◌, ◌<◌, ◌&&
 use Rattle.std.specs.List.{list_any}
 use Rattle.insn_set.specs.Flow.{divides}
 use Rattle.insn_set.specs.Registers.{in_operand}
-use Rattle.insn_set.specs.Widths.{binary_is_wide, second_is_wide}
+use Rattle.insn_set.specs.Widths.{binary_is_wide}
 use Rattle.insn_set.specs.declared.ops.BinaryOp.{BinaryOp}
 use Rattle.insn_set.specs.declared.form.Insn.{Insn}
 use Rattle.insn_set.specs.declared.form.Insn.TheVariants as insn
@@ -22,9 +22,9 @@ use Rattle.quiet_code.specs.Calls.{is_idle_call}
 -- ---- divisions
 
 -- the divisor is one number alone, other than 0, or holds of nothing, or no run comes to the position
-abbrev pub divides_well : Option Frame → BinaryOp → ℕ → Bool
-divides_well (Some f) op b = is_no_zero (second_is_wide op) (value_at f.registers b)
-divides_well None op b = true
+abbrev pub divides_well : Option Frame → ℕ → Bool
+divides_well (Some f) b = is_no_zero (value_at f.registers b)
+divides_well None b = true
 
 -- what is written at a position are registers of the body, and no walk onward reads them before they are written
 pub record IsUnread (b : Body) (n : ℕ) (wide : Bool) (to : ℕ) : Type 0 where
@@ -41,7 +41,7 @@ takes_result o = false
 -- an instruction at a position does nothing, where these methods are quiet and these registers are known there
 abbrev pub DoesNothing : Program → List Bool → Option Frame → Body → ℕ → Insn → Type 0
 DoesNothing p quiet o b n (insn.Invoke kind method args) = (takes_result (slice_get b.insns (n + 1)) ≡ false) × (is_idle_call p quiet o kind method args ≡ true)
-DoesNothing p quiet o b n (insn.Binary op to x y) = (divides op ≡ true) × (divides_well o op y ≡ true) × IsUnread b n (binary_is_wide op) to
+DoesNothing p quiet o b n (insn.Binary op to x y) = (divides op ≡ true) × (divides_well o y ≡ true) × IsUnread b n (binary_is_wide op) to
 DoesNothing p quiet o b n i = ⊥
 
 -- 32 bits number all positions and regions
@@ -67,7 +67,7 @@ unread_at (Some live) b n wide to = unread_by (is_live_after live b n) b.registe
 unread_at None b n wide to = false
 
 abbrev pub division_at : Option Frame → Option Live → Body → ℕ → BinaryOp → ℕ → ℕ → Bool
-division_at o live b n op to y = (divides op && divides_well o op y) && unread_at live b n (binary_is_wide op) to
+division_at o live b n op to y = (divides op && divides_well o y) && unread_at live b n (binary_is_wide op) to
 
 abbrev pub does_nothing : Program → List Bool → Option Frame → Option Live → Body → ℕ → Insn → Bool
 does_nothing p quiet o live b n (insn.Invoke kind method args) = not (takes_result (slice_get b.insns (n + 1))) && is_idle_call p quiet o kind method args

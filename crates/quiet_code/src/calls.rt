@@ -8,10 +8,10 @@ ghost use Rattle.program_model.specs.Lookups.{class_place, method_at};
 ghost use Rattle.hierarchy.specs.Naming.{IsKey};
 ghost use Rattle.hierarchy.specs.Shapes.{IsResolved};
 ghost use Rattle.receivers.specs.Receiving.{interface_at, overrides, is_overridden, AreShort};
-ghost use Rattle.quiet_methods.specs.Forms.{starts_quietly};
 ghost use Rattle.quiet_methods.specs.Quiet.{is_on};
 ghost use Rattle.quiet_code.specs.Calls.{is_init, is_constructor, is_called_so, is_quiet_at, is_quiet_target, is_quiet_found, is_quiet_named, is_quiet_for_all, is_quiet_under, is_quiet_virtual};
 
+use class_criteria::{overrides, starts_quietly};
 use hierarchy::Hierarchy;
 use program_model::{Flags, Method, MethodAt, MethodName, Program};
 
@@ -73,19 +73,13 @@ impl Search<'_> {
         }
     }
 
-    /// Whether a class is one of the program, and initialising it runs no code.
-    fn starts_quietly(&self, class: u32) -> bool
-        ensures { IsResolved self.now.program.now self.now.hierarchy.now → result ≡ starts_quietly self.now.program.now class }
-    {
-        (class as usize) < self.program.classes.len()
-            && self.hierarchy.trivially_initialised(self.program, class)
-    }
-
     /// Whether a method of the class at a place has code and is quiet, and initialising the class runs no code.
     fn is_quiet_at(&self, class: u32, method: &Method) -> bool
         ensures { IsResolved self.now.program.now self.now.hierarchy.now → result ≡ is_quiet_at self.now.program.now self.now.quiet.now class method.now }
     {
-        method.body.is_some() && is_on(self.quiet, method.name) && self.starts_quietly(class)
+        method.body.is_some()
+            && is_on(self.quiet, method.name)
+            && starts_quietly(self.program, self.hierarchy, class)
     }
 
     /// Whether a method of the class at a place, if there is one, is such a one, and static or not as a call wants it.
@@ -106,7 +100,7 @@ impl Search<'_> {
     {
         match found {
             Some(at) => {
-                !self.is_constructor(name)
+                (to_static || !self.is_constructor(name))
                     && self.is_quiet_target(to_static, at.class, method_in(self.program, at))
             }
             None => false,
@@ -138,26 +132,13 @@ impl Search<'_> {
         }
     }
 
-    /// Whether a class under another one, but the class of a method, defines such a virtual method itself.
-    fn overrides(&self, class: u32, key: u32, target: MethodAt, definer: u32) -> bool
-        ensures { let p = self.now.program.now in IsResolved p self.now.hierarchy.now → (q : MethodName) → IsKey p self.now.hierarchy.now key q.name q.proto
-            → class < length p.classes → definer < length p.classes → result ≡ overrides p q class target definer }
-    {
-        definer != target.class
-            && self.hierarchy.is_under(definer, class)
-            && self
-                .hierarchy
-                .own_virtual(self.program, definer, key)
-                .is_some()
-    }
-
     /// Whether one of some classes under another one, but the class of a method, defines such a virtual method itself.
     fn is_overridden_by(&self, class: u32, key: u32, target: MethodAt, definers: &[u32]) -> bool
         ensures { let p = self.now.program.now in IsResolved p self.now.hierarchy.now → (q : MethodName) → IsKey p self.now.hierarchy.now key q.name q.proto
             → class < length p.classes → AreShort p definers.now → result ≡ list_any (overrides p q class target) definers.now }
     {
         for definer in definers {
-            if self.overrides(class, key, target, *definer) {
+            if overrides(self.program, self.hierarchy, class, key, target, *definer) {
                 return true;
             }
         }

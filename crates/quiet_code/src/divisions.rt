@@ -76,22 +76,20 @@ fn is_wide_other_than_zero(number: Option<u64>) -> bool
 }
 
 /// Whether a value holds of one number alone, other than 0, or of nothing.
-fn is_no_zero(wide: bool, value: &Value) -> bool
-    ensures { result ≡ is_no_zero wide value.now }
+fn is_no_zero(value: &Value) -> bool
+    ensures { result ≡ is_no_zero value.now }
 {
-    if wide {
-        is_nothing(value) || is_wide_other_than_zero(known_wide_of(value))
-    } else {
-        is_nothing(value) || is_word_other_than_zero(known_of(value))
-    }
+    is_nothing(value)
+        || (is_word_other_than_zero(known_of(value))
+            || is_wide_other_than_zero(known_wide_of(value)))
 }
 
-/// Whether a register is known other than 0, as a divisor of an operation, or no run comes to the position.
-fn divides_well(frame: Option<&Frame>, op: BinaryOp, divisor: u16) -> bool
-    ensures { result ≡ divides_well (option_copied frame.entry) op divisor }
+/// Whether a register is known other than 0, or no run comes to the position.
+fn divides_well(frame: Option<&Frame>, divisor: u16) -> bool
+    ensures { result ≡ divides_well (option_copied frame.entry) divisor }
 {
     match frame {
-        Some(frame) => is_no_zero(op.second_is_wide(), frame.get(u32::from(divisor))),
+        Some(frame) => is_no_zero(frame.get(u32::from(divisor))),
         None => true,
     }
 }
@@ -154,7 +152,7 @@ pub(crate) fn is_idle_division(
     ensures is { IfOk result (λ idle. idle ≡ division_at (option_copied frame.entry) live.now body.now position division.op division.to division.divisor) }
 {
     let Division { op, to, divisor } = division;
-    if !op.divides() || !divides_well(frame, op, divisor) {
+    if !op.divides() || !divides_well(frame, divisor) {
         return Ok(false);
     }
     is_unread(alloc, body, live, position, op.is_wide(), to)

@@ -3,7 +3,6 @@
 use Rattle.std.specs.Prelude.{ℕ, zero, suc, ◌+◌, Bool, true, false, ◌==◌, ◌||◌, ◌&&◌, not, nat_lt, pos, if◌then◌else◌, cond, List, [], ◌∷◌, ◌++◌, length, Option, Some, None, is_some, slice_index}
 use Rattle.std.specs.Ordering.{int_eq}
 use Rattle.insn_set.specs.Flow.{divides, divides_by_literal, goes_on, targets_of}
-use Rattle.insn_set.specs.Widths.{second_is_wide}
 use Rattle.insn_set.specs.declared.ops.BinaryOp.{BinaryOp}
 use Rattle.insn_set.specs.declared.ops.InvokeKind.{InvokeKind}
 use Rattle.insn_set.specs.declared.ops.InvokeKind.TheVariants as call
@@ -14,23 +13,19 @@ use Rattle.program_model.specs.declared.program.MethodAt.{MethodAt}
 use Rattle.program_model.specs.declared.program.Program.{Program}
 use Rattle.program_model.specs.Lookups.{method_at}
 use Rattle.class_defs.specs.Finding.{resolves_field, finds_static}
-use Rattle.class_defs.specs.Starts.{is_trivial}
 use Rattle.domains.specs.Values.{Parts, known_of, known_wide_of}
 use Rattle.value_ops.specs.Left.{is_nothing}
 use Rattle.dom_frame.specs.Registers.{Registers, value_at}
 use Rattle.dom_frame.specs.Steps.{branched, unswitched, switched}
 use Rattle.quiet_methods.specs.declared.forms.Demand.{Demand}
 use Rattle.quiet_methods.specs.declared.forms.Demand.TheVariants.{Nothing, Call, Loud}
+pub use Rattle.class_criteria.specs.Starting.{starts_quietly}
 
 abbrev pub quiet_if : Bool → Demand
 quiet_if true = Nothing
 quiet_if false = Loud
 
 -- ---- classes, fields and calls
-
--- a class of the program, initialising which runs no code
-abbrev pub starts_quietly : Program → ℕ → Bool
-starts_quietly p class = nat_lt class (length p.classes) && is_trivial p class
 
 abbrev pub gets_quietly : Program → ℕ → Bool
 gets_quietly p field = elim (resolves_field p field) [ Some at ↦ starts_quietly p at.0 | None ↦ false ]
@@ -55,13 +50,12 @@ is_other_than_zero (Some n) = not (n == 0)
 is_other_than_zero None = false
 
 -- a value holds of one number alone, other than 0, or of nothing
-abbrev pub is_no_zero : Bool → Parts → Bool
-is_no_zero true v = is_nothing v || is_other_than_zero (known_wide_of v)
-is_no_zero false v = is_nothing v || is_other_than_zero (known_of v)
+abbrev pub is_no_zero : Parts → Bool
+is_no_zero v = is_nothing v || (is_other_than_zero (known_of v) || is_other_than_zero (known_wide_of v))
 
 -- an operation never throws whose second operand has a value
 abbrev pub never_throws : BinaryOp → Parts → Bool
-never_throws op v = not (divides op) || is_no_zero (second_is_wide op) v
+never_throws op v = not (divides op) || is_no_zero v
 
 -- ---- forms
 
@@ -115,6 +109,10 @@ switch_ways i targets n x = cases_upto i targets x (length targets) ++ one_if (i
 abbrev pub branch_ways : Insn → ℕ → ℕ → Registers → List ℕ
 branch_ways i target n x = one_if (is_some (branched true i x)) target ++ one_if (is_some (branched false i x)) (n + 1)
 
+-- a division by what holds of nothing goes on nowhere
+abbrev pub division_ways : BinaryOp → Parts → ℕ → List ℕ
+division_ways op v n = one_if (not (divides op && is_nothing v)) (n + 1)
+
 -- the positions at which a run may go on behind a form at a position, unless it throws
 abbrev pub ways : Insn → ℕ → Registers → List ℕ
 ways (insn.Goto target) n x = target ∷ []
@@ -122,4 +120,5 @@ ways (insn.If test a b target) n x = branch_ways (insn.If test a b target) targe
 ways (insn.IfZero test a target) n x = branch_ways (insn.IfZero test a target) target n x
 ways (insn.PackedSwitch on first targets) n x = switch_ways (insn.PackedSwitch on first targets) targets n x
 ways (insn.SparseSwitch on keys targets) n x = switch_ways (insn.SparseSwitch on keys targets) targets n x
+ways (insn.Binary op to a b) n x = division_ways op (value_at x b) n
 ways i n x = one_if (goes_on i) (n + 1)

@@ -104,7 +104,7 @@ fn known_ways(
     if count_targets(insn) >= 4294967296 {
         return Ok(out);
     }
-    add_ways(alloc, &frame.registers, insn, position, &mut out)?;
+    add_ways(alloc, frame, insn, position, &mut out)?;
     Ok(out)
 }
 

@@ -7,8 +7,9 @@ ghost use Rattle.program_model.specs.Lookups.{method_at};
 ghost use Rattle.hierarchy.specs.Shapes.{IsResolved};
 ghost use Rattle.domains.specs.Values.{known_of, known_wide_of};
 ghost use Rattle.value_ops.specs.Left.{is_nothing};
-ghost use Rattle.quiet_methods.specs.Forms.{quiet_if, starts_quietly, gets_quietly, method_demand, found_demand, call_demand, is_other_than_zero, is_no_zero, never_throws, is_plain, form_demand, demand};
+ghost use Rattle.quiet_methods.specs.Forms.{quiet_if, gets_quietly, method_demand, found_demand, call_demand, is_other_than_zero, is_no_zero, never_throws, is_plain, form_demand, demand};
 
+use class_criteria::starts_quietly;
 use dom_frame::Frame;
 use domains::{Nullness, Value};
 use hierarchy::Hierarchy;
@@ -38,7 +39,7 @@ fn quiet_if(holds: bool) -> Demand
 }
 
 /// Whether a value holds of nothing.
-fn is_nothing(value: &Value) -> bool
+pub(crate) fn is_nothing(value: &Value) -> bool
     ensures { result ≡ is_nothing value.now }
 {
     matches!(value.nullness(), Nullness::Bottom)
@@ -87,21 +88,19 @@ fn is_wide_other_than_zero(number: Option<u64>) -> bool
 }
 
 /// Whether a value holds of one number alone, other than 0, or of nothing.
-fn is_no_zero(wide: bool, value: &Value) -> bool
-    ensures { result ≡ is_no_zero wide value.now }
+fn is_no_zero(value: &Value) -> bool
+    ensures { result ≡ is_no_zero value.now }
 {
-    if wide {
-        is_nothing(value) || is_wide_other_than_zero(known_wide_of(value))
-    } else {
-        is_nothing(value) || is_word_other_than_zero(known_of(value))
-    }
+    is_nothing(value)
+        || (is_word_other_than_zero(known_of(value))
+            || is_wide_other_than_zero(known_wide_of(value)))
 }
 
 /// Whether an operation never throws whose second operand has a value.
 fn never_throws(op: BinaryOp, divisor: &Value) -> bool
     ensures { result ≡ never_throws op divisor.now }
 {
-    !op.divides() || is_no_zero(op.second_is_wide(), divisor)
+    !op.divides() || is_no_zero(divisor)
 }
 
 /// Whether a form does nothing but write a register, go on elsewhere or return, whatever its operands.
@@ -169,20 +168,12 @@ fn method_demand(starts: bool, method: Option<&Method>) -> Demand
 }
 
 impl Search<'_> {
-    /// Whether a class is one of the program, and initialising it runs no code.
-    fn starts_quietly(&self, class: u32) -> bool
-        ensures { IsResolved self.now.program.now self.now.hierarchy.now → result ≡ starts_quietly self.now.program.now class }
-    {
-        (class as usize) < self.program.classes.len()
-            && self.hierarchy.trivially_initialised(self.program, class)
-    }
-
     /// Whether a get of a static field runs no code.
     fn gets_quietly(&self, field: u32) -> bool
         ensures { IsResolved self.now.program.now self.now.hierarchy.now → result ≡ gets_quietly self.now.program.now field }
     {
         match self.hierarchy.resolve_field(self.program, field) {
-            Some((class, _)) => self.starts_quietly(class),
+            Some((class, _)) => starts_quietly(self.program, self.hierarchy, class),
             None => false,
         }
     }
@@ -192,7 +183,10 @@ impl Search<'_> {
         ensures { IsResolved self.now.program.now self.now.hierarchy.now → result ≡ found_demand self.now.program.now found }
     {
         match found {
-            Some(at) => method_demand(self.starts_quietly(at.class), method_in(self.program, at)),
+            Some(at) => method_demand(
+                starts_quietly(self.program, self.hierarchy, at.class),
+                method_in(self.program, at),
+            ),
             None => Demand::Loud,
         }
     }

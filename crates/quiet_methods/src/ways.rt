@@ -1,13 +1,15 @@
 //! Where a run goes on behind a form.
 
 ghost use Rattle.std.specs.Prelude.{◌≡◌, ◌<◌, ◌+◌, ◌++◌, ◌^◌, true, false, length, is_some, IfOk, OnOk};
+ghost use Rattle.dom_frame.specs.Registers.{value_at};
 ghost use Rattle.insn_set.specs.Flow.{targets_of};
 ghost use Rattle.dom_frame.specs.Steps.{branched, unswitched, switched};
-ghost use Rattle.quiet_methods.specs.Forms.{one_if, cases_upto, switch_ways, branch_ways, ways};
+ghost use Rattle.quiet_methods.specs.Forms.{one_if, cases_upto, switch_ways, branch_ways, division_ways, ways};
 
-use dom_frame::{branch, switch_at, switch_past};
+use crate::forms::is_nothing;
+use dom_frame::{Frame, branch, switch_at, switch_past};
 use domains::Value;
-use insn_set::Insn;
+use insn_set::{BinaryOp, Insn};
 use pat_map::PatMap;
 use std::alloc::{AllocError, Global};
 
@@ -102,17 +104,31 @@ fn add_branch(
     add_if(can_answer(alloc, registers, insn, false)?, next, out)
 }
 
+/// Adds the position behind an operation, unless it divides by what holds of nothing.
+fn add_division(
+    op: BinaryOp,
+    divisor: &Value,
+    position: u32,
+    out: &mut Vec<u32>,
+) -> Result<(), AllocError>
+    requires { position + 1 < 2 ^ 32 }
+    ensures { OnOk result (out.new.items ≡ out.old.items ++ division_ways op divisor.now position) }
+{
+    add_if(!(op.divides() && is_nothing(divisor)), position + 1, out)
+}
+
 /// Adds the positions at which a run may go on behind a form, unless it throws.
 pub(crate) fn add_ways(
     alloc: Global,
-    registers: &PatMap<Value>,
+    frame: &Frame,
     insn: &Insn,
     position: u32,
     out: &mut Vec<u32>,
 ) -> Result<(), AllocError>
     requires { (length (targets_of insn.now) < 2 ^ 32) × (position + 1 < 2 ^ 32) }
-    ensures { OnOk result (out.new.items ≡ out.old.items ++ ways insn.now position registers.now) }
+    ensures { OnOk result (out.new.items ≡ out.old.items ++ ways insn.now position frame.now.registers) }
 {
+    let registers = &frame.registers;
     let next = position + 1;
     match insn {
         Insn::Goto { target } => add_if(true, *target, out),
@@ -122,6 +138,7 @@ pub(crate) fn add_ways(
         Insn::PackedSwitch { targets, .. } | Insn::SparseSwitch { targets, .. } => {
             add_switch(alloc, registers, insn, targets.as_slice(), next, out)
         }
+        Insn::Binary { op, b, .. } => { add_division(*op, frame.get(u32::from(*b)), position, out) }
         _ => add_if(insn.continues(), next, out),
     }
 }

@@ -10,20 +10,11 @@ ghost use Rattle.program_model.specs.ProgramRules.{is_well_formed};
 ghost use Rattle.reach.specs.Kept.{kept_in, kept_of, live_classes, removed_in, removed_from, size_of};
 
 use call_graph::{LiveSet, live_members};
+use criteria::{is_live, is_on};
 use hierarchy::Hierarchy;
 use program_model::{Changed, Class, Field, Method, Outside, Program};
 use seq::Seq;
 use std::alloc::{AllocError, Global};
-
-/// Whether a number is marked.
-fn is_on(marks: &[bool], number: u32) -> bool
-    ensures { result ≡ slice_index_or marks.now number false }
-{
-    match marks.get(number as usize) {
-        Some(mark) => *mark,
-        None => false,
-    }
-}
 
 /// Keeps the marked fields.
 fn retain_fields(fields: &mut Vec<Field>, marks: &[bool])
@@ -36,7 +27,7 @@ fn retain_fields(fields: &mut Vec<Field>, marks: &[bool])
 fn retain_methods(methods: &mut Vec<Method>, marks: &[bool])
     ensures { methods.new.items ≡ filter (λ m. slice_index_or marks.now m.name false) methods.old.items }
 {
-    methods.retain(|method| is_on(marks, method.name));
+    methods.retain(|method| is_live(marks, method.name));
 }
 
 /// Keeps the marked classes.

@@ -1,6 +1,6 @@
 -- What receivers of a call find, by number and by the program's own lists (this project's profile: the bytecode page gives no
 -- order of resolution).
-use Rattle.std.specs.Prelude.{◌≡◌, ◌<◌, ◌&&◌, ◌||◌, not, ℕ, Bool, true, false, List, [], ◌∷◌, length, Option, Some, None, nat_eq, is_some, slice_get, cond}
+use Rattle.std.specs.Prelude.{◌≡◌, ◌<◌, ◌&&◌, ◌||◌, not, ℕ, Bool, true, false, List, [], ◌∷◌, length, Option, Some, None, nat_eq, slice_get, cond}
 use Rattle.std.specs.List.{list_any, list_all, range_with_len}
 use Rattle.program_model.specs.declared.pools.MethodName.{MethodName}
 use Rattle.program_model.specs.declared.program.Class.{Class}
@@ -8,7 +8,7 @@ use Rattle.program_model.specs.declared.program.MethodAt.{MethodAt}
 use Rattle.program_model.specs.declared.program.Program.{Program}
 use Rattle.program_model.specs.Lookups.{class_place}
 use Rattle.class_defs.specs.Finding.{Search, Nothing, Clash, Finds, finds_at}
-use Rattle.class_defs.specs.Members.{own_virtual, is_interface}
+use Rattle.class_defs.specs.Members.{is_interface}
 use Rattle.class_defs.specs.Places.{is_under, super_place, interface_places}
 use Rattle.hierarchy.specs.Naming.{IsKey, definers_of}
 use Rattle.hierarchy.specs.Shapes.{IsResolved}
@@ -18,6 +18,7 @@ use Rattle.hierarchy.specs.declared.walk.Walk.{Walk}
 use Rattle.receivers.specs.Listing.{AreListed}
 use Rattle.receivers.specs.declared.finding.Finder.{Finder}
 use Rattle.receivers.specs.declared.finding.Named.{Named}
+pub use Rattle.class_criteria.specs.Overriding.{overrides}
 
 -- ---- one class
 
@@ -84,10 +85,7 @@ is_straight_at p c = list_all (interface_at p) (interface_places p c) && (not (i
 abbrev pub is_straight : Program → Bool
 is_straight p = list_all (is_straight_at p) (range_with_len 0 (length p.classes))
 
--- a class under another one, but the one of a method, defines such a virtual method itself
-abbrev pub overrides : Program → MethodName → ℕ → MethodAt → ℕ → Bool
-overrides p q class target d = not (nat_eq d target.class) && is_under p d class && is_some (own_virtual p q.name q.proto d)
-
+-- one of its definers is such a class
 abbrev pub is_overridden : Program → MethodName → ℕ → MethodAt → Bool
 is_overridden p q class target = list_any (overrides p q class target) (definers_of p q.name q.proto)
 

@@ -12,6 +12,7 @@ ghost use Rattle.receivers.specs.Receiving.{stands_under, only, interface_at, fo
 
 use crate::listed::listed_in;
 use crate::straight::is_straight;
+use class_criteria::overrides;
 use hierarchy::{Given, Hierarchy, Walk};
 use program_model::{MethodAt, Program};
 use seq::Seq;
@@ -250,26 +251,13 @@ impl<'a> Finder<'a> {
         }
     }
 
-    /// Whether a class under another one, but the class of a method, defines such a virtual method itself.
-    fn overrides(&self, class: u32, key: u32, target: MethodAt, definer: u32) -> bool
-        ensures { let p = self.now.program.now in IsFinding self.now → (q : MethodName) → IsKey p self.now.hierarchy.now key q.name q.proto → class < length p.classes → definer < length p.classes
-            → result ≡ overrides p q class target definer }
-    {
-        definer != target.class
-            && self.hierarchy.is_under(definer, class)
-            && self
-                .hierarchy
-                .own_virtual(self.program, definer, key)
-                .is_some()
-    }
-
     /// Whether one of some classes under another one, but the class of a method, defines such a virtual method itself.
     fn is_overridden_by(&self, class: u32, key: u32, target: MethodAt, definers: &[u32]) -> bool
         ensures { let p = self.now.program.now in IsFinding self.now → (q : MethodName) → IsKey p self.now.hierarchy.now key q.name q.proto → class < length p.classes → AreShort p definers.now
             → result ≡ list_any (overrides p q class target) definers.now }
     {
         for definer in definers {
-            if self.overrides(class, key, target, *definer) {
+            if overrides(self.program, self.hierarchy, class, key, target, *definer) {
                 return true;
             }
         }

@@ -5,6 +5,7 @@ ghost use Rattle.std.specs.Prelude.{◌≡◌};
 ghost use Rattle.std.specs.Process.{exit_status};
 ghost use Rattle.redex_cli.specs.Status.{code_of};
 
+use exit_code::exit_code_of;
 use redex_cli::{Status, run};
 use redex_outside::{Adviser, BudgetAdviser, FileShelf, PrefixAdviser, StdNotes};
 use std::env;
@@ -21,7 +22,7 @@ const USAGE: u8 = 1;
 fn ended(status: &Status) -> ExitCode
     ensures { exit_status result ≡ code_of status.now }
 {
-    ExitCode::from(status.code())
+    exit_code_of(status.code())
 }
 
 fn main(rt: HostRuntime) -> ExitCode {

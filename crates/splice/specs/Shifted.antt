@@ -1,5 +1,6 @@
 -- Registers and positions of a body into which others are copied.
-use Rattle.std.specs.Prelude.{ℕ, ◌+◌, min, List, slice_index_or}
+use Rattle.std.specs.Prelude.{ℕ, ◌+◌, min}
+pub use Rattle.body_edit.specs.Tables.{place_in}
 
 -- a register so many higher; no register has a number past 65,535
 abbrev pub shifted : ℕ → ℕ → ℕ
@@ -8,7 +9,3 @@ shifted by r = min (r + by) 65535
 -- a count of positions; the greatest number of 32 bits stands for all above it
 abbrev pub word : ℕ → ℕ
 word n = min n 4294967295
-
--- where a position goes by a table; a position past the table stays
-abbrev pub place_in : List ℕ → ℕ → ℕ
-place_in places n = slice_index_or places n n

@@ -5,6 +5,7 @@ ghost use Rattle.pass_defs.specs.Thinned.{insn_retargeted, handler_moved, region
 ghost use Rattle.splice.specs.Shifted.{place_in};
 ghost use Rattle.splice.specs.Pieces.{kept_insn};
 
+use body_edit::{move_span, place_in};
 use insn_regs::{Renaming, rename_reads, rename_writes};
 use insn_set::Insn;
 use program_model::{Handler, Region};
@@ -23,16 +24,6 @@ impl Renaming for Shift {
 
     fn at(&self, register: u16) -> u16 {
         register.saturating_add(self.by)
-    }
-}
-
-/// Where a position goes by a table; a position past the table stays.
-pub(crate) fn place_in(places: &[u32], position: u32) -> u32
-    ensures { result ≡ place_in places.now position }
-{
-    match places.get(position as usize) {
-        Some(place) => *place,
-        None => position,
     }
 }
 
@@ -100,8 +91,7 @@ fn move_handlers(handlers: &mut [Handler], places: &[u32])
 fn move_region(region: &mut Region, places: &[u32])
     ensures { region.new ≡ region_moved (place_in places.now) region.old }
 {
-    region.first = place_in(places, region.first);
-    region.end = place_in(places, region.end);
+    move_span(region, places);
     move_handlers(region.handlers.items.as_mut_slice(), places);
     if let Some(position) = &mut region.rest {
         *position = place_in(places, *position);

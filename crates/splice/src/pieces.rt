@@ -8,9 +8,10 @@ ghost use Rattle.splice.specs.Places.{inner_places};
 ghost use Rattle.splice.specs.Pieces.{line_at, piece_of, returned, copied_insns, copies_from, moved_pieces, copied_pieces, call_pieces, kept_pieces, pieces_at, pieces_from, first_place};
 
 use crate::callee::{Callee, args_of, chosen_at, is_dropped, taken_behind};
-use crate::copying::{copied, kept, place_in};
+use crate::copying::{copied, kept};
 use crate::moves::moves_of;
 use crate::places::{inner_places, word};
+use body_edit::{copied_line, place_in};
 use insn_set::{Insn, Slot};
 use program_model::{Method, Origin, Program};
 use std::alloc::{AllocError, Global};
@@ -30,19 +31,6 @@ fn line_at(method: &Method, position: usize) -> u32
     match method.lines.items.get(position) {
         Some(line) => *line,
         None => 0,
-    }
-}
-
-/// The line of a copy: none where the call has none, and that of the call where the copied position has none.
-fn copied_line(outer: u32, inner: u32) -> u32
-    ensures { result ≡ copied_line outer inner }
-{
-    if inner == 0 {
-        outer
-    } else if outer == 0 {
-        0
-    } else {
-        inner
     }
 }
 

@@ -18,5 +18,5 @@ returns-then-is_on c =
     λ known e. record {
       entered = λ h. subst (λ (ms : List Bool). is_marked ms l.method ≡ true) c.deref-else-not-is_on.ensures.value (sym c.if-is_on.ensures);
       passed = λ h i v s. subst (λ (x : Registers). IsBelow (value_at x i) v) pool (c.words_hold.ensures e i v (subst (λ (ws : List Parts). slice_get ws i ≡ Some v) (sym c.words_of.ensures) s));
-      given = subst (λ (v : Parts). IsBelow (result_at k.facts.now l.method) v) answer (subst (λ (v : Parts). IsBelow v c.in-Some-Some.answer.now) c.result.ensures (c.if-is_below.ensures refl));
+      given = subst (λ (v : Parts). IsBelow (result_at k.facts.now l.method) v) answer (c.if-is_answered.ensures refl);
     }

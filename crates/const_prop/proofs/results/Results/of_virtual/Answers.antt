@@ -1,22 +1,22 @@
-use Rattle.std.proofs.Common.{◌≡◌, ap, ◌∙◌, sym, subst}
-use Rattle.std.specs.Prelude.{fold, IfOk}
+use Rattle.std.proofs.Common.{◌≡◌, Option, Some, None, ◌∙◌, sym, subst}
+use Rattle.std.specs.Prelude.{IfOk}
+use Rattle.program_model.specs.declared.program.MethodAt.{MethodAt}
 use Rattle.class_defs.specs.Finding.{finds_virtual}
-use Rattle.hierarchy.specs.Naming.{definers_of}
-use Rattle.domains.specs.Values.{Parts}
-use Rattle.const_prop.specs.Asked.{AreBelow, count_of}
-use Rattle.const_prop.specs.Given.{found_value, with_definer}
-use Rattle.const_prop.proofs.Finding.{definers_below}
+use Rattle.const_prop.specs.Given.{by_found}
 use Rattle.const_prop.proofs.results.Results.of_virtual.Goals as goal
 
-pub returns : goal.returns
-returns c = λ k name proto is lt.
-    let s = c.args.self.now in
-    let p = s.program.now in
-    let f = s.facts.now in
+pub returns-in-Some : goal.returns-in-Some
+returns-in-Some c = λ k name proto is lt.
+    let p = c.args.self.now.program.now in
+    let f = c.args.self.now.facts.now in
     let class = c.args.class in
-    let own = with_definer p f name proto class in
-    let all : c.definers_of.result.now ≡ definers_of p name proto = c.definers_of.ensures p name proto k.resolved.of is in
-    let first : c.in_ok-first.first ≡ found_value p f (finds_virtual p name proto class) = c.in_ok-first.ensures ∙ ap (found_value p f) (c.find_virtual.ensures name proto k.resolved.of is) in
-    subst (λ (x : Parts). IfOk c.with_definers.result (λ v. v ≡ x))
-    (ap (λ (v : Parts). fold own v c.definers_of.result.now) first ∙ ap (fold own (found_value p f (finds_virtual p name proto class))) all)
-    (c.with_definers.ensures k name proto is lt (subst (AreBelow (count_of s)) (sym all) (definers_below p name proto)))
+    let e : finds_virtual p name proto class ≡ Some c.in-Some.found = sym (c.find_virtual.ensures name proto k.resolved.of is) ∙ c.in-Some.is in
+    subst (λ (o : Option MethodAt). IfOk c.of_inherited.result (λ v. v ≡ by_found p f name proto class o)) (sym e) (c.of_inherited.ensures k name proto is lt)
+
+pub returns-in-None : goal.returns-in-None
+returns-in-None c = λ k name proto is lt.
+    let p = c.args.self.now.program.now in
+    let f = c.args.self.now.facts.now in
+    let class = c.args.class in
+    let e : finds_virtual p name proto class ≡ None = sym (c.find_virtual.ensures name proto k.resolved.of is) ∙ c.in-None.is in
+    subst (λ (o : Option MethodAt). IfOk c.of_unfound.result (λ v. v ≡ by_found p f name proto class o)) (sym e) (c.of_unfound.ensures k name proto is lt e)

@@ -8,14 +8,14 @@ loop-definer-preserved c = λ f q k l short.
     let i = c.loop-definer.definer-index in
     let xs = c.args.definers.now in
     none_more (overrides c.args.self.now.program.now q c.args.class c.args.target) xs i c.loop-definer-test.true (c.loop-definer.invariant f q k l short)
-    (sym (c.overrides.ensures f q k l (short i (slice_index xs i) (at_index xs i c.loop-definer-test.true))) ∙ c.if-overrides.false)
+    (sym (c.overrides.ensures f.resolved q k l (short i (slice_index xs i) (at_index xs i c.loop-definer-test.true))) ∙ c.if-overrides.false)
 
 pub returns-then-overrides : goal.returns-then-overrides
 returns-then-overrides c = λ f q k l short.
     let i = c.loop-definer.definer-index in
     let xs = c.args.definers.now in
     sym (any_here (overrides c.args.self.now.program.now q c.args.class c.args.target) xs i c.loop-definer-test.true
-    (sym (c.overrides.ensures f q k l (short i (slice_index xs i) (at_index xs i c.loop-definer-test.true))) ∙ c.if-overrides.true))
+    (sym (c.overrides.ensures f.resolved q k l (short i (slice_index xs i) (at_index xs i c.loop-definer-test.true))) ∙ c.if-overrides.true))
 
 pub returns : goal.returns
 returns c = λ f q k l short. sym (none_done (overrides c.args.self.now.program.now q c.args.class c.args.target) c.args.definers.now c.loop-definer.definer-index c.loop-definer-test.false (c.loop-definer.invariant f q k l short))

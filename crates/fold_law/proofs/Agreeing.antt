@@ -395,7 +395,7 @@ module _ (p : Program) (h : Hierarchy) (o : Outside) (t : Facts) (settled : Sett
         OnlyWide : (w : ℕ) → wide ≡ true → Knows (Wide w)
 
       known : constant_of f.to known_flat ≡ Some f.constant
-      known = shown.known p o t settled.asked settled.plain settled.low at m b has_method has_body n i has_insn f wide result
+      known = shown.known p o t settled.asked settled.low at m b has_method has_body n i has_insn f wide result
 
       -- a value that is 0, or under what the solution knows and what kinds leave of it
       about_knows : (w : Bool) (k : Number) (v : Parts) → IsAbout v w k → w ≡ wide
@@ -412,9 +412,9 @@ module _ (p : Program) (h : Hierarchy) (o : Outside) (t : Facts) (settled : Sett
       under_both v y e d =
           let s = suited n reached f.table f.closed f.registers f.there in
           let value = value_at (unwrap_or (step.after p i (given p t at.class before i) y.registers) finite.empty) f.to in
-          let one = left_under p o t settled.asked settled.plain settled.low at m b has_method has_body n i has_insn f.table (low p o t settled.asked settled.plain settled.low at m b has_method has_body f.table f.closed)
+          let one = left_under p o t settled.asked settled.low at m b has_method has_body n i has_insn f.table (low p o t settled.asked settled.low at m b has_method has_body f.table f.closed)
           f.registers f.there y e (f.to, wide) result f.to in
-          let two = left_under p o t settled.asked settled.plain settled.low at m b has_method has_body n i has_insn (met_solution n reached f.table f.closed f.registers f.there) (under_met n reached f.table f.closed f.registers f.there)
+          let two = left_under p o t settled.asked settled.low at m b has_method has_body n i has_insn (met_solution n reached f.table f.closed f.registers f.there) (under_met n reached f.table f.closed f.registers f.there)
           (met_here n reached f.table f.closed f.registers f.there s.kinds) (met_there n reached f.table f.closed f.registers f.there s.kinds s.state s.less_there) y e (f.to, wide) result f.to in (
             subst (λ (z : Parts). IsUnder z known_flat) (sym d) one,
             subst (λ (z : Parts). IsUnder z (met_flat s.kinds)) (sym d) two,
@@ -422,7 +422,7 @@ module _ (p : Program) (h : Hierarchy) (o : Outside) (t : Facts) (settled : Sett
 
       knows : (k : Number) → number_at p t at.class m.name before n i ≡ Some k → Knows k
       knows k e =
-          let g = gives p o t settled.asked settled.plain settled.low at m b has_method has_body n i has_insn f wide result in
+          let g = gives p o t settled.asked settled.low at m b has_method has_body n i has_insn f wide result in
           about_knows wide k g.value (subst (IsAbout g.value wide) (some_same g.number k (sym g.is ∙ e)) g.about) refl (by g.value g.from)
         where
           by : (v : Parts)

@@ -61,7 +61,7 @@ module _ (p : Program) (h : Hierarchy) (o : Outside) (t : Facts) (settled : Sett
   number_folds : (n : ℕ) (i : Insn) → slice_get b.insns n ≡ Some i → IsAlwaysReached (named p) (outer_of p o) key n → (f : FoldsToNumber (named p) (outer_of p o) key (body_of p b) n (form_of p i)) → ⊥
   number_folds n i has_insn reached f =
       let w = register_is p i f.to f.result in
-      let g = gives p o t settled.asked settled.plain settled.low at m b has_method has_body n i has_insn f w.0 w.1 in
+      let g = gives p o t settled.asked settled.low at m b has_method has_body n i has_insn f w.0 w.1 in
       let agrees = kinds.numbers n i g.number has_insn reached f g.is in
       let x : Fold = record { position = n; insn = g.constant; number = Some g.number } in
       let constant : constant_at p (before n) n i (Some g.number) ≡ Some x =
@@ -83,8 +83,8 @@ module _ (p : Program) (h : Hierarchy) (o : Outside) (t : Facts) (settled : Sett
 
   outcome_folds : (n : ℕ) (i : Insn) → slice_get b.insns n ≡ Some i → IsAlwaysReached (named p) (outer_of p o) key n → FoldsToOutcome (named p) (outer_of p o) key n (form_of p i) → ⊥
   outcome_folds n i has_insn reached f =
-      let under = low p o t settled.asked settled.plain settled.low at m b has_method has_body f.knows.table f.knows.closed in
-      let w = has_way p (n + 1) i (frame n) f.registers (λ x e. registers_under p o t settled.asked settled.plain settled.low at m b has_method has_body n i has_insn f.knows.table under f.registers f.knows.there x e) f.chooses f.known
+      let under = low p o t settled.asked settled.low at m b has_method has_body f.knows.table f.knows.closed in
+      let w = has_way p (n + 1) i (frame n) f.registers (λ x e. registers_under p o t settled.asked settled.low at m b has_method has_body n i has_insn f.knows.table under f.registers f.knows.there x e) f.chooses f.known
       (λ x e r c wide same. kinds.words n i x.registers r wide has_insn reached f (ap (λ (o : Option Frame). option_map (λ (f : Frame). f.registers) o) e) c same) in
       let x : Fold = record { position = n; insn = w.insn; number = None } in
       left_typed p h t at m b none short n i x has_insn

@@ -1,8 +1,8 @@
 -- What calls and fields bring by facts under a solution is under what they bring by the solution.
 use Rattle.std.specs.Prelude.{◌≡◌, ◌+◌, ◌++◌, ◌<◌, ◌&&◌, not, cond, ℕ, zero, suc, is_some, is_none, if◌then◌else◌, nat_eq, Bool, true, false, List, [], ◌∷◌, length, filter, flat_map, fold, map, Option, Some, None, refl, slice_get, slice_index_or, Contains, option_and_then, position}
-use Rattle.std.specs.List.{list_any, list_all}
+use Rattle.std.specs.List.{list_any, list_all, range_with_len}
 use Rattle.std.specs.Option.{option_map, option_or}
-use Rattle.std.proofs.Common.{sym, ◌∙◌, arith, ap, subst, true≢false, lt-ltb}
+use Rattle.std.proofs.Common.{inl, inr, sym, ◌∙◌, arith, ap, subst, true≢false, lt-ltb}
 use Rattle.std.proofs.lemmas.List.Elements.{Contains-append_left, Contains-append_right}
 use Rattle.lemmas.proofs.Bools.{and_both, or_left, or_right}
 use Rattle.lemmas.proofs.Lists.{contains_here, contains_there, got_short}
@@ -66,10 +66,11 @@ use Rattle.flat_bridge.proofs.Fielding.{field_same}
 use Rattle.flat_bridge.proofs.Leaving.{any_of, bare_leaves, missed_leaves, outer_undefined, undefined_leaves}
 use Rattle.removal_law.proofs.Lists.{In, contained, here, in_map, there}
 use Rattle.reach_bridge.proofs.Held.{at_stands}
-use Rattle.const_prop.specs.Given.{above_value, among_value, call_value, found_value, kind_value, method_value, named_value, receiver_value, super_value, virtual_value, with_definer, with_found, with_maybe}
+use Rattle.hierarchy.specs.Touring.{subclasses_of}
+use Rattle.fold_law.proofs.Methods.{filter_in, in_first, passing_in}
+use Rattle.const_prop.specs.Given.{above_value, among_value, by_found, by_search, call_value, found_value, kind_value, method_value, named_value, receiver_value, search_value, super_value, virtual_value, with_class, with_definer, with_found, with_maybe}
 use Rattle.const_prop.specs.Known as known
 use Rattle.const_prop.specs.Known.{field_value}
-use Rattle.fold_law.specs.Asked.{FindsPlainly}
 
 -- ---- lists
 
@@ -121,7 +122,21 @@ own_first p name proto c at l e = by (length p.classes) l
     by zero l = absurd (omega (arith, l))
     by (suc n) l = ap (λ (o : Option MethodAt). option_or o (first_among (own_virtual p name proto) (chain_from (super_place p) n (super_place p c)))) e
 
-module _ (p : Program) (o : Outside) (asked : IsAsked p o) (plain : FindsPlainly p) (t : Facts) (c : Solution) (under : AreFactsUnder p (numbered p c) t) where
+-- the entry of a list at a place
+entry : {A : Type 0} (xs : List A) (n : ℕ) → n < length xs → (x : A) × (slice_get xs n ≡ Some x)
+entry [] n l = absurd (omega (arith, l))
+entry (x ∷ xs) zero l = (x, refl)
+entry (x ∷ xs) (suc n) l = entry xs n (omega (arith, l))
+
+-- a number in a range is below its end
+range_low : (n s d : ℕ) → In d (range_with_len s n) → d < s + n
+range_low zero s d i = elim i [ ]
+range_low (suc n) s d i = elim (in_first d s (range_with_len (s + 1) n) i) [
+  | inl e ↦ omega (arith, e)
+  | inr j ↦ let l = range_low n (s + 1) d j in omega (arith, l)
+]
+
+module _ (p : Program) (o : Outside) (asked : IsAsked p o) (t : Facts) (c : Solution) (under : AreFactsUnder p (numbered p c) t) where
   abbrev b : FlatTable
   b = numbered p c
 
@@ -398,15 +413,50 @@ module _ (p : Program) (o : Outside) (asked : IsAsked p o) (plain : FindsPlainly
     top_finds : find.finds_at (named p) (type_at p q.class) (method_at p method) ≡ search_at p (finds_at p top q.name q.proto)
     top_finds = finds_is q.class top class_low place
 
-    virtual_under : member.is_interface (slice_get p.classes top) ≡ false → IsUnder (virtual_value p t q.name q.proto top) all
-    virtual_under flat = by (finds_virtual p q.name q.proto top) refl
-      where
-        nothing : finds_at p top q.name q.proto ≡ look_up.Nothing → misses (named p) text call.Virtual (method_at p method) ≡ true
-        nothing e = or_right (is_some (interface_named (named p) (method_at p method).class)) (list_any (λ t. is_nothing (find.finds_at (named p) t (method_at p method))) (receivers (named p) (method_at p method).class))
-            (any_of (λ (t : Text). is_nothing (find.finds_at (named p) t (method_at p method))) (receivers (named p) (method_at p method).class) (type_at p q.class) itself (ap is_nothing (top_finds ∙ ap (search_at p) e)))
+    -- where a receiver finds nothing the call may leave
+    missed : (u : Text) → Contains (receivers (named p) (method_at p method).class) u → find.finds_at (named p) u (method_at p method) ≡ find.Nothing → misses (named p) text call.Virtual (method_at p method) ≡ true
+    missed u k e = or_right (is_some (interface_named (named p) (method_at p method).class)) (list_any (λ t. is_nothing (find.finds_at (named p) t (method_at p method))) (receivers (named p) (method_at p method).class))
+        (any_of (λ (t : Text). is_nothing (find.finds_at (named p) t (method_at p method))) (receivers (named p) (method_at p method).class) u k (ap is_nothing e))
 
-        by : (x : Option MethodAt) → finds_virtual p q.name q.proto top ≡ x → IsUnder (fold (with_definer p t q.name q.proto top) (found_value p t x) (definers_of p q.name q.proto)) all
-        by None e = any_way text method call.Virtual args (missed_leaves p o asked text method call.Virtual (nothing (plain q.name q.proto top flat e))) _
+    -- what a receiver finds, by its place
+    search_under : (u : Text) → Contains (receivers (named p) (method_at p method).class) u → (d : ℕ) → find.finds_at (named p) u (method_at p method) ≡ search_at p (finds_at p d q.name q.proto) → IsUnder (search_value p t (finds_at p d q.name q.proto)) all
+    search_under u k d e = by (finds_at p d q.name q.proto) refl
+      where
+        by : (x : look_up.Search) → finds_at p d q.name q.proto ≡ x → IsUnder (search_value p t x) all
+        by look_up.Nothing i = any_way text method call.Virtual args (missed_leaves p o asked text method call.Virtual (missed u k (e ∙ ap (search_at p) i))) any_value
+        by look_up.Clash i = under_least all
+        by (look_up.Finds at) i = of (names.found_at p at) refl
+          where
+            of : (y : Option Found) → names.found_at p at ≡ y → IsUnder (found_value p t (Some at)) all
+            of None j = any_way text method call.Virtual args (missed_leaves p o asked text method call.Virtual (missed u k (e ∙ ap (search_at p) i ∙ ap names.finds j))) (found_value p t (Some at))
+            of (Some f) j = one_under text method call.Virtual args at ((found_parts p at f j).there) (λ g is. receiver_finds u g k (e ∙ ap (search_at p) i ∙ ap names.finds is))
+
+    class_under : (v : Parts) (d : ℕ) → is_under p d top ≡ true → d < length p.classes → IsUnder v all → IsUnder (with_class p t q.name q.proto v d) all
+    class_under v d stands low h =
+        let k = entry p.classes d low in
+        under_joined v (search_value p t (finds_at p d q.name q.proto)) all h
+        (search_under (type_at p k.0.name) (below_in d k.0 k.1 stands) d (finds_is k.0.name d (class_parts p s d k.0 k.1).name (own_place p asked.once d k.0 k.1)))
+
+    classes_under : (ds : List ℕ) → ((d : ℕ) → In d ds → (is_under p d top ≡ true) × (d < length p.classes)) → (v : Parts) → IsUnder v all → IsUnder (fold (with_class p t q.name q.proto) v ds) all
+    classes_under [] each v h = h
+    classes_under (d ∷ ds) each v h = let z = each d (here ds) in classes_under ds (λ c i. each c (there d ds i)) (with_class p t q.name q.proto v d) (class_under v d z.0 z.1 h)
+    each_under : (d : ℕ) → In d (subclasses_of p top) → (is_under p d top ≡ true) × (d < length p.classes)
+    each_under d i = (
+      and_left (is_under p d top) (not (nat_eq d top)) (passing_in (λ c. is_under p c top && not (nat_eq c top)) d (range_with_len 0 (length p.classes)) i),
+      range_low (length p.classes) 0 d (filter_in (λ c. is_under p c top && not (nat_eq c top)) d (range_with_len 0 (length p.classes)) i),
+    )
+
+    virtual_under : IsUnder (virtual_value p t q.name q.proto top) all
+    virtual_under = by (finds_virtual p q.name q.proto top) refl
+      where
+        search : (x : look_up.Search) → finds_at p top q.name q.proto ≡ x → IsUnder (by_search p t q.name q.proto (subclasses_of p top) x) all
+        search look_up.Nothing i = any_way text method call.Virtual args (missed_leaves p o asked text method call.Virtual (missed (type_at p q.class) itself (top_finds ∙ ap (search_at p) i))) any_value
+        search look_up.Clash i = classes_under (subclasses_of p top) each_under least_value (under_least all)
+        search (look_up.Finds at) i = classes_under (subclasses_of p top) each_under (found_value p t (Some at))
+            (subst (λ (x : look_up.Search). IsUnder (search_value p t x) all) i (search_under (type_at p q.class) itself top top_finds))
+
+        by : (x : Option MethodAt) → finds_virtual p q.name q.proto top ≡ x → IsUnder (by_found p t q.name q.proto top x) all
+        by None e = search (finds_at p top q.name q.proto) refl
         by (Some at) e = definers_under (definers_of p q.name q.proto) (found_value p t (Some at))
             (one_under text method call.Virtual args at (first_there p (own_virtual p q.name q.proto) (virtual_answers p s q.name q.proto name_low proto_low).there (chain_of p (Some top)) at e)
             (λ g is. receiver_finds (type_at p q.class) g itself
@@ -418,7 +468,7 @@ module _ (p : Program) (o : Outside) (asked : IsAsked p o) (plain : FindsPlainly
         by : (x : Bool) → member.is_interface (slice_get p.classes top) ≡ x → IsUnder (if x then any_value else virtual_value p t q.name q.proto top) all
         by true e = any_way text method call.Virtual args (missed_leaves p o asked text method call.Virtual
             (or_left (is_some (interface_named (named p) (method_at p method).class)) (list_any (λ t. is_nothing (find.finds_at (named p) t (method_at p method))) (receivers (named p) (method_at p method).class)) (interface_is e))) any_value
-        by false e = virtual_under e
+        by false e = virtual_under
 
     by_kind : (kind : InvokeKind) → IsUnder (kind_value p t class kind q.name q.proto top) (answer text method kind args)
     by_kind call.Static = static_under

@@ -51,7 +51,6 @@ use Rattle.const_prop.specs.Choices.{is_choice}
 use Rattle.const_prop.specs.Constants.{constant_for, result_of}
 use Rattle.const_prop.specs.Given.{behind, call_value, given, number_at}
 use Rattle.const_prop.specs.Known.{is_always_pure, is_pure, number_by, number_in, number_nowhere, number_of}
-use Rattle.fold_law.specs.Asked.{FindsPlainly}
 use Rattle.fold_law.proofs.Settled.{AreLow}
 use Rattle.fold_law.proofs.Given.{call_under, field_under}
 use Rattle.fold_law.proofs.Numbers.{constant_there, HasConstant, IsAbout}
@@ -122,7 +121,7 @@ field_low : (p : Program) (item : Item) (to field : ℕ) → numbers_fit (insn.S
 unfolding numbers_fit
 field_low p item to field h = below field (length p.fields) h
 
-module _ (p : Program) (o : Outside) (t : Facts) (asked : IsAsked p o) (plain : FindsPlainly p) (facts_low : AreLow p o t) (at : MethodAt) (m : Method) (b : Body) (has_method : look.method_at p at ≡ Some m) (has_body : m.body ≡ Some b) where
+module _ (p : Program) (o : Outside) (t : Facts) (asked : IsAsked p o) (facts_low : AreLow p o t) (at : MethodAt) (m : Method) (b : Body) (has_method : look.method_at p at ≡ Some m) (has_body : m.body ≡ Some b) where
   abbrev key : MethodKey
   key = method_at p m.name
 
@@ -169,13 +168,13 @@ module _ (p : Program) (o : Outside) (t : Facts) (asked : IsAsked p o) (plain : 
       behind_under None e = tt
       behind_under (Some (insn.Invoke kind method args)) e =
           subst (λ (u : Text). IsUnder (call_value p t at.class kind method) (name.call_result flat (named p) c u (Some (form_of p (insn.Invoke kind method args))))) (sym own.class_is)
-          (call_under p o asked plain t c under at.class own.owner.class own.owner.is_class kind method args (call_low p kind method args (before_fits (insn.Invoke kind method args) e)))
+          (call_under p o asked t c under at.class own.owner.class own.owner.is_class kind method args (call_low p kind method args (before_fits (insn.Invoke kind method args) e)))
       behind_under (Some j) e = tt
 
       -- what is brought is under what a solution brings
       pub brings : (q : Option Insn) → before ≡ q → (j : Insn) (r : ℕ × Bool) → numbers_fit j p ≡ true → result_of j ≡ Some r → Brings q j
       brings q d (insn.MoveResult slot to) r f e = behind_under q d
-      brings q d (insn.StaticGet item to field) r f e = field_under p o asked plain t c under field (field_low p item to field f)
+      brings q d (insn.StaticGet item to field) r f e = field_under p o asked t c under field (field_low p item to field f)
       brings q d (insn.Move slot to from) r f e = tt
       brings q d (insn.MoveException to) r f e = tt
       brings q d (insn.ConstString to string) r f e = tt

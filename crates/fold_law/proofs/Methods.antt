@@ -46,7 +46,7 @@ pub in_first : {A : Type 0} (g x : A) (zs : List A) → In g (x ∷ zs) → (x �
 in_first g _ zs (here _) = inl refl
 in_first g x zs (there _ _ j) = inr j
 
-filter_in : {A : Type 0} (keep : A → Bool) (g : A) (xs : List A) → In g (filter keep xs) → In g xs
+pub filter_in : {A : Type 0} (keep : A → Bool) (g : A) (xs : List A) → In g (filter keep xs) → In g xs
 filter_in keep g [] i = elim i [ ]
 filter_in {A} keep g (x ∷ xs) i = by (keep x) i (filter_in keep g xs)
   where
@@ -56,6 +56,17 @@ filter_in {A} keep g (x ∷ xs) i = by (keep x) i (filter_in keep g xs)
       | inr k ↦ there x xs (more k)
     ]
     by false j more = there x xs (more j)
+
+pub passing_in : {A : Type 0} (keep : A → Bool) (g : A) (xs : List A) → In g (filter keep xs) → keep g ≡ true
+passing_in keep g [] i = elim i [ ]
+passing_in {A} keep g (x ∷ xs) i = by (keep x) refl i (passing_in keep g xs)
+  where
+    by : (b : Bool) → keep x ≡ b → In g (cond b (x ∷ filter keep xs) (filter keep xs)) → (In g (filter keep xs) → keep g ≡ true) → keep g ≡ true
+    by true e j more = elim (in_first g x (filter keep xs) j) [
+      | inl d ↦ subst (λ (u : A). keep u ≡ true) d e
+      | inr k ↦ more k
+    ]
+    by false e j more = more j
 
 -- ---- the method with a body
 
@@ -459,17 +470,6 @@ module _ (p : NamedProgram) (regular : IsRegular p) where
         by : (b : Bool) → text_eq t object_type ≡ b → (b || is_own_under p s t) ≡ true → is_reference t ≡ true
         by true e w = subst (λ (u : Text). is_reference u ≡ true) (sym (text_sound t object_type e)) refl
         by false e w = class_reference t (walk_reference (length p.classes) s t (not_true (text_eq s t) (and_right (is_within p s t) (not (text_eq s t)) h)) w)
-
-    passing_in : {A : Type 0} (keep : A → Bool) (g : A) (xs : List A) → In g (filter keep xs) → keep g ≡ true
-    passing_in keep g [] i = elim i [ ]
-    passing_in {A} keep g (x ∷ xs) i = by (keep x) refl i (passing_in keep g xs)
-      where
-        by : (b : Bool) → keep x ≡ b → In g (cond b (x ∷ filter keep xs) (filter keep xs)) → (In g (filter keep xs) → keep g ≡ true) → keep g ≡ true
-        by true e j more = elim (in_first g x (filter keep xs) j) [
-          | inl d ↦ subst (λ (u : A). keep u ≡ true) d e
-          | inr k ↦ more k
-        ]
-        by false e j more = more j
 
     receiver_reference : (k : MethodKey) (g : Found) → In g (flat_map (λ t. found_by (finds_at p t k) ++ candidates_of p t k.name k.signature) (receivers p k.class)) → is_reference k.class ≡ true
     receiver_reference k g i =

@@ -13,7 +13,7 @@ use Rattle.flat_bounds.specs.Facts.{AreFactsUnder}
 use Rattle.flat_bridge.specs.Numbered.{IsAsked, IsBounded}
 use Rattle.flat_bridge.proofs.Bound.{is_bounded}
 use Rattle.flat_bridge.proofs.Given.{asked_of}
-use Rattle.fold_law.specs.Asked.{AreShort, FindsPlainly, IsSettled}
+use Rattle.fold_law.specs.Asked.{AreShort, IsSettled}
 
 -- facts that are under every flat bound, and each solution gives one
 pub record AreLow (p : Program) (o : Outside) (t : Facts) : Type 0 where
@@ -24,7 +24,6 @@ pub record Settled (p : Program) (h : Hierarchy) (o : Outside) (t : Facts) : Typ
   pub asked : IsAsked p o
   pub resolved : IsResolved p h
   pub typed : IsTyped (named p)
-  pub plain : FindsPlainly p
   pub short : AreShort p
   pub low : AreLow p o t
 
@@ -33,7 +32,6 @@ settle p h o t s = record {
   asked = asked_of p o s.given;
   resolved = s.resolved;
   typed = s.given.typed;
-  plain = s.plain;
   short = s.short;
   low = record { bounds = λ c closed. is_bounded p o c s.given closed; under = s.low };
 }

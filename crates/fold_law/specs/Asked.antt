@@ -1,6 +1,6 @@
 -- What is asked of a program, of facts that are known of it and of what a pass left of it, so that nothing in it is foldable
 -- (this project's profile).
-use Rattle.std.specs.Prelude.{◌≡◌, ◌≤◌, ℕ, Bool, true, false, List, length, Some, None, is_some, slice_get, slice_index_or}
+use Rattle.std.specs.Prelude.{◌≡◌, ◌≤◌, ℕ, Bool, true, false, List, length, Some, is_some, slice_get, slice_index_or}
 use Rattle.std.specs.List.{list_any}
 use Rattle.program_model.specs.declared.body.Body.{Body}
 use Rattle.program_model.specs.declared.pass.Outside.{Outside}
@@ -8,8 +8,7 @@ use Rattle.program_model.specs.declared.program.Class.{Class}
 use Rattle.program_model.specs.declared.program.Method.{Method}
 use Rattle.program_model.specs.declared.program.MethodAt.{MethodAt}
 use Rattle.program_model.specs.declared.program.Program.{Program}
-use Rattle.class_defs.specs.Finding.{Nothing, finds_at, finds_virtual}
-use Rattle.class_defs.specs.Members.{is_interface}
+use Rattle.class_defs.specs.Finding.{Nothing}
 use Rattle.hierarchy.specs.Shapes.{IsResolved}
 use Rattle.hierarchy.specs.declared.build.Hierarchy.{Hierarchy}
 use Rattle.facts.specs.declared.facts.Facts.{Facts}
@@ -19,11 +18,6 @@ use Rattle.flat_bounds.specs.Facts.{AreFactsUnder}
 use Rattle.flat_bridge.specs.Numbered.{IsGiven}
 use Rattle.const_prop.specs.Folds.{folds_of, is_asked, NoneLeftAt}
 
--- Where no virtual method stands along a class and its superclasses, a virtual call finds none: no interface of these classes has one
--- with code. So it is in version 035, where interfaces have no code.
-abbrev pub FindsPlainly : Program → Type 0
-FindsPlainly p = (name proto class : ℕ) → is_interface (slice_get p.classes class) ≡ false → finds_virtual p name proto class ≡ None → finds_at p class name proto ≡ Nothing
-
 -- positions are numbers of 32 bits
 abbrev pub AreShort : Program → Type 0
 AreShort p = (k j : ℕ) (c : Class) (m : Method) (b : Body) → slice_get p.classes k ≡ Some c → slice_get c.methods j ≡ Some m → m.body ≡ Some b → length b.insns ≤ 4294967295
@@ -32,7 +26,6 @@ AreShort p = (k j : ℕ) (c : Class) (m : Method) (b : Body) → slice_get p.cla
 pub record IsSettled (p : Program) (h : Hierarchy) (o : Outside) (t : Facts) : Type 0 where
   pub given : IsGiven p o
   pub resolved : IsResolved p h
-  pub plain : FindsPlainly p
   pub short : AreShort p
   pub low : (b : FlatTable) → IsFlatBound p o b → AreFactsUnder p b t
 

@@ -440,6 +440,7 @@ module _ (p : Program) (o : Outside) (asked : IsAsked p o) (t : Facts) (c : Solu
     classes_under : (ds : List ℕ) → ((d : ℕ) → In d ds → (is_under p d top ≡ true) × (d < length p.classes)) → (v : Parts) → IsUnder v all → IsUnder (fold (with_class p t q.name q.proto) v ds) all
     classes_under [] each v h = h
     classes_under (d ∷ ds) each v h = let z = each d (here ds) in classes_under ds (λ c i. each c (there d ds i)) (with_class p t q.name q.proto v d) (class_under v d z.0 z.1 h)
+
     each_under : (d : ℕ) → In d (subclasses_of p top) → (is_under p d top ≡ true) × (d < length p.classes)
     each_under d i = (
       and_left (is_under p d top) (not (nat_eq d top)) (passing_in (λ c. is_under p c top && not (nat_eq c top)) d (range_with_len 0 (length p.classes)) i),

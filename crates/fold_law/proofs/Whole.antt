@@ -19,8 +19,9 @@ use Rattle.facts_kept.proofs.Few.{few_members}
 use Rattle.pass_defs.specs.Foldable.{IsFoldable}
 use Rattle.rewrite_pass.specs.Plans.{word}
 use Rattle.fold_law.proofs.Dimensions.{dimensions}
-use Rattle.fold_law.specs.Asked.{IsSettled, LeavesNone, NothingLeft}
-use Rattle.fold_law.proofs.Settled.{settle, Settled}
+use Rattle.const_prop.specs.Folds.{NoneLeft, NoneLeftAt}
+use Rattle.fold_law.specs.Asked.{IsSettled}
+use Rattle.fold_law.proofs.Settled.{leaves_none, settle, Settled}
 use Rattle.fold_law.proofs.Kinds.{KindsAgree}
 use Rattle.fold_law.proofs.Lowering.{met_low}
 use Rattle.fold_law.proofs.Agreed.{agreed}
@@ -36,15 +37,16 @@ module _ (p : Program) (w : is_well_formed p ≡ true) (k j : ℕ) (c : Class) (
   pub placed : (P : MethodAt → Type 0) → P (record { class = word k; place = word j }) → P (record { class = k; place = j })
   placed P h = subst (λ (i : ℕ). P (record { class = i; place = j })) whole_class (subst (λ (i : ℕ). P (record { class = word k; place = i })) whole_place h)
 
-pub folded_nowhere : (p : Program) (h : Hierarchy) (o : Outside) (t : Facts) (admitted : List Bool) → Settled p h o t → NothingLeft p h t admitted
+pub folded_nowhere : (p : Program) (h : Hierarchy) (o : Outside) (t : Facts) (admitted : List Bool) → Settled p h o t → NoneLeft p h t admitted
     → (k j : ℕ) (c : Class) (m : Method) (b : Body) → slice_get p.classes k ≡ Some c
     → slice_get c.methods j ≡ Some m → slice_index_or admitted m.name false ≡ true → m.body ≡ Some b → KindsAgree p h o t (record { class = k; place = j }) m b
     → (n : ℕ) → IsFoldable (named p) (outer_of p o) (method_at p m.name) n → ⊥
 folded_nowhere p h o t admitted settled left k j c m b is_class is_method admits has_body kinds n f =
     folded p h o t settled (record { class = k; place = j }) m b (ap (option_and_then (λ (c : Class). slice_get c.methods j)) is_class ∙ is_method) has_body (settled.short k j c m b is_class is_method has_body)
-    (placed p settled.asked.formed k j c m is_class is_method (λ at. LeavesNone p h t at m b) (left k j c m b is_class is_method admits has_body)) kinds n f
+    (leaves_none p h o t settled k j c m b is_class is_method has_body
+    (placed p settled.asked.formed k j c m is_class is_method (λ at. NoneLeftAt p h t at m b) (left k j c m b is_class is_method admits has_body))) kinds n f
 
-pub nothing_foldable : (p : Program) (h : Hierarchy) (o : Outside) (t : Facts) (admitted : List Bool) → IsSettled p h o t → NothingLeft p h t admitted → (k j : ℕ) (c : Class) (m : Method)
+pub nothing_foldable : (p : Program) (h : Hierarchy) (o : Outside) (t : Facts) (admitted : List Bool) → IsSettled p h o t → NoneLeft p h t admitted → (k j : ℕ) (c : Class) (m : Method)
     (b : Body) → slice_get p.classes k ≡ Some c → slice_get c.methods j ≡ Some m → slice_index_or admitted m.name false ≡ true → m.body ≡ Some b
     → (n : ℕ) → IsFoldable (named p) (outer_of p o) (method_at p m.name) n → ⊥
 nothing_foldable p h o t admitted settled left k j c m b is_class is_method admits has_body =

@@ -11,11 +11,12 @@ ghost use Rattle.dalvik_defs.specs.Naming.{method_at, named};
 ghost use Rattle.dalvik_defs.specs.Outer.{outer_of};
 ghost use Rattle.pass_defs.specs.Foldable.{IsFoldable};
 ghost use Rattle.facts.specs.declared.facts.Facts.{Facts};
-ghost use Rattle.fold_law.specs.Asked.{IsSettled, NothingLeft};
+ghost use Rattle.const_prop.specs.Folds.{NoneLeft};
+ghost use Rattle.fold_law.specs.Asked.{IsSettled};
 
 /// No position of an admitted method is foldable in a program of which constant propagation leaves nothing to write.
 pub fn nothing_foldable_law()
-    ensures { (p : Program) (h : Hierarchy) (o : Outside) (t : Facts) (admitted : List Bool) → IsSettled p h o t → NothingLeft p h t admitted
+    ensures { (p : Program) (h : Hierarchy) (o : Outside) (t : Facts) (admitted : List Bool) → IsSettled p h o t → NoneLeft p h t admitted
         → (k j : ℕ) (c : Class) (m : Method) (b : Body) → slice_get p.classes k ≡ Some c → slice_get c.methods j ≡ Some m → slice_index_or admitted m.name false ≡ true → m.body ≡ Some b
         → (n : ℕ) → IsFoldable (named p) (outer_of p o) (method_at p m.name) n → ⊥ }
 {}

@@ -4,7 +4,7 @@ use Rattle.std.specs.List.{list_any, list_all, range_with_len}
 use Rattle.std.specs.Option.{option_map, option_or}
 use Rattle.std.proofs.Common.{inl, inr, sym, ◌∙◌, arith, ap, subst, true≢false, lt-ltb}
 use Rattle.std.proofs.lemmas.List.Elements.{Contains-append_left, Contains-append_right}
-use Rattle.lemmas.proofs.Bools.{and_both, or_left, or_right}
+use Rattle.lemmas.proofs.Bools.{and_both, and_left, or_left, or_right}
 use Rattle.lemmas.proofs.Lists.{contains_here, contains_there, got_short}
 use Rattle.lemmas.proofs.Options.{none_some, some_same}
 use Rattle.insn_set.specs.declared.form.Insn.TheVariants as insn
@@ -419,8 +419,8 @@ module _ (p : Program) (o : Outside) (asked : IsAsked p o) (t : Facts) (c : Solu
         (any_of (λ (t : Text). is_nothing (find.finds_at (named p) t (method_at p method))) (receivers (named p) (method_at p method).class) u k (ap is_nothing e))
 
     -- what a receiver finds, by its place
-    search_under : (u : Text) → Contains (receivers (named p) (method_at p method).class) u → (d : ℕ) → find.finds_at (named p) u (method_at p method) ≡ search_at p (finds_at p d q.name q.proto) → IsUnder (search_value p t (finds_at p d q.name q.proto)) all
-    search_under u k d e = by (finds_at p d q.name q.proto) refl
+    place_under : (u : Text) → Contains (receivers (named p) (method_at p method).class) u → (d : ℕ) → find.finds_at (named p) u (method_at p method) ≡ search_at p (finds_at p d q.name q.proto) → IsUnder (search_value p t (finds_at p d q.name q.proto)) all
+    place_under u k d e = by (finds_at p d q.name q.proto) refl
       where
         by : (x : look_up.Search) → finds_at p d q.name q.proto ≡ x → IsUnder (search_value p t x) all
         by look_up.Nothing i = any_way text method call.Virtual args (missed_leaves p o asked text method call.Virtual (missed u k (e ∙ ap (search_at p) i))) any_value
@@ -435,7 +435,7 @@ module _ (p : Program) (o : Outside) (asked : IsAsked p o) (t : Facts) (c : Solu
     class_under v d stands low h =
         let k = entry p.classes d low in
         under_joined v (search_value p t (finds_at p d q.name q.proto)) all h
-        (search_under (type_at p k.0.name) (below_in d k.0 k.1 stands) d (finds_is k.0.name d (class_parts p s d k.0 k.1).name (own_place p asked.once d k.0 k.1)))
+        (place_under (type_at p k.0.name) (below_in d k.0 k.1 stands) d (finds_is k.0.name d (class_parts p s d k.0 k.1).name (own_place p asked.once d k.0 k.1)))
 
     classes_under : (ds : List ℕ) → ((d : ℕ) → In d ds → (is_under p d top ≡ true) × (d < length p.classes)) → (v : Parts) → IsUnder v all → IsUnder (fold (with_class p t q.name q.proto) v ds) all
     classes_under [] each v h = h
@@ -454,7 +454,7 @@ module _ (p : Program) (o : Outside) (asked : IsAsked p o) (t : Facts) (c : Solu
         search look_up.Nothing i = any_way text method call.Virtual args (missed_leaves p o asked text method call.Virtual (missed (type_at p q.class) itself (top_finds ∙ ap (search_at p) i))) any_value
         search look_up.Clash i = classes_under (subclasses_of p top) each_under least_value (under_least all)
         search (look_up.Finds at) i = classes_under (subclasses_of p top) each_under (found_value p t (Some at))
-            (subst (λ (x : look_up.Search). IsUnder (search_value p t x) all) i (search_under (type_at p q.class) itself top top_finds))
+            (subst (λ (x : look_up.Search). IsUnder (search_value p t x) all) i (place_under (type_at p q.class) itself top top_finds))
 
         by : (x : Option MethodAt) → finds_virtual p q.name q.proto top ≡ x → IsUnder (by_found p t q.name q.proto top x) all
         by None e = search (finds_at p top q.name q.proto) refl

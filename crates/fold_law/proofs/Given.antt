@@ -123,10 +123,10 @@ own_first p name proto c at l e = by (length p.classes) l
     by (suc n) l = ap (λ (o : Option MethodAt). option_or o (first_among (own_virtual p name proto) (chain_from (super_place p) n (super_place p c)))) e
 
 -- the entry of a list at a place
-entry : {A : Type 0} (xs : List A) (n : ℕ) → n < length xs → (x : A) × (slice_get xs n ≡ Some x)
-entry [] n l = absurd (omega (arith, l))
-entry (x ∷ xs) zero l = (x, refl)
-entry (x ∷ xs) (suc n) l = entry xs n (omega (arith, l))
+listed_at : {A : Type 0} (xs : List A) (n : ℕ) → n < length xs → (x : A) × (slice_get xs n ≡ Some x)
+listed_at [] n l = absurd (omega (arith, l))
+listed_at (x ∷ xs) zero l = (x, refl)
+listed_at (x ∷ xs) (suc n) l = listed_at xs n (omega (arith, l))
 
 -- a number in a range is below its end
 range_low : (n s d : ℕ) → In d (range_with_len s n) → d < s + n
@@ -433,7 +433,7 @@ module _ (p : Program) (o : Outside) (asked : IsAsked p o) (t : Facts) (c : Solu
 
     class_under : (v : Parts) (d : ℕ) → is_under p d top ≡ true → d < length p.classes → IsUnder v all → IsUnder (with_class p t q.name q.proto v d) all
     class_under v d stands low h =
-        let k = entry p.classes d low in
+        let k = listed_at p.classes d low in
         under_joined v (search_value p t (finds_at p d q.name q.proto)) all h
         (place_under (type_at p k.0.name) (below_in d k.0 k.1 stands) d (finds_is k.0.name d (class_parts p s d k.0 k.1).name (own_place p asked.once d k.0 k.1)))
 
@@ -444,7 +444,7 @@ module _ (p : Program) (o : Outside) (asked : IsAsked p o) (t : Facts) (c : Solu
     each_under : (d : ℕ) → In d (subclasses_of p top) → (is_under p d top ≡ true) × (d < length p.classes)
     each_under d i = (
       and_left (is_under p d top) (not (nat_eq d top)) (passing_in (λ c. is_under p c top && not (nat_eq c top)) d (range_with_len 0 (length p.classes)) i),
-      range_low (length p.classes) 0 d (filter_in (λ c. is_under p c top && not (nat_eq c top)) d (range_with_len 0 (length p.classes)) i),
+      (let l = range_low (length p.classes) 0 d (filter_in (λ c. is_under p c top && not (nat_eq c top)) d (range_with_len 0 (length p.classes)) i) in omega (arith, l)),
     )
 
     virtual_under : IsUnder (virtual_value p t q.name q.proto top) all

@@ -25,7 +25,7 @@ use Rattle.call_targets.specs.Targeted.{IsLink, call_at}
 use Rattle.call_targets.proofs.Contained.{first_in, later_in}
 use Rattle.closed_facts.specs.Edges.{arm, both_ways, cases_from}
 use Rattle.closed_facts.specs.Fields.{Puts}
-use Rattle.closed_facts.specs.Fields as fields
+use Rattle.closed_facts.specs.Fields as putting
 use Rattle.closed_facts.specs.Found.{own_number, needs}
 use Rattle.flat_bounds.specs.Under.{IsUnder, AreUnder, ArriveUnder}
 use Rattle.flat_bounds.specs.Bounds.{FlatTable, FlatAt, BoundCall, IsFlatBound, IsReadied, StandsIn, edges_by, taken_flat, before_of}
@@ -121,8 +121,8 @@ module _ (p : Program) (o : Outside) (live : LiveSet) (b : FlatTable) (bound : I
 
   sends_by : IsLeastSet p o live → (x : Registers) (i : Insn) → s.insn.now ≡ i → ComesUnder b s x → SendsUnder p live b s.home.at.class s.home.method.now.name i x
   sends_by least x (insn.Invoke kind method args) e u = passes least x kind method args e u
-  sends_by least x (insn.InstancePut item from on field) e u = puts x item from field (subst (Puts item from field) (sym e) (fields.Puts.Instance on)) u
-  sends_by least x (insn.StaticPut item from field) e u = puts x item from field (subst (Puts item from field) (sym e) fields.Puts.Static) u
+  sends_by least x (insn.InstancePut item from on field) e u = puts x item from field (subst (Puts item from field) (sym e) (putting.Puts.Instance on)) u
+  sends_by least x (insn.StaticPut item from field) e u = puts x item from field (subst (Puts item from field) (sym e) putting.Puts.Static) u
   sends_by least x (insn.Return slot from) e u = with_registers (IsUnder (value_at x from) (b.results s.home.method.now.name)) x
     (λ a f h. bound.flows.returns s.home.at s.position from slot (value_at x from) (here a f) e (h from)) u
   sends_by least x i e u = tt

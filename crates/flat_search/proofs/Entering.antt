@@ -1,5 +1,5 @@
 -- What comes to the entry of a body.
-use Rattle.std.proofs.Common.{◌≡◌, ℕ, ◌+◌, ◌-◌, ◌<◌, ◌≤◌, Bool, true, false, List, [], ◌∷◌, zero, suc, inl, inr, Option, Some, None, refl, sym, ap, ◌∙◌, subst, arith, le-ltb}
+use Rattle.std.proofs.Common.{◌≡◌, ℕ, ◌+◌, ◌-◌, ◌<◌, ◌≤◌, Bool, true, false, List, inl, inr, Option, Some, None, refl, sym, ap, ◌∙◌, subst, arith, le-ltb}
 use Rattle.std.specs.Prelude.{is_some, cond, nat_lt, slice_get, slice_index_or}
 use Rattle.std.proofs.lemmas.Bool.{cases_lt}
 use Rattle.program_model.specs.declared.pass.Outside.{Outside}
@@ -13,20 +13,12 @@ use Rattle.flat_bounds.proofs.Under.{under_least}
 use Rattle.flat_search.specs.declared.spots.Home.{Home}
 use Rattle.flat_search.specs.Tables.{entry_value, IsEntry}
 use Rattle.flat_search.specs.Spots.{IsHome, LandsUnder}
-
--- a word, nothing past the end
-word_under : (words : List Parts) (y : ℕ → Flat) → ((i : ℕ) (v : Parts) → slice_get words i ≡ Some v → IsUnder v (y i)) → (i : ℕ) → IsUnder (slice_index_or words i least_value) (y i)
-word_under words y h i = by words y h i
-  where
-    by : (ws : List Parts) (y : ℕ → Flat) → ((i : ℕ) (v : Parts) → slice_get ws i ≡ Some v → IsUnder v (y i)) → (i : ℕ) → IsUnder (slice_index_or ws i least_value) (y i)
-    by [] y h i = under_least (y i)
-    by (w ∷ ws) y h zero = h zero w refl
-    by (w ∷ ws) y h (suc i) = by ws (λ j. y (suc j)) (λ j v e. h (suc j) v e) i
+use Rattle.flat_search.proofs.Tabling.{value_under}
 
 module _ (p : Program) (o : Outside) (b : FlatTable) (bound : IsFlatBound p o b) where
   argument_under : (words : List Parts) (y : ℕ → Flat) → ((i : ℕ) (v : Parts) → slice_get words i ≡ Some v → IsUnder v (y i)) → (free count : ℕ) (x : Registers) → IsEntry free words count x → (i : ℕ) → IsUnder (value_at x (free + i)) (y i)
   argument_under words y h free count x e i = elim (cases_lt (free + i) count) [
-    | inl lt ↦ subst (λ (v : Parts). IsUnder v (y i)) (sym (e.own (free + i) lt ∙ is_word)) (word_under words y h i)
+    | inl lt ↦ subst (λ (v : Parts). IsUnder v (y i)) (sym (e.own (free + i) lt ∙ is_word)) (value_under words y h i)
     | inr le ↦ subst (λ (v : Parts). IsUnder v (y i)) (sym (e.others (free + i) le)) (under_least (y i))
   ]
     where

@@ -2,9 +2,10 @@
 use Rattle.std.proofs.Common.{◌≡◌, ℕ, zero, suc, ◌+◌, ◌<◌, ◌⊎◌, Bool, true, false, true≢false, List, [], ◌∷◌, ◌++◌, Option, Some, None, length, inl, inr, refl, sym, ap, ◌∙◌, subst, arith}
 use Rattle.std.specs.Prelude.{slice_get, slice_set, slice_index_or}
 use Rattle.pass_defs.specs.Flat.{Flat}
-use Rattle.domains.specs.Values.{Parts}
+use Rattle.domains.specs.Values.{Parts, least_value}
 use Rattle.dom_frame.specs.Registers.{Registers}
 use Rattle.flat_bounds.specs.Under.{IsUnder, AreUnder, ArriveUnder}
+use Rattle.flat_bounds.proofs.Under.{under_least}
 use Rattle.flat_search.specs.States.{is_marked}
 use Rattle.flat_search.specs.Tables.{AreAllUnder, AreListsUnder, ArePoolsUnder, FrameUnder, AreFramesUnder, AreTablesUnder}
 
@@ -58,6 +59,12 @@ pushed_index [] x d h e (suc i) = refl
 pushed_index (y ∷ ys) x d h e zero = h zero
 pushed_index (y ∷ ys) x d h e (suc i) = pushed_index ys x d (λ j. h (suc j)) e i
 
+-- an item, or what is read past the end
+pub index_or : {X : Type 0} (xs : List X) (i : ℕ) (d : X) → (slice_get xs i ≡ Some (slice_index_or xs i d)) ⊎ (slice_index_or xs i d ≡ d)
+index_or [] i d = inr refl
+index_or (x ∷ xs) zero d = inl refl
+index_or (x ∷ xs) (suc i) d = index_or xs i d
+
 -- ---- marks
 
 -- what holds of each marked number holds where one more is marked
@@ -84,6 +91,13 @@ pub pools_set : (pools : List Registers) (m : ℕ) (own new : Registers) (y : �
 pools_set pools m own new y is grow h q pool e = elim (get_set pools m q new) [
   | inl s ↦ h q pool (sym s ∙ e)
   | inr s ↦ subst (λ r. AreUnder pool (y r)) (sym s.0) (subst (λ (x : Registers). AreUnder x (y m)) (some_same new pool (sym s.1 ∙ e)) (grow (h m own (get_within pools m own s.2 ∙ ap (λ (x : Registers). Some x) (sym is)))))
+]
+
+-- a value, nothing past the end
+pub value_under : (values : List Parts) (y : ℕ → Flat) → AreAllUnder values y → (i : ℕ) → IsUnder (slice_index_or values i least_value) (y i)
+value_under values y h i = elim (index_or values i least_value) [
+  | inl e ↦ h i (slice_index_or values i least_value) e
+  | inr e ↦ subst (λ (v : Parts). IsUnder v (y i)) (sym e) (under_least (y i))
 ]
 
 -- ---- frames

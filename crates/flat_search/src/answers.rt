@@ -1,19 +1,19 @@
 //! What an instruction takes that is known elsewhere.
 
-ghost use Rattle.std.specs.Prelude.{◌≡◌, ℕ, List, IfOk};
+ghost use Rattle.std.specs.Prelude.{◌≡◌, ◌||◌, ℕ, List, Some, is_none, slice_index_or, IfOk};
 ghost use Rattle.std.specs.Option.{option_copied};
 ghost use Rattle.insn_set.specs.declared.form.Insn.TheVariants as insn;
-ghost use Rattle.pass_defs.specs.Flat.{Flat};
 ghost use Rattle.program_model.specs.declared.program.Program.{Program};
+ghost use Rattle.program_model.specs.Lookups.{method_at};
+ghost use Rattle.domains.specs.Values.{least_value};
 ghost use Rattle.class_defs.specs.Finding.{Finds};
 ghost use Rattle.call_graph.specs.declared.live_set.LiveSet.{LiveSet};
 ghost use Rattle.call_targets.specs.Targeted.{call_at};
 ghost use Rattle.closed_facts.specs.Found.{IsBound, finds_bound};
 ghost use Rattle.flat_bounds.specs.Under.{IsUnder};
-ghost use Rattle.flat_bounds.specs.Bounds.{FlatTable, StandsIn, before_of, answer_flat, field_flat};
-ghost use Rattle.flat_search.specs.Grounded.{Bounds};
+ghost use Rattle.flat_bounds.specs.Bounds.{FlatTable, StandsIn, before_of, answer_flat, field_flat, names_outer};
+ghost use Rattle.flat_search.specs.Grounded.{Bounds, IsGrounded};
 ghost use Rattle.flat_search.specs.Spots.{IsSpot};
-ghost use Rattle.flat_search.specs.Tables.{AreAllUnder};
 ghost use Rattle.flat_search.specs.States.{IsUnderBound, IsAnswerUnder, Under};
 ghost use Rattle.flat_search.specs.Doing.{StandsIf, TakesUnder};
 
@@ -23,12 +23,12 @@ use crate::spots::Spot;
 use crate::state::State;
 use call_targets::{Target, bound_target};
 use domains::Value;
-use program_model::{Insn, InvokeKind, MethodAt};
+use program_model::{Insn, InvokeKind, Method, MethodAt};
 use std::alloc::{AllocError, Global};
 
 /// The value of a number, nothing where it has none.
 fn value_in(values: &[Value], number: u32) -> Value
-    ensures { (y : ℕ → Flat) → AreAllUnder values.now y → IsUnder result (y number) }
+    ensures { result ≡ slice_index_or values.now number least_value }
 {
     match values.get(number as usize) {
         Some(value) => value.same(),
@@ -57,10 +57,7 @@ fn field_of(state: &State, own: Option<u32>) -> Value
 fn answer_at(state: &State, call: u32) -> Value
     ensures { (p : Program) (live : LiveSet) (b : FlatTable) → IsUnderBound p live b state.now → IsAnswerUnder p b call result }
 {
-    match state.answers.as_slice().get(call as usize) {
-        Some(value) => value.same(),
-        None => Value::none(),
-    }
+    value_in(state.answers.as_slice(), call)
 }
 
 /// What a call on an object gets back.
@@ -73,20 +70,34 @@ fn open_answer(state: &State, method: u32, interface: bool) -> Value
     }
 }
 
-/// What a call gets back from the method at a place, where the call names another.
+/// Whether a call that finds a method by its name may leave the program's code.
+fn leaves(k: &Ground<'_>, found: &Method, method: u32) -> bool
+    ensures { IsGrounded k.now → result ≡ (is_none found.now.body || names_outer k.now.program.now method) }
+{
+    found.body.is_none() || names_outer(k, method)
+}
+
+/// What a call gets back from a method that it finds by its name.
+fn method_answer(k: &Ground<'_>, state: &State, found: &Method, method: u32) -> Value
+    ensures { (b : FlatTable) → Bounds k.now b → Under k.now b state.now → (class : ℕ) (kind : InvokeKind) (args : List ℕ) (at : MethodAt)
+        → StandsIn k.now.program.now class (insn.Invoke kind method args) → IsBound kind → finds_bound k.now.program.now class method kind ≡ Finds at
+        → method_at k.now.program.now at ≡ Some found.now → IsUnder result (b.answers class (insn.Invoke kind method args)) }
+{
+    if leaves(k, found, method) {
+        Value::any()
+    } else {
+        result_of(state, found.name)
+    }
+}
+
+/// What it gets back from the method at a place.
 fn found_answer(k: &Ground<'_>, state: &State, method: u32, at: MethodAt) -> Value
     ensures { (b : FlatTable) → Bounds k.now b → Under k.now b state.now → (class : ℕ) (kind : InvokeKind) (args : List ℕ)
         → StandsIn k.now.program.now class (insn.Invoke kind method args) → IsBound kind → finds_bound k.now.program.now class method kind ≡ Finds at
         → IsUnder result (b.answers class (insn.Invoke kind method args)) }
 {
     match method_at(k.program, at) {
-        Some(found) => {
-            if found.body.is_none() || names_outer(k, method) {
-                Value::any()
-            } else {
-                result_of(state, found.name)
-            }
-        }
+        Some(found) => method_answer(k, state, found, method),
         None => Value::none(),
     }
 }

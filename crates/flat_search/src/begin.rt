@@ -16,6 +16,7 @@ use crate::codes::word;
 use crate::fields::begun_of;
 use crate::ground::Ground;
 use crate::spread::Spread;
+use crate::state::no_marks;
 use crate::tables::{is_on, turn_on};
 use domains::Value;
 use program_model::{Class, Field, Outside};
@@ -34,7 +35,7 @@ fn mark_all(marks: &mut Vec<bool>, numbers: &[u32])
 fn kept_fields(alloc: Global, outside: &Outside, count: usize) -> Result<Vec<bool>, AllocError>
     ensures { IfOk result (λ marks. AreKept outside.now marks.items) }
 {
-    let mut marks = vec![in alloc; false; count]?;
+    let mut marks = no_marks(alloc, count)?;
     mark_all(&mut marks, outside.fields.as_slice());
     mark_all(&mut marks, outside.fields_if.as_slice());
     Ok(marks)

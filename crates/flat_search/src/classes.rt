@@ -1,7 +1,8 @@
 //! Classes that are initialised.
 
-ghost use Rattle.std.specs.Prelude.{◌≡◌, ℕ, ◌&&◌, not, true, Some, is_some, slice_get, OnOk};
+ghost use Rattle.std.specs.Prelude.{◌≡◌, ℕ, ◌&&◌, not, true, false, Some, is_some, slice_get, OnOk};
 ghost use Rattle.std.specs.List.{list_any};
+ghost use Rattle.std.specs.Option.{option_copied};
 ghost use Rattle.program_model.specs.declared.program.Program.{Program};
 ghost use Rattle.program_model.specs.declared.program.Method.{Method};
 ghost use Rattle.program_model.specs.Lookups.{method_at};
@@ -12,7 +13,7 @@ ghost use Rattle.class_defs.specs.Places.{super_place, interface_places};
 ghost use Rattle.class_defs.specs.Starts.{initialiser_place};
 ghost use Rattle.call_graph.specs.declared.live_set.LiveSet.{LiveSet};
 ghost use Rattle.closed_facts.specs.Entries.{has_default};
-ghost use Rattle.flat_bounds.specs.Bounds.{FlatTable, IsReadied};
+ghost use Rattle.flat_bounds.specs.Bounds.{FlatTable, IsReached, IsReadied};
 ghost use Rattle.flat_search.specs.Grounded.{IsGrounded, Bounds};
 ghost use Rattle.flat_search.specs.States.{IsUnderBound, IsListReadied, Keeps, KeepsIf};
 ghost use Rattle.flat_search.specs.Doing.{AreListReadied};
@@ -21,8 +22,15 @@ use crate::ground::Ground;
 use crate::looks::method_at;
 use crate::spread::Spread;
 use crate::tables::is_on;
-use program_model::{Class, Flags, Method, Version};
+use program_model::{Class, Flags, Method, MethodAt, Program, Version};
 use std::alloc::{AllocError, Global};
+
+/// The class at a place.
+fn class_at(program: &Program, place: u32) -> Option<&Class>
+    ensures { option_copied result ≡ slice_get program.now.classes place }
+{
+    program.classes.as_slice().get(place as usize)
+}
 
 /// Whether interfaces may have methods with code.
 fn has_defaults(k: &Ground<'_>) -> bool
@@ -72,15 +80,22 @@ impl Spread<'_> {
         Ok(())
     }
 
+    /// Lets a run enter the method at a place.
+    fn enter_at(&mut self, k: &Ground<'_>, at: MethodAt) -> Result<(), AllocError>
+        ensures { KeepsIf k.now (λ b. (m : Method) → method_at k.now.program.now at ≡ Some m → IsReached b m.name) self.old.state self.new.state result }
+    {
+        match method_at(k.program, at) {
+            Some(method) => self.enter(method.name),
+            None => Ok(()),
+        }
+    }
+
     /// Lets a run enter the initialiser of a class, if it has one.
     fn enter_initialiser(&mut self, k: &Ground<'_>, class: u32) -> Result<(), AllocError>
         ensures { KeepsIf k.now (λ b. IsReadied k.now.program.now b class) self.old.state self.new.state result }
     {
         match k.classes.hierarchy.initialiser_of(class) {
-            Some(at) => match method_at(k.program, at) {
-                Some(method) => self.enter(method.name),
-                None => Ok(()),
-            },
+            Some(at) => self.enter_at(k, at),
             None => Ok(()),
         }
     }
@@ -109,17 +124,26 @@ impl Spread<'_> {
         self.list_all(k.classes.hierarchy.interfaces_of(place))
     }
 
+    /// Lets what is initialised before a class be initialised that isn't an interface.
+    fn need_around(&mut self, k: &Ground<'_>, place: u32, class: &Class) -> Result<(), AllocError>
+        requires is { slice_get k.now.program.now.classes place ≡ Some class.now }
+        requires held { is_interface (Some class.now) ≡ false }
+        ensures { KeepsIf k.now (λ b. IsReadied k.now.program.now b place) self.old.state self.new.state result }
+    {
+        self.need_super(k, place, class)?;
+        self.list_above(k, place, class)
+    }
+
     /// Lets what is initialised before a class be initialised.
     fn need_above(&mut self, k: &Ground<'_>, place: u32) -> Result<(), AllocError>
         ensures { KeepsIf k.now (λ b. IsReadied k.now.program.now b place) self.old.state self.new.state result }
     {
-        match k.program.classes.as_slice().get(place as usize) {
+        match class_at(k.program, place) {
             Some(class) => {
                 if is_interface(class) {
                     return Ok(());
                 }
-                self.need_super(k, place, class)?;
-                self.list_above(k, place, class)
+                self.need_around(k, place, class)
             }
             None => Ok(()),
         }
@@ -157,6 +181,16 @@ impl Spread<'_> {
         self.list_all(k.classes.hierarchy.interfaces_of(place))
     }
 
+    /// Looks through the list of an interface.
+    fn look_in(&mut self, k: &Ground<'_>, place: u32, class: &Class) -> Result<(), AllocError>
+        requires is { slice_get k.now.program.now.classes place ≡ Some class.now }
+        requires interface { is_interface (Some class.now) ≡ true }
+        ensures { KeepsIf k.now (λ b. IsListReadied k.now.program.now b place) self.old.state self.new.state result }
+    {
+        self.list_lists(k, place, class)?;
+        self.need_default(k, place, class)
+    }
+
     /// Looks through the list of an interface, if it is to be.
     pub(crate) fn look_through(&mut self, k: &Ground<'_>, place: u32) -> Result<(), AllocError>
         ensures { Keeps k.now self.old.state self.new.state result }
@@ -164,13 +198,12 @@ impl Spread<'_> {
         if !is_on(&self.state.listed, place) {
             return Ok(());
         }
-        match k.program.classes.as_slice().get(place as usize) {
+        match class_at(k.program, place) {
             Some(class) => {
                 if !is_interface(class) {
                     return Ok(());
                 }
-                self.list_lists(k, place, class)?;
-                self.need_default(k, place, class)
+                self.look_in(k, place, class)
             }
             None => Ok(()),
         }

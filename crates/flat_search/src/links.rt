@@ -1,6 +1,7 @@
 //! What calls on objects pass on, and what comes back to them.
 
 ghost use Rattle.std.specs.Prelude.{◌≡◌, ℕ, slice_get, Some, IfOk, OnOk};
+ghost use Rattle.std.specs.Option.{option_copied};
 ghost use Rattle.program_model.specs.declared.program.Program.{Program};
 ghost use Rattle.call_graph.specs.declared.live_set.LiveSet.{LiveSet};
 ghost use Rattle.flat_bounds.specs.Under.{AreUnder};
@@ -19,6 +20,20 @@ use call_targets::Link;
 use domains::Value;
 use pat_map::PatMap;
 use std::alloc::{AllocError, Global};
+
+/// The pool of a number.
+fn pool_at(pools: &[PatMap<Value>], call: u32) -> Option<&PatMap<Value>>
+    ensures { option_copied result ≡ slice_get pools.now call }
+{
+    pools.get(call as usize)
+}
+
+/// The link at a place.
+fn link_at(links: &[Link], place: u32) -> Option<&Link>
+    ensures { option_copied result ≡ slice_get links.now place }
+{
+    links.get(place as usize)
+}
 
 impl Spread<'_> {
     /// Passes the words of a pool to a method.
@@ -42,7 +57,7 @@ impl Spread<'_> {
     fn pool_of(&self, call: u32) -> Result<PatMap<Value>, AllocError>
         ensures { (p : Program) (live : LiveSet) (b : FlatTable) → IsUnderBound p live b self.now.state → IfOk result (IsPoolUnder p live b call) }
     {
-        match self.state.pools.as_slice().get(call as usize) {
+        match pool_at(self.state.pools.as_slice(), call) {
             Some(pool) => Ok(pool.share()?),
             None => Ok(PatMap::empty()),
         }
@@ -80,7 +95,7 @@ impl Spread<'_> {
     ) -> Result<(), AllocError>
         ensures { Keeps k.now self.old.state self.new.state result }
     {
-        match k.targets.links.as_slice().get(place as usize) {
+        match link_at(k.targets.links.as_slice(), place) {
             Some(link) => {
                 if link.call != call {
                     return Ok(());
@@ -125,7 +140,7 @@ impl Spread<'_> {
     ) -> Result<(), AllocError>
         ensures { Keeps k.now self.old.state self.new.state result }
     {
-        match k.targets.links.as_slice().get(place as usize) {
+        match link_at(k.targets.links.as_slice(), place) {
             Some(link) => {
                 if link.method != method {
                     return Ok(());

@@ -250,10 +250,12 @@ impl Spread<'_> {
     ) -> Result<(), AllocError>
         ensures { IsSpot k.now.program.now spot.now → Keeps k.now self.old.state self.new.state result }
     {
-        let registers = match self.state.at(spot.home.method.name, spot.position) {
-            Some(registers) => registers.share()?,
-            None => return Ok(()),
-        };
-        self.pass(alloc, k, spot, &registers)
+        match self.state.at(spot.home.method.name, spot.position) {
+            Some(known) => {
+                let registers = known.share()?;
+                self.pass(alloc, k, spot, &registers)
+            }
+            None => Ok(()),
+        }
     }
 }

@@ -73,7 +73,7 @@ fn first_flats(alloc: Global, program: &Program, codes: &[Code]) -> Result<Flats
 }
 
 /// No mark is on.
-fn no_marks(alloc: Global, count: usize) -> Result<Vec<bool>, AllocError>
+pub(crate) fn no_marks(alloc: Global, count: usize) -> Result<Vec<bool>, AllocError>
     ensures { IfOk result (λ marks. (n : ℕ) → is_marked marks.items n ≡ false) }
 {
     vec![in alloc; false; count]

@@ -1,6 +1,8 @@
 //! The search: what is known spreads from where runs begin, until nothing rises any more.
 
-ghost use Rattle.std.specs.Prelude.{◌≡◌, true, IfOk};
+ghost use Rattle.std.specs.Prelude.{◌≡◌, true, Some, slice_get, IfOk, OnOk};
+ghost use Rattle.std.specs.Option.{option_copied};
+ghost use Rattle.program_model.specs.Lookups.{method_at};
 ghost use Rattle.program_model.specs.ProgramRules.{is_well_formed};
 ghost use Rattle.dom_frame.specs.Classes.{AreClasses};
 ghost use Rattle.call_graph.specs.Least.{IsLeastSet};
@@ -24,8 +26,15 @@ use crate::work::Work;
 use call_graph::LiveSet;
 use call_targets::Targets;
 use dom_frame::Classes;
-use program_model::{Insn, MethodAt, Outside, Program};
+use program_model::{Insn, Method, MethodAt, Outside, Program};
 use std::alloc::{AllocError, Global};
+
+/// The instruction at a position.
+fn insn_at(insns: &[Insn], position: u32) -> Option<&Insn>
+    ensures { option_copied result ≡ slice_get insns.now position }
+{
+    insns.get(position as usize)
+}
 
 impl Spread<'_> {
     /// Lets a run come to the entry of a body with what it is passed.
@@ -37,13 +46,32 @@ impl Spread<'_> {
     ) -> Result<(), AllocError>
         ensures { IsHome k.now.program.now home.now → Keeps k.now self.old.state self.new.state result }
     {
-        let (method, body) = (home.method.name, home.body);
-        if !is_on(&self.state.entered, method) || body.ins > body.registers {
+        let method = home.method.name;
+        let body = home.body;
+        if !is_on(&self.state.entered, method) {
             return Ok(());
         }
-        let free = body.registers - body.ins;
-        let registers = entry(alloc, free, self.state.words(method), body.registers)?;
+        if body.ins > body.registers {
+            return Ok(());
+        }
+        let words = self.state.words(method);
+        let registers = entry(alloc, body.registers - body.ins, words, body.registers)?;
         self.come(alloc, home, 0, &registers)
+    }
+
+    /// Lets a run come to the entry of a body, if that waits.
+    fn enter_body(
+        &mut self,
+        alloc: Global,
+        k: &Ground<'_>,
+        home: &Home<'_>,
+    ) -> Result<(), AllocError>
+        ensures { IsHome k.now.program.now home.now → Keeps k.now self.old.state self.new.state result }
+    {
+        if !self.work.take_entry(home.code) {
+            return Ok(());
+        }
+        self.begin_body(alloc, k, home)
     }
 
     /// Looks at a position of a body, if it waits.
@@ -61,7 +89,7 @@ impl Spread<'_> {
         if !self.work.take(home.code, position) {
             return Ok(());
         }
-        match insns.get(position as usize) {
+        match insn_at(insns, position) {
             Some(insn) => {
                 let spot = Spot {
                     home: *home,
@@ -94,27 +122,23 @@ impl Spread<'_> {
             if !self.work.has(home.code) {
                 break;
             }
-            if self.work.take_entry(home.code) {
-                self.begin_body(alloc, k, home)?;
-            }
+            self.enter_body(alloc, k, home)?;
             self.sweep(alloc, k, home)?;
         }
         Ok(())
     }
 
-    /// Goes through the body of the method at a place, if it has one.
-    fn settle_at(
+    /// Goes through the body of a method, if it has one.
+    fn settle_method(
         &mut self,
         alloc: Global,
         k: &Ground<'_>,
         code: u32,
         at: MethodAt,
+        method: &Method,
     ) -> Result<(), AllocError>
-        ensures { Keeps k.now self.old.state self.new.state result }
+        ensures { method_at k.now.program.now at ≡ Some method.now → Keeps k.now self.old.state self.new.state result }
     {
-        let Some(method) = method_at(k.program, at) else {
-            return Ok(());
-        };
         match &method.body {
             Some(body) => {
                 let home = Home {
@@ -125,6 +149,22 @@ impl Spread<'_> {
                 };
                 self.settle(alloc, k, &home)
             }
+            None => Ok(()),
+        }
+    }
+
+    /// Goes through the body of the method at a place.
+    fn settle_at(
+        &mut self,
+        alloc: Global,
+        k: &Ground<'_>,
+        code: u32,
+        at: MethodAt,
+    ) -> Result<(), AllocError>
+        ensures { Keeps k.now self.old.state self.new.state result }
+    {
+        match method_at(k.program, at) {
+            Some(method) => self.settle_method(alloc, k, code, at, method),
             None => Ok(()),
         }
     }
@@ -208,10 +248,9 @@ impl Spread<'_> {
 fn found(alloc: Global, k: &Ground<'_>, maps: &Maps) -> Result<Flats, AllocError>
     ensures { (b : FlatTable) → Bounds k.now b → IfOk result (AreFlatsUnder k.now.program.now b) }
 {
-    let mut spread = Spread {
-        state: State::new(alloc, k.program, maps.codes.all.as_slice())?,
-        work: Work::new(alloc, k, maps)?,
-    };
+    let work = Work::new(alloc, k, maps)?;
+    let state = State::new(alloc, k.program, maps.codes.all.as_slice())?;
+    let mut spread = Spread { state, work };
     spread.search(alloc, k)?;
     let Spread { state, .. } = spread;
     let State { flats, .. } = state;

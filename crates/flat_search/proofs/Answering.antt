@@ -1,8 +1,9 @@
 -- What calls get back by what bounds it.
-use Rattle.std.proofs.Common.{◌≡◌, ◌⊎◌, ℕ, Bool, true, List, Option, Some, None, inl, inr, refl, sym, subst}
+use Rattle.std.proofs.Common.{◌≡◌, ◌⊎◌, ℕ, Bool, true, false, List, Option, Some, None, inl, inr, refl, sym, subst}
 use Rattle.std.specs.Prelude.{◌||◌, is_none, slice_get, slice_index_or}
 use Rattle.insn_set.specs.declared.ops.InvokeKind.{InvokeKind}
 use Rattle.insn_set.specs.declared.ops.InvokeKind.TheVariants as call
+use Rattle.insn_set.specs.declared.form.Insn.{Insn}
 use Rattle.insn_set.specs.declared.form.Insn.TheVariants as insn
 use Rattle.program_model.specs.declared.body.Body.{Body}
 use Rattle.program_model.specs.declared.pass.Outside.{Outside}
@@ -16,7 +17,7 @@ use Rattle.domains.specs.Values.{Parts, least_value}
 use Rattle.call_targets.specs.Targeted.{call_at, interface_of}
 use Rattle.closed_facts.specs.Found.{IsBound, finds_bound}
 use Rattle.flat_bounds.specs.Under.{IsUnder}
-use Rattle.flat_bounds.specs.Bounds.{FlatTable, IsFlatBound, StandsIn, names_outer}
+use Rattle.flat_bounds.specs.Bounds.{FlatTable, IsFlatBound, StandsIn, is_call, names_outer}
 use Rattle.flat_bounds.specs.Bounds as bounds
 use Rattle.flat_bounds.proofs.Under.{under_least, under_below}
 use Rattle.flat_search.specs.States.{IsAnswerUnder}
@@ -40,6 +41,11 @@ is_bound call.Direct v i = tt
 is_bound call.Super v i = tt
 is_bound call.Virtual v i = v refl
 is_bound call.Interface v i = i refl
+
+-- no other form is a call
+pub no_call : (i : Insn) → ((kind : InvokeKind) (method : ℕ) (args : List ℕ) → i ≡ insn.Invoke kind method args → ⊥) → is_call i ≡ false
+no_call (insn.Invoke kind method args) f = absurd (f kind method args refl)
+no_call i f = refl
 
 module _ (p : Program) (b : FlatTable) (class method : ℕ) (kind : InvokeKind) (args : List ℕ) (stands : StandsIn p class (insn.Invoke kind method args)) where
   abbrev answer : Flat

@@ -1,4 +1,4 @@
-use Rattle.std.proofs.Common.{ℕ, Option, sym, subst, inl, inr}
+use Rattle.std.proofs.Common.{ℕ, Option, IfOk, sym, subst, inl, inr}
 use Rattle.insn_set.specs.declared.form.Insn.{Insn}
 use Rattle.flat_bounds.specs.Under.{IsUnder}
 use Rattle.flat_bounds.specs.Bounds.{before_of, field_flat, answer_flat, taken_flat}
@@ -19,5 +19,9 @@ pub returns-in-MoveResult : goal.returns-in-MoveResult
 returns-in-MoveResult c = λ is b h u.
     let p = c.args.k.now.program.now in
     let s = c.args.spot.now in
+    let class = s.home.at.class in
     let front = before_of s.home.body.now s.position in
-    ?
+    let r = c.taken_behind.result in
+    let stands = subst (λ (o : Option Insn). StandsIf p class o) (sym c.before-front.ensures) (stands_before p c.args.k.now.outside.now c.args.k.now.live.now b h.bound s is) in
+    let given = subst (λ (o : Option Insn). IfOk r (λ v. IsUnder v (answer_flat b class o))) c.before-front.ensures (c.taken_behind.ensures b h u stands) in
+    subst (λ (i : Insn). IfOk r (λ v. IsUnder v (taken_flat p b class front i))) (sym c.in-MoveResult.is.2) given

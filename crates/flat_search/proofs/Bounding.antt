@@ -36,6 +36,15 @@ use Rattle.flat_search.specs.Spots.{IsSpot, LandsUnder, MayLand, ComesUnder, Eac
 use Rattle.flat_search.specs.States.{IsPassedTo, MayPass, MayBind}
 use Rattle.flat_search.specs.Doing.{NeedsUnder, PassesUnder, PutsUnder, SendsUnder, StepsUnder, BranchesUnder, SwitchesUnder, GoesUnder, StandsIf}
 
+-- a call that is neither virtual nor one of an interface
+pub binds_alone : (p : Program) (live : LiveSet) (b : FlatTable) (class : ℕ) (kind : InvokeKind) (method : ℕ) (args : List ℕ) (x : Registers) → (kind ≡ call.Virtual → ⊥) → (kind ≡ call.Interface → ⊥)
+    → PassesUnder p live b class kind method args x → MayBind p b class method kind args x
+binds_alone p live b class call.Static method args x v i h = h
+binds_alone p live b class call.Direct method args x v i h = h
+binds_alone p live b class call.Super method args x v i h = h
+binds_alone p live b class call.Virtual method args x v i h = absurd (v refl)
+binds_alone p live b class call.Interface method args x v i h = absurd (i refl)
+
 -- ---- edges
 
 module _ (b : FlatTable) (h : Home) where

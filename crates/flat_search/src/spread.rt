@@ -39,8 +39,11 @@ impl Spread<'_> {
         ensures { (p : Program) (live : LiveSet) (b : FlatTable) → IsUnderBound p live b self.old.state
             → LandsUnder b home.now target registers.now → OnOk result (IsUnderBound p live b self.new.state) }
     {
-        let (method, count) = (home.method.name, u32::from(home.body.registers));
-        if !self.state.come(alloc, method, target, count, registers)? {
+        let count = u32::from(home.body.registers);
+        if !self
+            .state
+            .come(alloc, home.method.name, target, count, registers)?
+        {
             return Ok(());
         }
         self.work.wait(home.code, target)

@@ -22,7 +22,6 @@ use Rattle.call_graph.specs.declared.live_set.LiveSet.{LiveSet}
 use Rattle.call_graph.specs.Least.{IsLeastSet}
 use Rattle.call_targets.specs.declared.table.Link.{Link}
 use Rattle.call_targets.specs.Targeted.{IsLink, call_at}
-use Rattle.call_targets.proofs.Contained.{first_in, later_in}
 use Rattle.closed_facts.specs.Edges.{arm, both_ways, cases_from}
 use Rattle.closed_facts.specs.Fields.{Puts}
 use Rattle.closed_facts.specs.Fields as putting
@@ -35,6 +34,7 @@ use Rattle.flat_search.specs.Tables.{ArePassed}
 use Rattle.flat_search.specs.Spots.{IsSpot, LandsUnder, MayLand, ComesUnder, EachLands, CasesLand}
 use Rattle.flat_search.specs.States.{IsPassedTo, MayPass, MayBind}
 use Rattle.flat_search.specs.Doing.{NeedsUnder, PassesUnder, PutsUnder, SendsUnder, StepsUnder, BranchesUnder, SwitchesUnder, GoesUnder, StandsIf}
+use Rattle.flat_search.proofs.Lists.{first_in, later_in}
 
 -- a call that is neither virtual nor one of an interface
 pub binds_alone : (p : Program) (live : LiveSet) (b : FlatTable) (class : ℕ) (kind : InvokeKind) (method : ℕ) (args : List ℕ) (x : Registers) → (kind ≡ call.Virtual → ⊥) → (kind ≡ call.Interface → ⊥)

@@ -116,9 +116,9 @@ module _ (p : Program) (o : Outside) (live : LiveSet) (b : FlatTable) (bound : I
 
   pub passes : IsLeastSet p o live → (x : Registers) (kind : InvokeKind) (method : ℕ) (args : List ℕ) → s.insn.now ≡ insn.Invoke kind method args → ComesUnder b s x
       → PassesUnder p live b s.home.at.class kind method args x
-  passes least x call.Virtual method args i u link l c = with_registers (IsPassedTo b link.method true args x) x
+  passes least x call.Virtual method args i u = λ link l c. with_registers (IsPassedTo b link.method true args x) x
     (λ a e h. passed_to a x h link.method true args (bound.calls.linked live least s.home.at s.position method call.Virtual args false link (here a e) i refl l c)) u
-  passes least x call.Interface method args i u link l c = with_registers (IsPassedTo b link.method true args x) x
+  passes least x call.Interface method args i u = λ link l c. with_registers (IsPassedTo b link.method true args x) x
     (λ a e h. passed_to a x h link.method true args (bound.calls.linked live least s.home.at s.position method call.Interface args true link (here a e) i refl l c)) u
   passes least x call.Static method args i u = binds x call.Static method args i u
   passes least x call.Direct method args i u = binds x call.Direct method args i u

@@ -1,9 +1,11 @@
 -- The code of a method, and a position at which the search looks.
-use Rattle.std.specs.Prelude.{◌≡◌, ℕ, List, [], ◌∷◌, Option, Some, slice_get}
+use Rattle.std.specs.Prelude.{◌≡◌, ℕ, List, [], ◌∷◌, Option, Some, None, slice_get}
 use Rattle.program_model.specs.declared.body.Handler.{Handler}
+use Rattle.program_model.specs.declared.body.Region.{Region}
 use Rattle.program_model.specs.declared.program.Program.{Program}
 use Rattle.program_model.specs.Lookups.{method_at}
 use Rattle.insn_set.specs.declared.form.Insn.{Insn}
+use Rattle.flow_cfg.specs.Walks.{handlers_in}
 use Rattle.dom_frame.specs.Registers.{Registers}
 use Rattle.dom_frame.specs.Steps.{switched}
 use Rattle.flat_bounds.specs.Under.{ArriveUnder}
@@ -41,6 +43,11 @@ EachLands b h (target ∷ targets) x = LandsUnder b h target x × EachLands b h 
 
 abbrev pub HandlersLand : FlatTable → Home → List Handler → Registers → Type 0
 HandlersLand b h handlers x = (i : ℕ) (handler : Handler) → slice_get handlers i ≡ Some handler → LandsUnder b h handler.position x
+
+-- the handlers of a region, none where there is none
+abbrev pub handlers_if : Option Region → List ℕ
+handlers_if None = []
+handlers_if (Some r) = handlers_in r
 
 -- what is left at each target of a switch
 abbrev pub CasesLand : FlatTable → Home → Insn → List ℕ → Registers → Type 0

@@ -186,9 +186,8 @@ pub(crate) fn taken(
     ensures { IsSpot k.now.program.now spot.now → (b : FlatTable) → Bounds k.now b → Under k.now b state.now → IfOk result (TakesUnder k.now.program.now b spot.now) }
 {
     match spot.insn {
-        Insn::InstanceGet { field, .. } | Insn::StaticGet { field, .. } => {
-            Ok(field_of(state, own_number(k, *field)))
-        }
+        Insn::InstanceGet { field, .. } => Ok(field_of(state, own_number(k, *field))),
+        Insn::StaticGet { field, .. } => Ok(field_of(state, own_number(k, *field))),
         Insn::MoveResult { .. } => {
             let front = before(spot.home.body, spot.position);
             taken_behind(alloc, k, state, spot.home.at.class, front)

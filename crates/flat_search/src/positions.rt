@@ -1,12 +1,13 @@
 //! Where an instruction goes on, and one position of a body.
 
 ghost use Rattle.std.specs.Prelude.{◌≡◌, ℕ, ◌+◌, ◌<◌, ◌^◌, length, option_to_list, OnOk};
+ghost use Rattle.std.specs.Option.{option_copied};
 ghost use Rattle.program_model.specs.declared.program.Program.{Program};
 ghost use Rattle.insn_set.specs.Flow.{targets_of};
 ghost use Rattle.call_graph.specs.declared.live_set.LiveSet.{LiveSet};
 ghost use Rattle.flow_cfg.specs.Walks.{covers, handlers_in, handlers_at, thrown_to};
 ghost use Rattle.flat_bounds.specs.Bounds.{FlatTable};
-ghost use Rattle.flat_search.specs.Spots.{IsSpot, LandsUnder, MayLand, ComesUnder, EachLands, HandlersLand, CasesLand};
+ghost use Rattle.flat_search.specs.Spots.{IsSpot, handlers_if, LandsUnder, MayLand, ComesUnder, EachLands, HandlersLand, CasesLand};
 ghost use Rattle.flat_search.specs.States.{IsUnderBound, Keeps, KeepsIf};
 ghost use Rattle.flat_search.specs.Doing.{StepsUnder, BranchesUnder, SwitchesUnder, GoesUnder};
 
@@ -25,6 +26,18 @@ fn covers(region: &Region, position: u32) -> bool
     ensures { result ≡ covers position region.now }
 {
     region.first <= position && position < region.end
+}
+
+/// The first region that covers a position.
+fn region_at(regions: &[Region], position: u32) -> Option<&Region>
+    ensures { handlers_at regions.now position ≡ handlers_if (option_copied result) }
+{
+    for region in regions {
+        if covers(region, position) {
+            return Some(region);
+        }
+    }
+    None
 }
 
 impl Spread<'_> {
@@ -89,12 +102,10 @@ impl Spread<'_> {
         ensures { (p : Program) (live : LiveSet) (b : FlatTable) → IsUnderBound p live b self.old.state
             → EachLands b home.now (handlers_at regions.now position) registers.now → OnOk result (IsUnderBound p live b self.new.state) }
     {
-        for region in regions {
-            if covers(region, position) {
-                return self.throw_in(alloc, home, region, registers);
-            }
+        match region_at(regions, position) {
+            Some(region) => self.throw_in(alloc, home, region, registers),
+            None => Ok(()),
         }
-        Ok(())
     }
 
     /// Lets the registers in front of an instruction come to where it throws.
@@ -215,10 +226,12 @@ impl Spread<'_> {
     {
         match spot.insn {
             Insn::Goto { target } => self.come(alloc, &spot.home, *target, registers),
-            Insn::If { target, .. } | Insn::IfZero { target, .. } => {
-                self.branches(alloc, spot, *target, registers)
+            Insn::If { target, .. } => self.branches(alloc, spot, *target, registers),
+            Insn::IfZero { target, .. } => self.branches(alloc, spot, *target, registers),
+            Insn::PackedSwitch { targets, .. } => {
+                self.switches(alloc, spot, targets.as_slice(), registers)
             }
-            Insn::PackedSwitch { targets, .. } | Insn::SparseSwitch { targets, .. } => {
+            Insn::SparseSwitch { targets, .. } => {
                 self.switches(alloc, spot, targets.as_slice(), registers)
             }
             _ => self.steps(alloc, k, spot, registers),

@@ -12,5 +12,5 @@ returns c = λ is b h u.
     let m = home.method.now.name in
     let on : is_marked c.args.self.now.state.entered.items m ≡ true = ap (λ (ms : List Bool). is_marked ms m) (sym c.deref.ensures.value) ∙ sym c.is_on.ensures ∙ c.if-not-is_on.false in
     c.come.ensures p c.args.k.now.live.now b u
-    (entry_under p c.args.k.now.outside.now b h.bound home c.words.result.now c.in_ok-registers.registers is
-    (λ i v e. u.flats.parameters m i v (ap (λ (xs : List Parts). slice_get xs i) (sym c.words.ensures) ∙ e)) c.in_ok-registers.ensures (u.entered m on))
+    (entry_under p c.args.k.now.outside.now b h.bound home c.words-words.result.now c.in_ok-registers.registers is
+    (λ i v e. u.flats.parameters m i v (ap (λ (xs : List Parts). slice_get xs i) (sym c.words-words.ensures) ∙ e)) c.in_ok-registers.ensures (u.entered m on))

@@ -1,8 +1,7 @@
 use Rattle.program_model.specs.declared.program.Program.{Program}
 use Rattle.call_graph.specs.declared.live_set.LiveSet.{LiveSet}
 use Rattle.flat_bounds.specs.Bounds.{FlatTable}
-
-use Rattle.flat_search.specs.States.{IsUnderBound}
+use Rattle.flat_search.specs.States.{IsUnderBound, IsOpened}
 use Rattle.flat_search.proofs.spread.Spread.open_words.Given as goal
 
 abbrev pub invariant-loop-word : goal.invariant-loop-word

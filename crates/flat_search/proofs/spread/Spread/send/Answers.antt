@@ -14,7 +14,7 @@ returns-in-Invoke c = λ b h u g.
     let home = c.args.home.now in
     let x = c.args.registers.now in
     let at : (i : Insn) → Type 0 = λ i. SendsUnder p live b home.at.class home.method.now.name i x in
-    c.call_by.ensures b h u (subst (λ (as : List ℕ). PassesUnder p live b home.at.class c.in-Invoke.kind c.in-Invoke.method as x) (sym c.as_slice.ensures) (subst at c.in-Invoke.is g))
+    c.call_by.ensures b h u (subst (λ (rs : List ℕ). PassesUnder p live b home.at.class c.in-Invoke.kind c.in-Invoke.method rs x) (sym c.as_slice.ensures) (subst at c.in-Invoke.is g))
 
 pub returns-in-InstancePut : goal.returns-in-InstancePut
 returns-in-InstancePut c = λ b h u g.

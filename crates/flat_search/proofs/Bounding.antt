@@ -103,7 +103,7 @@ module _ (p : Program) (o : Outside) (live : LiveSet) (b : FlatTable) (bound : I
 
   pub throws_under : (x : Registers) → ComesUnder b s x → EachLands b s.home (thrown_to s.home.body.now.regions s.position s.insn.now) x
   throws_under x u = each_lands x (thrown_to s.home.body.now.regions s.position s.insn.now)
-    (λ q m. with_registers (LandsUnder b s.home q x) x (λ a e h. bound.flows.thrown s.home.at s.position q x (here a e) h m) u)
+      (λ q m. with_registers (LandsUnder b s.home q x) x (λ a e h. bound.flows.thrown s.home.at s.position q x (here a e) h m) u)
 
   -- ---- what is passed, put and returned
 
@@ -112,28 +112,28 @@ module _ (p : Program) (o : Outside) (live : LiveSet) (b : FlatTable) (bound : I
 
   binds : (x : Registers) (kind : InvokeKind) (method : ℕ) (args : List ℕ) → s.insn.now ≡ insn.Invoke kind method args → ComesUnder b s x → MayBind p b s.home.at.class method kind args x
   binds x kind method args i u at m f g = with_registers (IsPassedTo b m.name (is_some m.body) args x) x
-    (λ a e h. passed_to a x h m.name (is_some m.body) args (bound.calls.named s.home.at s.position method kind args at m (here a e) i f g)) u
+      (λ a e h. passed_to a x h m.name (is_some m.body) args (bound.calls.named s.home.at s.position method kind args at m (here a e) i f g)) u
 
   pub passes : IsLeastSet p o live → (x : Registers) (kind : InvokeKind) (method : ℕ) (args : List ℕ) → s.insn.now ≡ insn.Invoke kind method args → ComesUnder b s x
       → PassesUnder p live b s.home.at.class kind method args x
   passes least x call.Virtual method args i u = λ link l c. with_registers (IsPassedTo b link.method true args x) x
-    (λ a e h. passed_to a x h link.method true args (bound.calls.linked live least s.home.at s.position method call.Virtual args false link (here a e) i refl l c)) u
+      (λ a e h. passed_to a x h link.method true args (bound.calls.linked live least s.home.at s.position method call.Virtual args false link (here a e) i refl l c)) u
   passes least x call.Interface method args i u = λ link l c. with_registers (IsPassedTo b link.method true args x) x
-    (λ a e h. passed_to a x h link.method true args (bound.calls.linked live least s.home.at s.position method call.Interface args true link (here a e) i refl l c)) u
+      (λ a e h. passed_to a x h link.method true args (bound.calls.linked live least s.home.at s.position method call.Interface args true link (here a e) i refl l c)) u
   passes least x call.Static method args i u = binds x call.Static method args i u
   passes least x call.Direct method args i u = binds x call.Direct method args i u
   passes least x call.Super method args i u = binds x call.Super method args i u
 
   puts : (x : Registers) (item : Item) (from field : ℕ) → Puts item from field s.insn.now → ComesUnder b s x → PutsUnder p b field (stored_value item (value_at x from))
   puts x item from field i u own e = with_registers (IsUnder (stored_value item (value_at x from)) (b.fields own)) x
-    (λ a f h. bound.fields.puts s.home.at s.position from field own item (value_at x from) (here a f) i e (h from)) u
+      (λ a f h. bound.fields.puts s.home.at s.position from field own item (value_at x from) (here a f) i e (h from)) u
 
   sends_by : IsLeastSet p o live → (x : Registers) (i : Insn) → s.insn.now ≡ i → ComesUnder b s x → SendsUnder p live b s.home.at.class s.home.method.now.name i x
   sends_by least x (insn.Invoke kind method args) e u = passes least x kind method args e u
   sends_by least x (insn.InstancePut item from on field) e u = puts x item from field (subst (Puts item from field) (sym e) (putting.Puts.Instance on)) u
   sends_by least x (insn.StaticPut item from field) e u = puts x item from field (subst (Puts item from field) (sym e) putting.Puts.Static) u
   sends_by least x (insn.Return slot from) e u = with_registers (IsUnder (value_at x from) (b.results s.home.method.now.name)) x
-    (λ a f h. bound.flows.returns s.home.at s.position from slot (value_at x from) (here a f) e (h from)) u
+      (λ a f h. bound.flows.returns s.home.at s.position from slot (value_at x from) (here a f) e (h from)) u
   sends_by least x i e u = tt
 
   pub sends_under : IsLeastSet p o live → (x : Registers) → ComesUnder b s x → SendsUnder p live b s.home.at.class s.home.method.now.name s.insn.now x
@@ -147,7 +147,7 @@ module _ (p : Program) (o : Outside) (live : LiveSet) (b : FlatTable) (bound : I
   -- those of the instruction that stands there
   edges_of : (x : Registers) (v : Parts) (i : Insn) → s.insn.now ≡ i → IsUnder v (taken_flat p b s.home.at.class (before_of s.home.body.now s.position) i) → ComesUnder b s x → AllGo b s.home (edges_by p v s.position i x)
   edges_of x v i e t u = subst (λ (j : Insn). AllGo b s.home (edges_by p v s.position j x)) e
-    (edges_go x v (subst (λ (j : Insn). IsUnder v (taken_flat p b s.home.at.class (before_of s.home.body.now s.position) j)) (sym e) t) u)
+      (edges_go x v (subst (λ (j : Insn). IsUnder v (taken_flat p b s.home.at.class (before_of s.home.body.now s.position) j)) (sym e) t) u)
 
   branches : (x : Registers) (target : ℕ) (i : Insn) → s.insn.now ≡ i → AllGo b s.home (both_ways s.position i target x) → BranchesUnder b s target x
   branches x target i e g =
@@ -164,14 +164,14 @@ module _ (p : Program) (o : Outside) (live : LiveSet) (b : FlatTable) (bound : I
       record {
         past = subst (λ (j : Insn). MayLand b s.home (s.position + 1) (unswitched j x)) (sym e) past;
         cases = λ place target f. subst (λ (j : Insn). MayLand b s.home target (switched place j x)) (sym e)
-          (let z : 0 + place ≡ place = omega arith in subst (λ m. MayLand b s.home target (switched m i x)) z
-          (cases_land b s.home 0 i targets x (last_go b s.home (arm (s.position + 1) (unswitched i x)) (cases_from 0 i targets x) g) place target f));
+            (let z : 0 + place ≡ place = omega arith in subst (λ m. MayLand b s.home target (switched m i x)) z
+            (cases_land b s.home 0 i targets x (last_go b s.home (arm (s.position + 1) (unswitched i x)) (cases_from 0 i targets x) g) place target f));
       }
 
   steps : (x : Registers) (i : Insn) → s.insn.now ≡ i
       → ((v : Parts) → AllGo b s.home (edges_by p v s.position i x) → AllGo b s.home (arm (s.position + 1) (after p i v x))) → ComesUnder b s x → StepsUnder p b s x
   steps x i e f u v t = subst (λ (j : Insn). MayLand b s.home (s.position + 1) (after p j v x)) (sym e)
-    (arm_lands b s.home (s.position + 1) (after p i v x) (f v (edges_of x v i e (subst (λ (j : Insn). IsUnder v (taken_flat p b s.home.at.class (before_of s.home.body.now s.position) j)) e t) u)))
+      (arm_lands b s.home (s.position + 1) (after p i v x) (f v (edges_of x v i e (subst (λ (j : Insn). IsUnder v (taken_flat p b s.home.at.class (before_of s.home.body.now s.position) j)) e t) u)))
 
   goes_by : (x : Registers) (i : Insn) → s.insn.now ≡ i → ComesUnder b s x → GoesUnder p b s i x
   goes_by x (insn.Goto target) e u = edges_of x any_value (insn.Goto target) e tt u (target, x) (first_in (target, x) [])

@@ -35,5 +35,5 @@ module _ (p : Program) (o : Outside) (b : FlatTable) (bound : IsFlatBound p o b)
       by : (y : Option (ℕ → Flat)) → b.registers h.method.now.name 0 ≡ y → is_some y ≡ true → ArriveUnder x y
       by None f r = absurd (let g : false ≡ true = r in cc)
       by (Some a) f r = bound.flows.begins h.at h.method.now h.body.now a x is.has_method is.has_body f
-        (λ i lt. argument_under words (b.parameters h.method.now.name) under (h.body.now.registers - h.body.now.ins) h.body.now.registers x e i)
-        (λ r le. e.others r le)
+          (λ i lt. argument_under words (b.parameters h.method.now.name) under (h.body.now.registers - h.body.now.ins) h.body.now.registers x e i)
+          (λ r le. e.others r le)

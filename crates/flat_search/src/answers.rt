@@ -152,9 +152,7 @@ fn given_by(
         → IfOk result (λ v. IsUnder v (b.answers class insn.now)) }
 {
     match insn {
-        Insn::Invoke { kind, method, .. } => {
-            call_answer(alloc, k, state, class, *kind, *method)
-        }
+        Insn::Invoke { kind, method, .. } => { call_answer(alloc, k, state, class, *kind, *method) }
         _ => Ok(Value::any()),
     }
 }

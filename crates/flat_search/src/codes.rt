@@ -78,7 +78,14 @@ impl Codes {
     fn add_class(&mut self, live: &[bool], place: u32, class: &Class) -> Result<(), AllocError> {
         let mut own = 0u32;
         for method in class.methods.as_slice() {
-            self.add_method(live, MethodAt { class: place, place: own }, method)?;
+            self.add_method(
+                live,
+                MethodAt {
+                    class: place,
+                    place: own,
+                },
+                method,
+            )?;
             own = own.saturating_add(1);
         }
         Ok(())

@@ -164,11 +164,7 @@ fn compared(insn: &Insn) -> Option<u32> {
 }
 
 /// Forgets what an instruction leaves but single numbers.
-pub(crate) fn flatten(
-    alloc: Global,
-    own: &mut PatMap<Value>,
-    insn: &Insn,
-) -> Result<(), AllocError>
+pub(crate) fn flatten(alloc: Global, own: &mut PatMap<Value>, insn: &Insn) -> Result<(), AllocError>
     ensures { (y : Option (ℕ → Flat)) → ArriveUnder own.old y → ArriveUnder own.new y }
 {
     flatten_at(alloc, own, reckoned(insn))?;

@@ -14,8 +14,8 @@ ghost use Rattle.flat_search.specs.States.{IsUnderBound, IsAnswerUnder, IsMadeRe
 use crate::codes::Code;
 use crate::flats::Flats;
 use crate::tables::{
-    arrive_in, is_on, no_lists, no_pools, no_tables, nothings, pass_at, put_frames, put_nothings, raise_at,
-    raise_in, turn_on,
+    arrive_in, is_on, no_lists, no_pools, no_tables, nothings, pass_at, put_frames, put_nothings,
+    raise_at, raise_in, turn_on,
 };
 use domains::Value;
 use pat_map::PatMap;
@@ -81,11 +81,7 @@ pub(crate) fn no_marks(alloc: Global, count: usize) -> Result<Vec<bool>, AllocEr
 
 impl State {
     /// Nothing is known yet.
-    pub(crate) fn new(
-        alloc: Global,
-        program: &Program,
-        codes: &[Code],
-    ) -> Result<State, AllocError>
+    pub(crate) fn new(alloc: Global, program: &Program, codes: &[Code]) -> Result<State, AllocError>
         ensures { (p : Program) (live : LiveSet) (b : FlatTable) → IfOk result (IsUnderBound p live b) }
     {
         let (methods, classes) = (program.methods.len(), program.classes.len());

@@ -13,7 +13,7 @@ loop-register-preserved c =
     let n = c.loop-register.register in
     let x = c.loop-register.registers in
     let e : c.in_ok-next.next ≡ put n (entry_value c.args.free c.args.words.now n) x =
-        c.in_ok-next.ensures ∙ ap (λ r. put r c.entry_value-value.result x) c.from.ensures ∙ ap (λ (v : Parts). put n v x) c.entry_value-value.ensures in
+    c.in_ok-next.ensures ∙ ap (λ r. put r c.entry_value-value.result x) c.from.ensures ∙ ap (λ (v : Parts). put n v x) c.entry_value-value.ensures in
     subst (λ (z : Registers). IsEntry c.args.free c.args.words.now (n + 1) z) (sym e) (next_entry c.args.free c.args.words.now n x c.loop-register.invariant)
 
 pub returns : goal.returns

@@ -12,5 +12,5 @@ pub returns : goal.returns
 returns c = λ b h u g.
     let p = c.args.k.now.program.now in
     let has : has_default p (slice_get p.classes c.args.place) ≡ true =
-        ap (has_default p) c.requires.is ∙ ap (λ (ms : List Method). list_any (λ m. not (is_direct p m) && is_some m.body) ms) (sym c.as_slice.ensures) ∙ sym (c.has_default.ensures h.grounded) ∙ c.if-not-has_default.false in
+    ap (has_default p) c.requires.is ∙ ap (λ (ms : List Method). list_any (λ m. not (is_direct p m) && is_some m.body) ms) (sym c.as_slice.ensures) ∙ sym (c.has_default.ensures h.grounded) ∙ c.if-not-has_default.false in
     c.need.ensures p c.args.k.now.live.now b u (default p b c.args.place (ap is_interface c.requires.is ∙ c.requires.interface) has g)

@@ -34,4 +34,4 @@ returns-in-Return c = λ b h u g.
     let x = c.args.registers.now in
     let at : (i : Insn) → Type 0 = λ i. SendsUnder p live b home.at.class home.method.now.name i x in
     let e : c.value_at-value.result ≡ value_at x c.in-Return.from = cc in
-    c.give_result.ensures p live b u (subst (λ (v : Parts). IsUnder v (b.results home.method.now.name)) (sym e) (subst at c.in-Return.is.1 g))
+    c.give_result.ensures p live b u (subst (λ (v : Parts). IsUnder v (b.results home.method.now.name)) (sym e) (subst at c.in-Return.is g))

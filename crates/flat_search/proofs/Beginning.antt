@@ -1,11 +1,9 @@
 -- What the framework may do before and beside the program.
-use Rattle.std.proofs.Common.{◌≡◌, ◌⊎◌, ℕ, Bool, List, Option, Some, None, inl, inr, refl, sym, ap, ◌∙◌, subst}
-use Rattle.std.specs.Prelude.{slice_get, option_and_then, Contains}
-use Rattle.insn_set.specs.declared.ops.InvokeKind.{InvokeKind}
+use Rattle.std.proofs.Common.{◌≡◌, ℕ, Bool, List, Some, sym, ap, ◌∙◌, subst}
+use Rattle.std.specs.Prelude.{slice_get, option_and_then}
 use Rattle.insn_set.specs.declared.form.Insn.TheVariants as insn
 use Rattle.program_model.specs.declared.pass.Outside.{Outside}
 use Rattle.program_model.specs.declared.program.Class.{Class}
-use Rattle.program_model.specs.declared.program.Field.{Field}
 use Rattle.program_model.specs.declared.program.Program.{Program}
 use Rattle.pass_defs.specs.Flat.{Flat, Any}
 use Rattle.domains.specs.Values.{Parts}
@@ -15,8 +13,8 @@ use Rattle.call_targets.specs.Targeted.{MayLeave}
 use Rattle.closed_facts.specs.Found.{field_in}
 use Rattle.flat_bounds.specs.Under.{IsUnder}
 use Rattle.flat_bounds.specs.Bounds.{FlatTable, BoundAnswers, BoundFields}
-use Rattle.flat_search.specs.States.{is_marked, IsAsked, IsAnswerUnder}
-use Rattle.flat_search.specs.Doing.{AreKept, BeginsUnder, BeginUnder}
+use Rattle.flat_search.specs.States.{IsAnswerUnder}
+use Rattle.flat_search.specs.Doing.{AreKept, BeginUnder}
 
 -- anything is under what may be anything
 pub any_flat : (v : Parts) (x : Flat) → x ≡ Any → IsUnder v x

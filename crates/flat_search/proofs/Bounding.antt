@@ -1,6 +1,6 @@
 -- What a position does by what bounds it.
-use Rattle.std.proofs.Common.{◌≡◌, ℕ, ◌+◌, zero, suc, Bool, true, false, List, [], ◌∷◌, ◌++◌, Option, Some, None, inl, inr, refl, sym, ap, ◌∙◌, subst, arith}
-use Rattle.std.specs.Prelude.{is_some, slice_get, option_to_list, Contains}
+use Rattle.std.proofs.Common.{◌≡◌, ℕ, ◌+◌, zero, suc, Bool, true, false, List, [], ◌∷◌, ◌++◌, Option, Some, None, refl, sym, subst, arith}
+use Rattle.std.specs.Prelude.{is_some, slice_get, Contains}
 use Rattle.std.proofs.lemmas.List.Elements.{Contains-append_left, Contains-append_right}
 use Rattle.insn_set.specs.declared.ops.InvokeKind.{InvokeKind}
 use Rattle.insn_set.specs.declared.ops.InvokeKind.TheVariants as call
@@ -8,10 +8,7 @@ use Rattle.insn_set.specs.declared.ops.Item.{Item}
 use Rattle.insn_set.specs.declared.form.Insn.{Insn}
 use Rattle.insn_set.specs.declared.form.Insn.TheVariants as insn
 use Rattle.program_model.specs.declared.pass.Outside.{Outside}
-use Rattle.program_model.specs.declared.program.Method.{Method}
-use Rattle.program_model.specs.declared.program.MethodAt.{MethodAt}
 use Rattle.program_model.specs.declared.program.Program.{Program}
-use Rattle.program_model.specs.Lookups.{method_at}
 use Rattle.flow_cfg.specs.Walks.{thrown_to}
 use Rattle.pass_defs.specs.Flat.{Flat}
 use Rattle.domains.specs.Values.{Parts, any_value}
@@ -20,19 +17,15 @@ use Rattle.dom_frame.specs.Registers.{Registers, value_at}
 use Rattle.dom_frame.specs.Steps.{after, branched, unswitched, switched}
 use Rattle.call_graph.specs.declared.live_set.LiveSet.{LiveSet}
 use Rattle.call_graph.specs.Least.{IsLeastSet}
-use Rattle.call_targets.specs.declared.table.Link.{Link}
-use Rattle.call_targets.specs.Targeted.{IsLink, call_at}
 use Rattle.closed_facts.specs.Edges.{arm, both_ways, cases_from}
 use Rattle.closed_facts.specs.Fields.{Puts}
 use Rattle.closed_facts.specs.Fields as putting
-use Rattle.closed_facts.specs.Found.{own_number, needs}
 use Rattle.flat_bounds.specs.Under.{IsUnder, AreUnder, ArriveUnder}
-use Rattle.flat_bounds.specs.Bounds.{FlatTable, FlatAt, BoundCall, IsFlatBound, IsReadied, StandsIn, edges_by, taken_flat, before_of}
+use Rattle.flat_bounds.specs.Bounds.{FlatTable, FlatAt, BoundCall, IsFlatBound, IsReadied, edges_by, taken_flat, before_of}
 use Rattle.flat_search.specs.declared.spots.Home.{Home}
 use Rattle.flat_search.specs.declared.spots.Spot.{Spot}
-use Rattle.flat_search.specs.Tables.{ArePassed}
-use Rattle.flat_search.specs.Spots.{IsSpot, LandsUnder, MayLand, ComesUnder, EachLands, CasesLand}
-use Rattle.flat_search.specs.States.{IsPassedTo, MayPass, MayBind}
+use Rattle.flat_search.specs.Spots.{IsSpot, LandsUnder, MayLand, ComesUnder, EachLands}
+use Rattle.flat_search.specs.States.{IsPassedTo, MayBind}
 use Rattle.flat_search.specs.Doing.{NeedsUnder, PassesUnder, PutsUnder, SendsUnder, StepsUnder, BranchesUnder, SwitchesUnder, GoesUnder, StandsIf}
 use Rattle.flat_search.proofs.Lists.{first_in, later_in}
 

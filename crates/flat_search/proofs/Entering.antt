@@ -1,5 +1,5 @@
 -- What comes to the entry of a body.
-use Rattle.std.proofs.Common.{◌≡◌, ℕ, ◌+◌, ◌-◌, ◌<◌, ◌≤◌, Bool, true, false, List, inl, inr, Option, Some, None, refl, sym, ap, ◌∙◌, subst, arith, le-ltb}
+use Rattle.std.proofs.Common.{◌≡◌, ℕ, ◌+◌, ◌-◌, Bool, true, false, List, inl, inr, Option, Some, None, refl, sym, ap, ◌∙◌, subst, arith, le-ltb}
 use Rattle.std.specs.Prelude.{is_some, cond, nat_lt, slice_get, slice_index_or}
 use Rattle.std.proofs.lemmas.Bool.{cases_lt}
 use Rattle.program_model.specs.declared.pass.Outside.{Outside}
@@ -7,7 +7,7 @@ use Rattle.program_model.specs.declared.program.Program.{Program}
 use Rattle.pass_defs.specs.Flat.{Flat}
 use Rattle.domains.specs.Values.{Parts, any_value, least_value}
 use Rattle.dom_frame.specs.Registers.{Registers, value_at}
-use Rattle.flat_bounds.specs.Under.{IsUnder, AreUnder, ArriveUnder}
+use Rattle.flat_bounds.specs.Under.{IsUnder, ArriveUnder}
 use Rattle.flat_bounds.specs.Bounds.{FlatTable, IsFlatBound, IsReached}
 use Rattle.flat_bounds.proofs.Under.{under_least}
 use Rattle.flat_search.specs.declared.spots.Home.{Home}

@@ -1,6 +1,6 @@
 -- Where registers come from a position.
-use Rattle.std.proofs.Common.{◌≡◌, ℕ, zero, suc, ◌+◌, List, [], ◌∷◌, ◌++◌, Option, Some, None, subst}
-use Rattle.std.specs.Prelude.{map, slice_get, option_to_list}
+use Rattle.std.proofs.Common.{◌≡◌, ℕ, zero, suc, List, [], ◌∷◌, ◌++◌, Some, None, subst}
+use Rattle.std.specs.Prelude.{map, option_to_list}
 use Rattle.program_model.specs.declared.body.Handler.{Handler}
 use Rattle.program_model.specs.declared.body.Region.{Region}
 use Rattle.flow_cfg.specs.Walks.{handlers_in}

@@ -1,7 +1,6 @@
 -- Tables by the number of a call, under what each call passes and gets back.
-use Rattle.std.proofs.Common.{◌≡◌, ℕ, Bool, true, false, List, Option, Some, refl, sym, ap, ◌∙◌, subst, eqb-true, eq-eqb}
+use Rattle.std.proofs.Common.{◌≡◌, ℕ, Bool, true, false, List, Some, refl, sym, ◌∙◌, subst, eqb-true, eq-eqb}
 use Rattle.std.specs.Prelude.{cond, nat_eq, slice_get}
-use Rattle.insn_set.specs.declared.ops.InvokeKind.{InvokeKind}
 use Rattle.insn_set.specs.declared.form.Insn.TheVariants as insn
 use Rattle.program_model.specs.declared.pass.Outside.{Outside}
 use Rattle.program_model.specs.declared.program.Program.{Program}
@@ -11,7 +10,7 @@ use Rattle.dom_frame.specs.Registers.{Registers}
 use Rattle.call_graph.specs.declared.live_set.LiveSet.{LiveSet}
 use Rattle.call_graph.specs.Least.{IsLeastSet}
 use Rattle.call_targets.specs.declared.table.Link.{Link}
-use Rattle.call_targets.specs.Targeted.{IsLink, call_at}
+use Rattle.call_targets.specs.Targeted.{IsLink}
 use Rattle.flat_bounds.specs.Under.{IsUnder, AreUnder}
 use Rattle.flat_bounds.specs.Bounds.{FlatTable, BoundAnswers}
 use Rattle.flat_bounds.proofs.Under.{under_below}

@@ -1,5 +1,5 @@
 -- What is kept of values that are joined.
-use Rattle.std.proofs.Common.{◌≡◌, ℕ, Bool, false, inl, inr, refl, sym, subst}
+use Rattle.std.proofs.Common.{◌≡◌, Bool, false, inl, inr, refl, sym, subst}
 use Rattle.std.specs.Prelude.{cond}
 use Rattle.pass_defs.specs.Flat.{Flat, Bottom, KnownWord, KnownWide, Any}
 use Rattle.domains.specs.Values.{Parts, least_value, any_value, constant_value, wide_value, value_joined}

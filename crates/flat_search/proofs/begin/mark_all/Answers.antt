@@ -1,4 +1,4 @@
-use Rattle.std.proofs.Common.{◌≡◌, ◌⊎◌, ℕ, true, inl, inr, arith, get_or}
+use Rattle.std.proofs.Common.{◌≡◌, ◌⊎◌, true, inr, arith, get_or}
 use Rattle.std.specs.Prelude.{Contains}
 use Rattle.std.proofs.lemmas.Option.{slice_get-get_or}
 use Rattle.flat_search.specs.States.{is_marked}

@@ -1,10 +1,9 @@
 -- Facts that say no less than what is under a flat table are under it.
-use Rattle.std.proofs.Common.{◌≡◌, ℕ, ◌<◌, Option, Some, None, [], refl, subst}
+use Rattle.std.proofs.Common.{◌≡◌, ℕ, Option, Some, None, [], refl, subst}
 use Rattle.std.specs.Prelude.{option_and_then, slice_get, slice_index_or}
 use Rattle.std.specs.Option.{unwrap_or}
 use Rattle.program_model.specs.declared.body.Body.{Body}
 use Rattle.program_model.specs.declared.program.Class.{Class}
-use Rattle.program_model.specs.declared.program.Field.{Field}
 use Rattle.program_model.specs.declared.program.Method.{Method}
 use Rattle.program_model.specs.declared.program.MethodAt.{MethodAt}
 use Rattle.program_model.specs.declared.program.Program.{Program}
@@ -13,7 +12,6 @@ use Rattle.pass_defs.specs.Flat.{Flat}
 use Rattle.domains.specs.Values.{Parts, least_value}
 use Rattle.dom_frame.specs.Registers.{Registers}
 use Rattle.facts.specs.declared.facts.Facts.{Facts}
-use Rattle.closed_facts.specs.Found.{field_in}
 use Rattle.flat_bounds.specs.Bounds.{FlatTable}
 use Rattle.flat_bounds.specs.Facts.{AreFactsUnder}
 use Rattle.flat_bounds.specs.Under.{IsUnder, ArriveUnder}

@@ -1,0 +1,8 @@
+//! STAND-IN.
+#![tactic(auto)]
+
+mod flats;
+mod whole;
+
+pub use flats::Flats;
+pub use whole::search;

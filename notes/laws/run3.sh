@@ -1,0 +1,11 @@
+#!/bin/bash
+# run2.sh "WHOLE.." ONLY..
+cd /tmp/inlaw
+W="$1"; shift
+python3 - $W <<'P'
+import json,sys
+had=open('/tmp/inlaw/had.txt').read().split('\n')[0].split()[1:]
+w=sys.argv[1:]
+json.dump({"whole":w,"real":[h for h in had if h not in w]},open('/tmp/inlaw/conf3.json','w'))
+P
+python3 mega.py /tmp/inlaw/over /tmp/inlaw/try2 conf3.json | tail -1 | cut -c1-100 && (time NICE=-3 setsid -w python3 /tmp/inlaw/rk.py /tmp/inlaw/try2 mega /tmp/inlaw/m3.log "$@") 2>&1 | grep real; grep -n "error" /tmp/inlaw/m3.log | cut -c1-600 | head -50; grep -n "^fn" /tmp/inlaw/m3.log | cut -c1-200; tail -1 /tmp/inlaw/m3.log; date -u

@@ -55,7 +55,7 @@ module _ (p : Program) (s : Sound p) (f : ℕ) (x : FieldName) (e : slice_get p.
       of_wide true = refl
       of_wide false = refl
 
-begun_known : (p : Program) → Sound p → (f : Field) (x : FieldName) → slice_get p.fields f.name ≡ Some x → known_value (begun_with (field_at p f.name) (named_field p f)) ≡ number.begun_parts p f
+pub begun_known : (p : Program) → Sound p → (f : Field) (x : FieldName) → slice_get p.fields f.name ≡ Some x → known_value (begun_with (field_at p f.name) (named_field p f)) ≡ number.begun_parts p f
 begun_known p s f x e = by (is_static f.flags.0) ∙ ap (λ b. cond b (number.first_parts p f f.first) (number.zero_parts p f.name)) (sym (static_flag f.flags))
   where
     k : FieldKey
@@ -78,14 +78,14 @@ zero_ranged t = by (name.is_wide t)
     by true = tt
     by false = omega arith
 
-begun_ranged : (k : FieldKey) (d : NamedField) → IsRanged (first_of k (place_of k.class d)) → IsRanged (begun_with k d)
+pub begun_ranged : (k : FieldKey) (d : NamedField) → IsRanged (first_of k (place_of k.class d)) → IsRanged (begun_with k d)
 begun_ranged k d h = by (is_static d.flags)
   where
     by : (b : Bool) → IsRanged (elim b as (λ b. Value) [ true ↦ first_of k (place_of k.class d) | false ↦ zero_of k.kind ])
     by true = h
     by false = zero_ranged k.kind
 
-first_under : (v : Value) → IsRanged v → IsUnder (known_value v) (first_fact flat v)
+pub first_under : (v : Value) → IsRanged v → IsUnder (known_value v) (first_fact flat v)
 first_under (value.Word n) h = inr (refl, h)
 first_under (value.Low n) h = inr refl
 first_under (value.High n) h = tt

@@ -94,13 +94,13 @@ module _ (p : Program) (o : Outside) (asked : IsAsked p o) where
   -- ---- links
 
   -- the method of a link is one that the call may find
-  record LinkFound (text : Text) (method : ℕ) (kind : InvokeKind) (link : Link) : Type 0 where
+  pub record LinkFound (text : Text) (method : ℕ) (kind : InvokeKind) (link : Link) : Type 0 where
     pub found : Found
     pub among : Contains (may_find (named p) text kind (method_at p method)) found
     pub key : found.key ≡ method_at p link.method
     pub coded : found.coded ≡ true
 
-  link_found : (text : Text) (live : LiveSet) (method : ℕ) (kind : InvokeKind) (interface : Bool) (link : Link) → interface_of kind ≡ Some interface → IsLink p live link → link.call ≡ call_at method interface
+  pub link_found : (text : Text) (live : LiveSet) (method : ℕ) (kind : InvokeKind) (interface : Bool) (link : Link) → interface_of kind ≡ Some interface → IsLink p live link → link.call ≡ call_at method interface
       → LinkFound text method kind link
   link_found text live method kind interface link way r e =
       let same = call_same method r.method interface r.interface (sym e ∙ r.is_call) in

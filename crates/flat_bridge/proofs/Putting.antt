@@ -27,11 +27,11 @@ use Rattle.flat_bridge.proofs.Fielding.{owns}
 use Rattle.flat_bridge.proofs.Fits.{insn_fit}
 use Rattle.flat_bridge.proofs.Standing.{there}
 
-puts_form : (p : Program) (item : Item) (from field : ℕ) (i : Insn) → number.Puts item from field i → name.Puts flat item from (field_at p field) (form_of p i)
+pub puts_form : (p : Program) (item : Item) (from field : ℕ) (i : Insn) → number.Puts item from field i → name.Puts flat item from (field_at p field) (form_of p i)
 puts_form p item from field i (number.Instance on) = name.Instance on
 puts_form p item from field i number.Static = name.Static
 
-puts_low : (p : Program) (item : Item) (from field : ℕ) (i : Insn) → number.Puts item from field i → numbers_fit i p ≡ true → field < length p.fields
+pub puts_low : (p : Program) (item : Item) (from field : ℕ) (i : Insn) → number.Puts item from field i → numbers_fit i p ≡ true → field < length p.fields
 unfolding numbers_fit
 puts_low p item from field i (number.Instance on) h = below field (length p.fields) h
 puts_low p item from field i number.Static h = below field (length p.fields) h

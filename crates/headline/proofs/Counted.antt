@@ -47,7 +47,7 @@ module _ (o : Outside) (admitted : List Bool) where
   -- rounds that ran before the last one left less
   came : (n : ℕ) (t u : Traced) → Rounds o admitted n t u → ((n ≡ 0) × (u.program ≡ t.program)) ⊎ ((0 < n) × IsLess u.program t.program)
   came n t u (Ended x) = inl (refl, refl)
-  came n t u (Next m times x y z first less rest) = inr (omega arith, behind (came m y z rest))
+  came n t u (Next m times again x y z first less rest) = inr (omega arith, behind (came m y z rest))
     where
       behind : ((m ≡ 0) × (z.program ≡ y.program)) ⊎ ((0 < m) × IsLess z.program y.program) → IsLess z.program x.program
       behind (inl (none, same)) = subst (λ (p : Program). IsLess p x.program) (sym same) less

@@ -30,8 +30,8 @@ use Rattle.copy_prop.specs.Propagated.{IsPropagatedProgram}
 use Rattle.bodies_kept.specs.CopyBridged.{AllFresh}
 use Rattle.bodies_kept.proofs.CopySettled.{program_settled as copies_settled}
 use Rattle.type_bridge.proofs.Refused.{refused_program}
-use Rattle.pipeline.specs.Passes.{Removes, IsBarred, IsRemoval, Folds, KeepsForms, IsFolding, Rebinds, IsRebinding, Loosens, IsLoosening, Quiets, IsQuieting, Propagates, KeepsReads, NoneStale, Wide, Faulty, IllTyped, IsPropagation, Thins, IsCleaning, IsCompaction, passes, AreStill}
-use Rattle.headline.specs.Ended.{NoneKnown, NoneBindable, NoneLoosable, NoneQuiet, NoneUnreached}
+use Rattle.pipeline.specs.Passes.{Removes, IsBarred, IsRemoval, KeepsForms, Rebinds, IsRebinding, Loosens, IsLoosening, Quiets, IsQuieting, Propagates, KeepsReads, NoneStale, Wide, Faulty, IllTyped, IsPropagation, Thins, IsCleaning, IsCompaction, passes, AreStill}
+use Rattle.headline.specs.Ended.{NoneBindable, NoneLoosable, NoneQuiet, NoneUnreached}
 use Rattle.headline.specs.Owed.{IsSound}
 
 -- a thinning that leaves the program the same has counted nothing, since it would weigh less
@@ -101,15 +101,7 @@ module _ (o : Outside) (admitted : List Bool) (p : Program) (sound : IsSound p) 
       by (inl r) = unreached_none o p r.marks r.least r.left
       by (inr none) = absurd (barred none.1)
 
-  -- the facts that a fold goes by leave nothing to write, since it left the program the same
-  pub all_folded : NoneKnown o admitted p ⊎ KeepsForms o admitted p
-  all_folded = let h : IsFolding o admitted p p [] = still.1.0 sound.formed in by h.folding
-    where
-      by : Folds o admitted p p ⊎ ((p ≡ p) × KeepsForms o admitted p) → NoneKnown o admitted p ⊎ KeepsForms o admitted p
-      by (inl f) = inl (record { hierarchy = f.hierarchy; resolved = f.resolved; facts = f.facts; known = f.known; none_left = f.none_left refl })
-      by (inr none) = inr none.1
-
-  -- and so do those that calls are bound by
+  -- the facts that calls are bound by leave no call to name another method, since binding left the program the same
   pub all_bound : NoneBindable o admitted p ⊎ KeepsForms o admitted p
   all_bound = let h : IsRebinding o admitted p p [] = still.1.1.0 sound.formed in by h.rebinding
     where

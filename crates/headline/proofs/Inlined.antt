@@ -21,10 +21,10 @@ use Rattle.bodies_kept.specs.CompactBridged.{AllPacked}
 use Rattle.bodies_kept.specs.CopyBridged.{AllFresh}
 use Rattle.squeeze.specs.Needed.{NothingLeft}
 use Rattle.pipeline.specs.Inlined.{IsOptimisedInlined}
-use Rattle.pipeline.specs.Passes.{KeepsForms}
-use Rattle.headline.specs.Ended.{NoneKnown, NoneBindable, NoneLoosable, NoneQuiet, NoneUnreached}
+use Rattle.pipeline.specs.Passes.{FoldsExactly, KeepsForms}
+use Rattle.headline.specs.Ended.{NoneBindable, NoneLoosable, NoneQuiet, NoneUnreached}
 use Rattle.headline.specs.Owed.{IsSound, Owes}
-use Rattle.headline.proofs.Ends.{none_unreached, all_folded, all_bound, all_loosened, all_quiet, none_skipped, none_dead, all_fresh, all_packed}
+use Rattle.headline.proofs.Ends.{none_unreached, all_bound, all_loosened, all_quiet, none_skipped, none_dead, all_fresh, all_packed}
 use Rattle.headline.proofs.Inlining.{inlining_owes, inlining_stays}
 use Rattle.headline.proofs.Owing.{owes_on}
 use Rattle.headline.proofs.Repeated.{all_rounds_owe}
@@ -62,8 +62,8 @@ module _ (p : Program) (h : Hierarchy) (formed : is_well_formed p ≡ true) (res
   pub inlined_reached : o.shrink ≡ true → NoneUnreached o r
   inlined_reached allowed = none_unreached o done.admitted r rounds.sound done.ran.ends allowed
 
-  pub inlined_folded : NoneKnown o done.admitted r ⊎ KeepsForms o done.admitted r
-  inlined_folded = all_folded o done.admitted r rounds.sound done.ran.ends
+  pub inlined_folded : FoldsExactly o done.admitted r ⊎ KeepsForms o done.admitted r
+  inlined_folded = done.ran.exact rounds.sound.formed
 
   pub inlined_bound : NoneBindable o done.admitted r ⊎ KeepsForms o done.admitted r
   inlined_bound = all_bound o done.admitted r rounds.sound done.ran.ends

@@ -16,7 +16,7 @@ use Rattle.bodies_kept.proofs.RewrittenStay.{rewritten_stays}
 use Rattle.bodies_kept.proofs.PassesStay.{removed_stays, thinned_stays, propagated_stays, compacted_stays}
 use Rattle.pipeline.specs.declared.traces.Traced.{Traced}
 use Rattle.pipeline.specs.Inlining.{IsInlining, Inlined, Kept}
-use Rattle.pipeline.specs.Passes.{Pass, Reach, ConstProp, Devirt, Staticise, QuietCalls, CopyProp, DeadCode, Squeeze, Compact, Does, round_of, Steps, Last, Then}
+use Rattle.pipeline.specs.Passes.{Pass, Reach, ConstProp, Devirt, Staticise, QuietCalls, CopyProp, DeadCode, Squeeze, Compact, Does, round_by, Steps, Last, Then}
 use Rattle.pipeline.specs.Rounds.{Rounds, Ended, Next}
 use Rattle.pipeline.specs.Silence.{is_quiet, silenced, IsSilent}
 use Rattle.inline_calls.specs.Asked.{Row}
@@ -94,9 +94,9 @@ module _ (o : Outside) (admitted : List Bool) (Is : Program → Type 0) (keeps :
 
   rounds_keep : (n : ℕ) (t u : Traced) → Rounds o admitted n t u → IsSound t.program → Is t.program → Is u.program
   rounds_keep n t u (Ended x) sound is = is
-  rounds_keep n t u (Next m times x y z first less rest) sound is =
-      let owed : Owes o x.program y.program = steps_owe o admitted (each_keeps o) (round_of times) x y first sound in
-      rounds_keep m y z rest owed.sound (steps_keep (round_of times) x y first sound is)
+  rounds_keep n t u (Next m times again x y z first less rest) sound is =
+      let owed : Owes o x.program y.program = steps_owe o admitted (each_keeps o) (round_by times again) x y first sound in
+      rounds_keep m y z rest owed.sound (steps_keep (round_by times again) x y first sound is)
 
 module _ (o : Outside) (admitted : List Bool) where
   pub rounds_lie : (n : ℕ) (t u : Traced) → Rounds o admitted n t u → IsSound t.program → LaysOut t.program → LaysOut u.program

@@ -25,11 +25,11 @@ use Rattle.compact.specs.Narrow.{has_narrow_classes}
 use Rattle.bodies_kept.specs.CompactBridged.{AllPacked}
 use Rattle.bodies_kept.specs.CopyBridged.{AllFresh}
 use Rattle.squeeze.specs.Needed.{NothingLeft}
-use Rattle.pipeline.specs.Passes.{KeepsForms}
+use Rattle.pipeline.specs.Passes.{FoldsExactly, KeepsForms}
 use Rattle.pipeline.specs.Rounds.{first_of, IsOptimised}
-use Rattle.headline.specs.Ended.{NoneKnown, NoneBindable, NoneLoosable, NoneQuiet, NoneUnreached}
+use Rattle.headline.specs.Ended.{NoneBindable, NoneLoosable, NoneQuiet, NoneUnreached}
 use Rattle.headline.specs.Owed.{IsSound, Owes}
-use Rattle.headline.proofs.Ends.{none_unreached, all_folded, all_bound, all_loosened, all_quiet, none_skipped, none_dead, all_fresh, all_packed}
+use Rattle.headline.proofs.Ends.{none_unreached, all_bound, all_loosened, all_quiet, none_skipped, none_dead, all_fresh, all_packed}
 use Rattle.headline.proofs.Parts.{Part, mapped_head, mapped_part, still_once, still_grounded}
 use Rattle.headline.proofs.Splits.{whole_left}
 use Rattle.headline.proofs.Repeated.{all_rounds_owe}
@@ -114,8 +114,8 @@ module _ (p : Program) (h : Hierarchy) (formed : is_well_formed p ≡ true) (res
       pub optimised_reached : o.shrink ≡ true → NoneUnreached o r
       optimised_reached allowed = none_unreached o done.admitted r rounds.sound done.ran.ends allowed
 
-      pub optimised_folded : NoneKnown o done.admitted r ⊎ KeepsForms o done.admitted r
-      optimised_folded = all_folded o done.admitted r rounds.sound done.ran.ends
+      pub optimised_folded : FoldsExactly o done.admitted r ⊎ KeepsForms o done.admitted r
+      optimised_folded = done.ran.exact rounds.sound.formed
 
       pub optimised_bound : NoneBindable o done.admitted r ⊎ KeepsForms o done.admitted r
       optimised_bound = all_bound o done.admitted r rounds.sound done.ran.ends

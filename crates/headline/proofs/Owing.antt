@@ -9,7 +9,7 @@ use Rattle.dalvik_defs.proofs.Same.{same_shown_refl, same_shown_on}
 use Rattle.program_laws.specs.Shutting.{with_shut}
 use Rattle.program_laws.proofs.ShutAlike.{alike_on, shown_on, virtuals_on}
 use Rattle.pipeline.specs.declared.traces.Traced.{Traced}
-use Rattle.pipeline.specs.Passes.{Pass, round_of, Steps, Last, Then}
+use Rattle.pipeline.specs.Passes.{Pass, round_by, Steps, Last, Then}
 use Rattle.pipeline.specs.Rounds.{Rounds, Ended, Next}
 use Rattle.headline.specs.Owed.{IsSound, Owes, Keeps}
 
@@ -49,6 +49,6 @@ module _ (o : Outside) where
 
     pub rounds_owe : (n : ℕ) (t u : Traced) → Rounds o admitted n t u → IsSound t.program → Owes o t.program u.program
     rounds_owe n t u (Ended x) sound = owes_same x.program sound
-    rounds_owe n t u (Next m times x y z first less rest) sound =
-        let one : Owes o x.program y.program = steps_owe (round_of times) x y first sound in
+    rounds_owe n t u (Next m times again x y z first less rest) sound =
+        let one : Owes o x.program y.program = steps_owe (round_by times again) x y first sound in
         owes_on x.program y.program z.program one (rounds_owe m y z rest one.sound)

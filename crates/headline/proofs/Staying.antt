@@ -20,7 +20,7 @@ use Rattle.bodies_kept.proofs.Staying.{stays_same}
 use Rattle.bodies_kept.proofs.RewrittenStay.{rewritten_stays}
 use Rattle.bodies_kept.proofs.PassesStay.{removed_stays, thinned_stays, propagated_stays, compacted_stays}
 use Rattle.pipeline.specs.declared.traces.Traced.{Traced}
-use Rattle.pipeline.specs.Passes.{Pass, Reach, ConstProp, Devirt, Staticise, QuietCalls, CopyProp, DeadCode, Squeeze, Compact, Removes, IsBarred, Folds, KeepsForms, Rebinds, Loosens, Quiets, Propagates, KeepsReads, Thins, IsCleaning, Does, round_of, AreWithin, Steps, Last, Then}
+use Rattle.pipeline.specs.Passes.{Pass, Reach, ConstProp, Devirt, Staticise, QuietCalls, CopyProp, DeadCode, Squeeze, Compact, Removes, IsBarred, Folds, KeepsForms, Rebinds, Loosens, Quiets, Propagates, KeepsReads, Thins, IsCleaning, Does, round_by, AreWithin, Steps, Last, Then}
 use Rattle.pipeline.specs.Rounds.{Rounds, Ended, Next}
 use Rattle.static_kept.specs.Staying.{MethodStaysAlong, ClassStaysAlong, StaysAlong}
 use Rattle.static_kept.proofs.Passing.{staticised_stays}
@@ -117,6 +117,6 @@ module _ (o : Outside) (admitted : List Bool) where
 
   pub rounds_stay : (n : ℕ) (t u : Traced) → Rounds o admitted n t u → IsSound t.program → StaysAlong admitted t.program u.program
   rounds_stay n t u (Ended x) sound = along_kept admitted x.program x.program (stays_same admitted x.program)
-  rounds_stay n t u (Next m times x y z first less rest) sound =
-      let owed : Owes o x.program y.program = steps_owe o admitted (each_keeps o) (round_of times) x y first sound in
-      along_then admitted x.program y.program z.program (steps_stay (round_of times) x y first sound) (rounds_stay m y z rest owed.sound)
+  rounds_stay n t u (Next m times again x y z first less rest) sound =
+      let owed : Owes o x.program y.program = steps_owe o admitted (each_keeps o) (round_by times again) x y first sound in
+      along_then admitted x.program y.program z.program (steps_stay (round_by times again) x y first sound) (rounds_stay m y z rest owed.sound)

@@ -12,7 +12,6 @@ use Rattle.call_graph.specs.declared.tables.Tables.{Tables}
 use Rattle.call_graph.specs.Least.{Reached}
 use Rattle.call_graph.specs.Tables.{AreTables}
 use Rattle.facts.specs.declared.facts.Facts.{Facts}
-use Rattle.const_prop.specs.Folds.{NoneLeft}
 use Rattle.receivers.specs.Receiving.{is_straight}
 use Rattle.devirt.specs.Left.{NoneLeft as NoCallLeft}
 use Rattle.staticise.specs.Left.{NoneLeft as NoneLoose}
@@ -20,15 +19,7 @@ use Rattle.quiet_methods.specs.Quiet.{AreQuiet}
 use Rattle.quiet_code.specs.Quieted.{NoneIdle}
 use Rattle.pipeline.specs.Passes.{AreKnown}
 
--- Facts that are known of the program leave nothing to write in the bodies of admitted methods.
-pub record NoneKnown (o : Outside) (admitted : List Bool) (p : Program) : Type 0 where
-  pub hierarchy : Hierarchy
-  pub resolved : IsResolved p hierarchy
-  pub facts : Facts
-  pub known : AreKnown o p facts
-  pub none_left : NoneLeft p hierarchy facts admitted
-
--- Such facts, and the kinds of receivers, leave no call in these bodies to name another method. (`is_straight`: the lists of
+-- Facts that are known of the program, and the kinds of receivers, leave no call in these bodies to name another method. (`is_straight`: the lists of
 -- interfaces name interfaces alone.)
 pub record NoneBindable (o : Outside) (admitted : List Bool) (p : Program) : Type 0 where
   pub hierarchy : Hierarchy

@@ -25,9 +25,9 @@ use Rattle.squeeze.specs.Needed.{NothingLeft}
 use Rattle.compact.specs.Narrow.{has_narrow_classes}
 use Rattle.bodies_kept.specs.CompactBridged.{AllPacked}
 use Rattle.bodies_kept.specs.CopyBridged.{AllFresh}
-use Rattle.pipeline.specs.Passes.{KeepsForms}
+use Rattle.pipeline.specs.Passes.{FoldsExactly, KeepsForms}
 use Rattle.pipeline.specs.Prepared.{IsAdvisedBy}
-use Rattle.headline.specs.Ended.{NoneKnown, NoneBindable, NoneLoosable, NoneQuiet, NoneUnreached}
+use Rattle.headline.specs.Ended.{NoneBindable, NoneLoosable, NoneQuiet, NoneUnreached}
 use Rattle.static_kept.specs.Staying.{StaysAlong, StaysAlongInlined}
 use Rattle.headline.specs.Admitted.{admitted_in}
 use Rattle.command_line.specs.Spelling.{Spells}
@@ -60,9 +60,10 @@ pub record AreAdmitted (voices : List Voice) (given : List Bool) (program : Prog
 
 -- What is left of a program shows what the program shows without its silent calls in the admitted methods, to every framework, under every
 -- script and float table that fit, and is well-formed and typed and lays out; no class of it is there twice or above itself. Advisers who
--- reply so were asked which methods may be rewritten: these are admitted. Facts that are certified of what is left leave nothing to write
--- in their bodies (`NoneLeft` of const_prop), where the superclass of no interface is a class of the program that is none, no call to name
--- another method (`NoneLeft` of devirt), no method that could be static (`NoneLeft` of staticise), and no call and no division that does
+-- reply so were asked which methods may be rewritten: these are admitted. Facts that are certified of what is left, and are at or below each
+-- table of flat values that bounds its runs, as each constants solution is one (`IsSharp` of sharp_facts), leave nothing to write in their
+-- bodies (`NoneLeft` of const_prop). Facts that are certified of it leave, where the superclass of no interface is a class of the program
+-- that is none, no call to name another method (`NoneLeft` of devirt), no method that could be static (`NoneLeft` of staticise), and no call and no division that does
 -- nothing (`NoneIdle` of quiet_code), or none were asked for, since no method is admitted, a kept constructor is none of its class or a
 -- list of interfaces names another class (`KeepsForms` of pipeline). In their bodies, whose positions and regions 32 bits number, every
 -- position is reached, is no goto to the next one and no nop, but where the branch behind it goes to it, and none computes what nobody
@@ -82,7 +83,7 @@ pub record KeepsMeaning (inline : Bool) (voices : List Voice) (given : List Bool
   pub grounded : (class : ℕ) → IsAncestor left class class → ⊥
   pub lays : LaysOut left
   pub reached : outside.shrink ≡ true → NoneUnreached outside left
-  pub folded : NoneKnown outside admitted left ⊎ KeepsForms outside admitted left
+  pub folded : FoldsExactly outside admitted left ⊎ KeepsForms outside admitted left
   pub bound : NoneBindable outside admitted left ⊎ KeepsForms outside admitted left
   pub loosened : NoneLoosable outside admitted left ⊎ KeepsForms outside admitted left
   pub quieted : NoneQuiet outside admitted left ⊎ KeepsForms outside admitted left

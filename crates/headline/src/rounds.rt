@@ -16,10 +16,10 @@ ghost use Rattle.compact.specs.Narrow.{has_narrow_classes};
 ghost use Rattle.bodies_kept.specs.CompactBridged.{AllPacked};
 ghost use Rattle.bodies_kept.specs.CopyBridged.{AllFresh};
 ghost use Rattle.pipeline.specs.declared.traces.Traced.{Traced};
-ghost use Rattle.pipeline.specs.Passes.{KeepsForms};
+ghost use Rattle.pipeline.specs.Passes.{FoldsExactly, KeepsForms};
 ghost use Rattle.pipeline.specs.Rounds.{HaveRun, IsOptimised, Rounds};
 ghost use Rattle.static_kept.specs.Staying.{StaysAlong};
-ghost use Rattle.headline.specs.Ended.{NoneBindable, NoneKnown, NoneLoosable, NoneQuiet, NoneUnreached};
+ghost use Rattle.headline.specs.Ended.{NoneBindable, NoneLoosable, NoneQuiet, NoneUnreached};
 ghost use Rattle.headline.specs.Owed.{IsSound, Owes};
 
 /// A well-formed program of which a hierarchy was built, and of which the verifier has a typing of each method, is sound.
@@ -44,17 +44,18 @@ pub fn optimised_law()
 {}
 
 /// Where the rounds end in a sound program, as they do where they began with one, each class and member follows from what the outside
-/// keeps, unless the rules forbid removal; facts that are known leave nothing to write in an admitted method, no call in one to name
-/// another method, no method to be static, and no call and no division in one that does nothing, or there is a reason why none was written
-/// (no method is admitted, a kept constructor is none of its class, or a list of interfaces names another class); no position of an
-/// admitted method is left that a squeeze takes out, and none that is dead; and unless some method of a wide type is named, no read of
-/// it is stale, and its registers have the least numbers that they can have. (`NothingLeft` and `NoneDead` speak of bodies whose
-/// positions and regions 32 bits number, `AllFresh` of those whose registers 16 bits number.)
+/// keeps, unless the rules forbid removal; facts that are known, and at or below each table of flat values that bounds the runs, leave
+/// nothing to write in an admitted method; facts that are known leave no call in one to name another method, no method to be static, and
+/// no call and no division in one that does nothing, or there is a reason why none was written (no method is admitted, a kept constructor
+/// is none of its class, or a list of interfaces names another class); no position of an admitted method is left that a squeeze takes
+/// out, and none that is dead; and unless some method of a wide type is named, no read of it is stale, and its registers have the least
+/// numbers that they can have. (`NothingLeft` and `NoneDead` speak of bodies whose positions and regions 32 bits number, `AllFresh` of
+/// those whose registers 16 bits number.)
 pub fn settled_law()
     ensures reached { (o : Outside) (admitted : List Bool) (p : Program) (t : Traced) (count : ℕ) → HaveRun o admitted p t count → IsSound t.program → o.shrink ≡ true
         → NoneUnreached o t.program }
     ensures folded { (o : Outside) (admitted : List Bool) (p : Program) (t : Traced) (count : ℕ) → HaveRun o admitted p t count → IsSound t.program
-        → NoneKnown o admitted t.program ⊎ KeepsForms o admitted t.program }
+        → FoldsExactly o admitted t.program ⊎ KeepsForms o admitted t.program }
     ensures bound { (o : Outside) (admitted : List Bool) (p : Program) (t : Traced) (count : ℕ) → HaveRun o admitted p t count → IsSound t.program
         → NoneBindable o admitted t.program ⊎ KeepsForms o admitted t.program }
     ensures loosened { (o : Outside) (admitted : List Bool) (p : Program) (t : Traced) (count : ℕ) → HaveRun o admitted p t count → IsSound t.program

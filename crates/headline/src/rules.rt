@@ -20,11 +20,11 @@ ghost use Rattle.bodies_kept.specs.CompactBridged.{AllPacked};
 ghost use Rattle.bodies_kept.specs.CopyBridged.{AllFresh};
 ghost use Rattle.squeeze.specs.Needed.{NothingLeft};
 ghost use Rattle.pipeline.specs.Inlined.{IsOptimisedInlined};
-ghost use Rattle.pipeline.specs.Passes.{KeepsForms};
+ghost use Rattle.pipeline.specs.Passes.{FoldsExactly, KeepsForms};
 ghost use Rattle.pipeline.specs.Rounds.{IsOptimised};
 ghost use Rattle.redex_outside.specs.Voices.{Voice};
 ghost use Rattle.removal_law.specs.Reach.{ShutsHold};
-ghost use Rattle.headline.specs.Ended.{NoneBindable, NoneKnown, NoneLoosable, NoneQuiet, NoneUnreached};
+ghost use Rattle.headline.specs.Ended.{NoneBindable, NoneLoosable, NoneQuiet, NoneUnreached};
 ghost use Rattle.headline.specs.Owed.{IsSound};
 ghost use Rattle.static_kept.specs.Staying.{StaysAlong, StaysAlongInlined};
 ghost use Rattle.headline.specs.Admitted.{admitted_in};
@@ -54,7 +54,7 @@ pub fn all_rules_law()
         → IsOptimised o p advisers before after spared r origins rounds → o.shrink ≡ true → NoneUnreached o r }
     ensures folded { (p r : Program) (origins : List (List Origin)) (h : Hierarchy) (o : Outside) (advisers spared rounds : ℕ) (before after : List Bool) → is_well_formed p ≡ true
         → IsResolved p h → IsAcyclic p → NoSplit p → TypesAll p h
-        → (done : IsOptimised o p advisers before after spared r origins rounds) → NoneKnown o done.admitted r ⊎ KeepsForms o done.admitted r }
+        → (done : IsOptimised o p advisers before after spared r origins rounds) → FoldsExactly o done.admitted r ⊎ KeepsForms o done.admitted r }
     ensures bound { (p r : Program) (origins : List (List Origin)) (h : Hierarchy) (o : Outside) (advisers spared rounds : ℕ) (before after : List Bool) → is_well_formed p ≡ true
         → IsResolved p h → IsAcyclic p → NoSplit p → TypesAll p h
         → (done : IsOptimised o p advisers before after spared r origins rounds) → NoneBindable o done.admitted r ⊎ KeepsForms o done.admitted r }
@@ -96,7 +96,7 @@ pub fn all_rules_inlined_law()
         → IsOptimisedInlined o p olds news before after spared r origins rounds → o.shrink ≡ true → NoneUnreached o r }
     ensures folded { (p r : Program) (origins : List (List Origin)) (h : Hierarchy) (o : Outside) (olds news : List Voice) (spared rounds : ℕ) (before after : List Bool) → is_well_formed p ≡ true
         → IsResolved p h → IsAcyclic p → NoSplit p → TypesAll p h
-        → (done : IsOptimisedInlined o p olds news before after spared r origins rounds) → NoneKnown o done.admitted r ⊎ KeepsForms o done.admitted r }
+        → (done : IsOptimisedInlined o p olds news before after spared r origins rounds) → FoldsExactly o done.admitted r ⊎ KeepsForms o done.admitted r }
     ensures bound { (p r : Program) (origins : List (List Origin)) (h : Hierarchy) (o : Outside) (olds news : List Voice) (spared rounds : ℕ) (before after : List Bool) → is_well_formed p ≡ true
         → IsResolved p h → IsAcyclic p → NoSplit p → TypesAll p h
         → (done : IsOptimisedInlined o p olds news before after spared r origins rounds) → NoneBindable o done.admitted r ⊎ KeepsForms o done.admitted r }

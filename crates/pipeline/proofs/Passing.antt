@@ -152,6 +152,11 @@ pub none_before : (a b r : Changes) → r.removed ≡ capped (a.removed + b.remo
     → r.renamed ≡ capped (a.renamed + b.renamed) → total_of r ≡ 0 → total_of a ≡ 0
 none_before a b r removed folded rebound reread renamed z = omega (arith, removed, folded, rebound, reread, renamed, z)
 
+-- and the others
+pub none_behind : (a b r : Changes) → r.removed ≡ capped (a.removed + b.removed) → r.folded ≡ capped (a.folded + b.folded) → r.rebound ≡ capped (a.rebound + b.rebound) → r.reread ≡ capped (a.reread + b.reread)
+    → r.renamed ≡ capped (a.renamed + b.renamed) → total_of r ≡ 0 → total_of b ≡ 0
+none_behind a b r removed folded rebound reread renamed z = omega (arith, removed, folded, rebound, reread, renamed, z)
+
 -- ---- passes that looked at some methods
 
 module _ (o : Outside) (marks admitted : List Bool) where

@@ -8,7 +8,7 @@ use Rattle.pipeline.specs.declared.traces.Changes.{Changes}
 use Rattle.pipeline.specs.declared.traces.Passed.{Passed}
 use Rattle.pipeline.specs.declared.traces.Traced.{Traced}
 use Rattle.pipeline.specs.Changes.{total_of}
-use Rattle.pipeline.specs.Passes.{Pass, values, bodies, repeated, round_of, passes, AreStill, HavePassed, HaveLooked, HaveRepeated}
+use Rattle.pipeline.specs.Passes.{Pass, ConstProp, values, bodies, repeated, round_of, round_by, passes, AreStill, HavePassed, HaveLooked, HaveRepeated}
 use Rattle.pipeline.proofs.Passing.{both_looked}
 
 -- ---- what is still
@@ -31,8 +31,13 @@ module _ (o : Outside) (admitted : List Bool) (p : Program) where
   still_bodies (suc n) h = still_bodies n (still_first (repeated n) bodies h)
 
   -- what passes leave the same that run again and again, each of them leaves the same once
-  pub still_once : (n : ℕ) → AreStill o admitted (round_of n) p → AreStill o admitted passes p
+  still_once : (n : ℕ) → AreStill o admitted (round_of n) p → AreStill o admitted passes p
   still_once n h = still_again values (repeated n) bodies h (still_bodies n)
+
+  -- also where constants were folded once more
+  pub still_round : (n : ℕ) (again : Bool) → AreStill o admitted (round_by n again) p → AreStill o admitted passes p
+  still_round n false h = still_once n h
+  still_round n true h = still_once n (still_first (round_of n) (ConstProp ∷ []) h)
 
 -- ---- looks
 

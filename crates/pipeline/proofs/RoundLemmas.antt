@@ -14,13 +14,13 @@ use Rattle.pipeline.specs.Asks.{Verdict}
 use Rattle.pipeline.specs.Changes.{total_of, rank_of, HasFewerCopies, IsNearer, IsPlainer, IsLess, Falls}
 use Rattle.pipeline.specs.Counts.{counted}
 use Rattle.pipeline.specs.Silence.{IsSilent, is_quiet, silenced_body, silenced_method, silenced_class, silenced}
-use Rattle.pipeline.specs.Passes.{passes, AreStill, IsRound}
+use Rattle.pipeline.specs.Passes.{passes, AreStill, IsExact, IsRound}
 use Rattle.pipeline.specs.Rounds.{Rounds, Ended, Next, Rounding, HaveRunFrom}
 use Rattle.pipeline.specs.declared.rounds.Outcome.{Outcome}
 use Rattle.pipeline.specs.declared.traces.Changes.{Changes}
 use Rattle.pipeline.specs.declared.traces.Passed.{Passed}
 use Rattle.pipeline.specs.declared.traces.Traced.{Traced}
-use Rattle.pipeline.proofs.Repeating.{still_once}
+use Rattle.pipeline.proofs.Repeating.{still_round}
 
 -- ---- all rounds
 
@@ -116,10 +116,10 @@ module _ (o : Outside) (admitted : List Bool) where
 
   more_rounds : (m n : ℕ) (t u v : Traced) → Rounds o admitted m t u → Rounds o admitted n u v → Rounds o admitted (m + n) t v
   more_rounds m n t u v (Ended x) others = subst (λ (k : ℕ). Rounds o admitted k x v) (omega arith) others
-  more_rounds m n t u v (Next k times x y z first less rest) others = subst (λ (j : ℕ). Rounds o admitted j x v) (omega arith) (Next (k + n) times x y v first less (more_rounds k n y z v rest others))
+  more_rounds m n t u v (Next k times again x y z first less rest) others = subst (λ (j : ℕ). Rounds o admitted j x v) (omega arith) (Next (k + n) times again x y v first less (more_rounds k n y z v rest others))
 
   one_round : (t : Traced) (r : Passed) → IsRound o admitted t r → 0 < total_of r.changes → Rounds o admitted 1 t r.traced
-  one_round t r h some = Next zero h.times t r.traced r.traced h.passed.steps (falls_less r.changes r.traced.program t.program h.passed.falls some) (Ended r.traced)
+  one_round t r h some = Next zero h.times h.again t r.traced r.traced h.passed.steps (falls_less r.changes r.traced.program t.program h.passed.falls some) (Ended r.traced)
 
   pub begun : (t : Traced) (r : Passed) → IsRound o admitted t r → Rounding o admitted t r 1
   begun t r one = record { before = t; changing = zero; rounds = Ended t; one = one; count_is = refl }
@@ -139,7 +139,8 @@ module _ (o : Outside) (admitted : List Bool) where
   ended t r n so none = record {
     changing = so.changing;
     rounds = subst (λ (x : Traced). Rounds o admitted so.changing t x) (sym (so.one.passed.same none)) so.rounds;
-    ends = subst (λ (x : Traced). AreStill o admitted passes x.program) (sym (so.one.passed.same none)) (still_once o admitted so.before.program so.one.times (so.one.passed.still none));
+    ends = subst (λ (x : Traced). AreStill o admitted passes x.program) (sym (so.one.passed.same none)) (still_round o admitted so.before.program so.one.times so.one.again (so.one.passed.still none));
+    exact = subst (λ (x : Traced). IsExact o admitted x.program) (sym (so.one.passed.same none)) (so.one.exact none);
     count_is = so.count_is;
   }
 

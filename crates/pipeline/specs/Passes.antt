@@ -19,6 +19,7 @@ use Rattle.verify.specs.Methods.{RefusesOne, TypesAll}
 use Rattle.verify.specs.declared.fault.TypeFault.TheVariants as fault
 use Rattle.facts.specs.declared.facts.Facts.{Facts}
 use Rattle.summaries.specs.Certified.{IsCertified}
+use Rattle.sharp_facts.specs.Sharp.{IsSharp}
 use Rattle.premises.specs.Numbers.{AllHaveWords}
 use Rattle.premises.specs.Makers.{MakersAreOwn}
 use Rattle.premises.specs.Plain.{ListsPlainly, lists_plainly}
@@ -75,6 +76,11 @@ round_of n = values ++ repeated n
 abbrev pub passes : List Pass
 passes = round_of zero
 
+-- A round at whose end, where nothing else was changed, constants are folded once more by facts that are sharp.
+abbrev pub round_by : ℕ → Bool → List Pass
+round_by n false = round_of n
+round_by n true = round_of n ++ ConstProp ∷ []
+
 -- ---- what each pass does to a well-formed program
 
 -- The rules let a removal be made, and marks that are closed under what the outside keeps, and are the least ones, leave this of a
@@ -129,6 +135,24 @@ pub data KeepsForms (o : Outside) (admitted : List Bool) (p : Program) : Type 0 
 pub record IsAnalysis (o : Outside) (admitted : List Bool) (p : Program) (found : Option Facts) : Type 0 where
   pub formed : IfSome found (λ f. is_well_formed p ≡ true)
   pub says : is_well_formed p ≡ true → MatchOption found (KeepsForms o admitted p) (AreKnown o p)
+
+-- The same where these facts are at or below each table of flat values that bounds the runs (`IsSharp`), as constants solutions do.
+pub record IsSharpAnalysis (o : Outside) (admitted : List Bool) (p : Program) (found : Option Facts) : Type 0 where
+  pub analysis : IsAnalysis o admitted p found
+  pub sharp : is_well_formed p ≡ true → IfSome found (IsSharp p o)
+
+-- Facts that are known and sharp leave nothing to write in admitted methods.
+pub record FoldsExactly (o : Outside) (admitted : List Bool) (p : Program) : Type 0 where
+  pub hierarchy : Hierarchy
+  pub resolved : IsResolved p hierarchy
+  pub facts : Facts
+  pub known : AreKnown o p facts
+  pub sharp : IsSharp p o facts
+  pub none_left : NoneLeft p hierarchy facts admitted
+
+-- So it is of a well-formed program, or there is a reason why nothing was written.
+abbrev pub IsExact : Outside → List Bool → Program → Type 0
+IsExact o admitted p = is_well_formed p ≡ true → FoldsExactly o admitted p ⊎ KeepsForms o admitted p
 
 -- What is known of instructions in admitted methods is written over them, or nothing changes. No position moves.
 pub record IsFolding (o : Outside) (admitted : List Bool) (p q : Program) (moved : List (List Origin)) : Type 0 where
@@ -287,7 +311,15 @@ pub record HaveRepeated (admitted : List Bool) (all : Bool) (t : Traced) (r : Pa
   pub times : ℕ
   pub looked : (o : Outside) → HaveLooked o admitted (repeated times) all t r
 
--- A round ran, in which the passes on bodies ran so many times again.
-pub record IsRound (o : Outside) (admitted : List Bool) (t : Traced) (r : Passed) : Type 0 where
+-- The passes of a round ran, those on bodies so many times again.
+pub record HaveAllPassed (o : Outside) (admitted : List Bool) (t : Traced) (r : Passed) : Type 0 where
   pub times : ℕ
   pub passed : HavePassed o admitted (round_of times) t r
+
+-- A round ran, in which the passes on bodies ran so many times again. Where it changed nothing, constants were folded once more at its
+-- end, by facts that are sharp, and these leave nothing to write.
+pub record IsRound (o : Outside) (admitted : List Bool) (t : Traced) (r : Passed) : Type 0 where
+  pub times : ℕ
+  pub again : Bool
+  pub passed : HavePassed o admitted (round_by times again) t r
+  pub exact : total_of r.changes ≡ 0 → IsExact o admitted t.program

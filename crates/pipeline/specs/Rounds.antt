@@ -12,14 +12,15 @@ use Rattle.pipeline.specs.declared.traces.Traced.{Traced}
 use Rattle.pipeline.specs.Advised.{IsAdvised}
 use Rattle.pipeline.specs.Changes.{IsLess}
 use Rattle.pipeline.specs.Counts.{counted}
-use Rattle.pipeline.specs.Passes.{passes, round_of, Steps, AreStill, IsRound}
+use Rattle.pipeline.specs.Passes.{passes, round_by, Steps, AreStill, IsExact, IsRound}
 use Rattle.pipeline.specs.Prepared.{IsPrepared}
 use Rattle.pipeline.specs.Silence.{IsSilent}
 
--- So many rounds, one after another, each of which leaves less. In each the passes on bodies run so many times again.
+-- So many rounds, one after another, each of which leaves less. In each the passes on bodies run so many times again, and constants may be
+-- folded once more at its end.
 pub data Rounds (o : Outside) (admitted : List Bool) : ℕ → Traced → Traced → Type 0 where
   Ended : (t : Traced) → Rounds o admitted zero t t
-  Next : (n times : ℕ) (t u v : Traced) → Steps o admitted (round_of times) t u → IsLess u.program t.program → Rounds o admitted n u v → Rounds o admitted (suc n) t v
+  Next : (n times : ℕ) (again : Bool) (t u v : Traced) → Steps o admitted (round_by times again) t u → IsLess u.program t.program → Rounds o admitted n u v → Rounds o admitted (suc n) t v
 
 -- Rounds ran from a program on, so many with the last one, which left this.
 pub record Rounding (o : Outside) (admitted : List Bool) (t : Traced) (r : Passed) (count : ℕ) : Type 0 where
@@ -33,12 +34,13 @@ pub record Rounding (o : Outside) (admitted : List Bool) (t : Traced) (r : Passe
 abbrev pub first_of : Program → Traced
 first_of p = record { program = p; origins = [] }
 
--- Rounds ran from this on until one changed nothing, so that each pass leaves what is left the same, and this is their count with
--- that one.
+-- Rounds ran from this on until one changed nothing, so that each pass leaves what is left the same, and sharp facts leave nothing to
+-- fold; and this is their count with that one.
 pub record HaveRunFrom (o : Outside) (admitted : List Bool) (first t : Traced) (count : ℕ) : Type 0 where
   pub changing : ℕ
   pub rounds : Rounds o admitted changing first t
   pub ends : AreStill o admitted passes t.program
+  pub exact : IsExact o admitted t.program
   pub count_is : count ≡ counted (suc changing)
 
 abbrev pub HaveRun : Outside → List Bool → Program → Traced → ℕ → Type 0

@@ -7,10 +7,11 @@ ghost use Rattle.hierarchy.specs.Shapes.{IsResolved};
 ghost use Rattle.verify.specs.Methods.{TypesAll};
 ghost use Rattle.premises.specs.Makers.{MakersAreOwn};
 ghost use Rattle.premises.specs.Plain.{ListsPlainly};
+ghost use Rattle.const_prop.specs.Folds.{NoneLeft};
 ghost use Rattle.compact.specs.Narrow.{has_narrow_classes};
 ghost use Rattle.pipeline.specs.Changes.{no_changes, total_of};
 ghost use Rattle.pipeline.specs.Graph.{IsGraph};
-ghost use Rattle.pipeline.specs.Passes.{Reach, ConstProp, Devirt, Staticise, QuietCalls, CopyProp, DeadCode, Squeeze, Compact, AreKnown, IsAnalysis, IsIllTyped, KeepsReads, HavePassed};
+ghost use Rattle.pipeline.specs.Passes.{Reach, ConstProp, Devirt, Staticise, QuietCalls, CopyProp, DeadCode, Squeeze, Compact, AreKnown, IsAnalysis, IsSharpAnalysis, IsExact, IsIllTyped, KeepsReads, HavePassed};
 
 use crate::graph::renew_graph;
 use crate::traces::{Changes, Passed, Traced, left_by};
@@ -18,6 +19,7 @@ use facts::Facts;
 use hierarchy::Hierarchy;
 use premises::{lists_plainly, makers_are_own, numbers_have_bits};
 use program_model::{Admitted, Outside, Program, well_formed};
+use sharp_facts::sharpened;
 use std::alloc::{AllocError, Global};
 use verify::{TypeFault, verify_all};
 
@@ -233,8 +235,10 @@ fn fold_known(
     facts: &Facts,
     admitted: &Admitted,
 ) -> Result<Passed, AllocError>
-    ensures { IsGraph traced.program (Some hierarchy.now) → (outside : Outside) → (is_well_formed traced.program ≡ true → AreKnown outside traced.program facts.now)
+    ensures passed { IsGraph traced.program (Some hierarchy.now) → (outside : Outside) → (is_well_formed traced.program ≡ true → AreKnown outside traced.program facts.now)
         → IfOk result (HavePassed outside admitted.now.methods.items (ConstProp ∷ []) traced) }
+    ensures none_left { IsGraph traced.program (Some hierarchy.now)
+        → IfOk result (λ passed. total_of passed.changes ≡ 0 → is_well_formed traced.program ≡ true → NoneLeft traced.program hierarchy.now facts.now admitted.now.methods.items) }
 {
     let changed = const_prop::apply(alloc, traced.program, hierarchy, facts, admitted)?;
     let _bits = numbers_have_bits(&changed.program);
@@ -250,8 +254,10 @@ fn fold_by(
     facts: &Option<Facts>,
     admitted: &Admitted,
 ) -> Result<Passed, AllocError>
-    ensures { IsGraph traced.program (Some hierarchy.now) → (outside : Outside) → IsAnalysis outside admitted.now.methods.items traced.program facts.now
+    ensures passed { IsGraph traced.program (Some hierarchy.now) → (outside : Outside) → IsAnalysis outside admitted.now.methods.items traced.program facts.now
         → IfOk result (HavePassed outside admitted.now.methods.items (ConstProp ∷ []) traced) }
+    ensures exact { IsGraph traced.program (Some hierarchy.now) → (outside : Outside) → IsSharpAnalysis outside admitted.now.methods.items traced.program facts.now
+        → IfOk result (λ passed. total_of passed.changes ≡ 0 → IsExact outside admitted.now.methods.items traced.program) }
 {
     match facts {
         Some(facts) => fold_known(alloc, traced, hierarchy, facts, admitted),
@@ -296,6 +302,82 @@ pub fn fold_constants(
 {
     let passed = fold_graphed(alloc, traced, graph, facts, admitted)?;
     with_facts(alloc, graph, facts, passed, outside, admitted)
+}
+
+/// The facts that are known of a program, if any are, made sharp.
+fn sharp_of(
+    alloc: Global,
+    program: &Program,
+    hierarchy: &Hierarchy,
+    facts: Option<Facts>,
+    outside: &Outside,
+) -> Result<Option<Facts>, AllocError>
+    ensures { (admitted : List Bool) → IsGraph program.now (Some hierarchy.now) → IsAnalysis outside.now admitted program.now facts
+        → IfOk result (IsSharpAnalysis outside.now admitted program.now) }
+{
+    match facts {
+        Some(facts) => {
+            let sharp = sharpened(alloc, program, hierarchy, outside, facts)?;
+            Ok(Some(sharp))
+        }
+        None => Ok(None),
+    }
+}
+
+/// Makes the facts that are known of a program, if any are, sharp. After want of memory, the only error, none are known.
+fn sharpen_facts(
+    alloc: Global,
+    program: &Program,
+    hierarchy: &Hierarchy,
+    facts: &mut Option<Facts>,
+    outside: &Outside,
+) -> Result<(), AllocError>
+    ensures { (admitted : List Bool) → IsGraph program.now (Some hierarchy.now) → IsAnalysis outside.now admitted program.now facts.old
+        → OnOk result (IsSharpAnalysis outside.now admitted program.now facts.new) }
+{
+    let known = facts.take();
+    let sharp = sharp_of(alloc, program, hierarchy, known, outside)?;
+    *facts = sharp;
+    Ok(())
+}
+
+/// Folds what facts say once they are sharp, by a program's hierarchy. Where that changes nothing, no constants solution says more.
+fn fold_sharply(
+    alloc: Global,
+    traced: Traced,
+    hierarchy: &Hierarchy,
+    facts: &mut Option<Facts>,
+    outside: &Outside,
+    admitted: &Admitted,
+) -> Result<Passed, AllocError>
+    ensures passed { IsGraph traced.program (Some hierarchy.now) → IsAnalysis outside.now admitted.now.methods.items traced.program facts.old
+        → IfOk result (HavePassed outside.now admitted.now.methods.items (ConstProp ∷ []) traced) }
+    ensures exact { IsGraph traced.program (Some hierarchy.now) → IsAnalysis outside.now admitted.now.methods.items traced.program facts.old
+        → IfOk result (λ passed. total_of passed.changes ≡ 0 → IsExact outside.now admitted.now.methods.items traced.program) }
+{
+    sharpen_facts(alloc, &traced.program, hierarchy, facts, outside)?;
+    fold_by(alloc, traced, hierarchy, facts, admitted)
+}
+
+/// Folds what facts of a program say once they are sharp, where its class graph has no fault: what is left of constants behind all
+/// other passes. The only error is want of memory, or what `sharpened` says.
+pub fn fold_exactly(
+    alloc: Global,
+    traced: Traced,
+    graph: &Option<Hierarchy>,
+    facts: &mut Option<Facts>,
+    outside: &Outside,
+    admitted: &Admitted,
+) -> Result<Passed, AllocError>
+    ensures passed { IsGraph traced.program graph.now → IsAnalysis outside.now admitted.now.methods.items traced.program facts.old
+        → IfOk result (HavePassed outside.now admitted.now.methods.items (ConstProp ∷ []) traced) }
+    ensures exact { IsGraph traced.program graph.now → IsAnalysis outside.now admitted.now.methods.items traced.program facts.old
+        → IfOk result (λ passed. total_of passed.changes ≡ 0 → IsExact outside.now admitted.now.methods.items traced.program) }
+{
+    match graph {
+        Some(hierarchy) => fold_sharply(alloc, traced, hierarchy, facts, outside, admitted),
+        None => Ok(unchanged(traced)),
+    }
 }
 
 /// Lets calls in admitted methods name what all their receivers find, by a program's hierarchy and facts. The only error is

@@ -10,7 +10,7 @@ ghost use Rattle.moves_law.specs.Measure.{moves_in};
 ghost use Rattle.pipeline.specs.Changes.{bulk_of, total_of};
 ghost use Rattle.pipeline.specs.Counts.{members_of, insns_of};
 ghost use Rattle.pipeline.specs.Graph.{IsGraph};
-ghost use Rattle.pipeline.specs.Passes.{ConstProp, Devirt, Staticise, QuietCalls, bodies, AreWithin, HaveLooked, HavePassed, HaveRepeated, IsAnalysis, IsRound};
+ghost use Rattle.pipeline.specs.Passes.{ConstProp, Devirt, Staticise, QuietCalls, bodies, AreWithin, HaveAllPassed, HaveLooked, HavePassed, HaveRepeated, IsAnalysis, IsRound};
 ghost use Rattle.pipeline.specs.Inlined.{InlinedBegins, IsOptimisedInlined};
 ghost use Rattle.pipeline.specs.Prepared.{IsAdvisedBy, IsPrepared, MayBegin};
 ghost use Rattle.pipeline.specs.Replies.{HaveTaken};
@@ -21,8 +21,8 @@ use crate::counts::{count_instructions, count_members};
 use crate::graph::{hierarchy_of, renew_graph};
 use crate::inlined::inline_sites;
 use crate::passes::{
-    clean_bodies, compact_bodies, facts_of, fold_constants, loosen_methods, propagate_copies,
-    quiet_calls, rebind_calls, remove_unreached, squeeze_bodies,
+    clean_bodies, compact_bodies, facts_of, fold_constants, fold_exactly, loosen_methods,
+    propagate_copies, quiet_calls, rebind_calls, remove_unreached, squeeze_bodies,
 };
 use crate::prints::changed_bodies;
 use crate::silent::silence;
@@ -164,6 +164,8 @@ fn value_passes_by(
         → IfOk result (HavePassed outside.now admitted.now.methods.items (ConstProp ∷ Devirt ∷ Staticise ∷ QuietCalls ∷ []) traced) }
     ensures graph { IsGraph traced.program graph.old → IsAnalysis outside.now admitted.now.methods.items traced.program facts.old
         → IfOk result (λ passed. IsGraph passed.traced.program graph.new) }
+    ensures facts { IsGraph traced.program graph.old → IsAnalysis outside.now admitted.now.methods.items traced.program facts.old
+        → IfOk result (λ passed. total_of passed.changes ≡ 0 → IsAnalysis outside.now admitted.now.methods.items traced.program facts.new) }
 {
     let folded = fold_constants(alloc, traced, graph, facts, outside, admitted)?;
     let rebound = rebind_calls(alloc, folded.traced, graph, facts, outside, admitted)?;
@@ -174,19 +176,24 @@ fn value_passes_by(
     Ok(and_then(loosened.changes, quieted))
 }
 
-/// The passes that take facts, each those of the program as it stands before it; the graph is then that of what is left.
+/// The passes that take facts, each those of the program as it stands before it; the graph is then that of what is left. Where they
+/// change nothing, the facts are those of the program.
 fn value_passes(
     alloc: Global,
     traced: Traced,
     graph: &mut Option<Hierarchy>,
+    facts: &mut Option<Facts>,
     outside: &Outside,
     admitted: &Admitted,
 ) -> Result<Passed, AllocError>
     ensures passed { IsGraph traced.program graph.old → IfOk result (HavePassed outside.now admitted.now.methods.items (ConstProp ∷ Devirt ∷ Staticise ∷ QuietCalls ∷ []) traced) }
     ensures graph { IsGraph traced.program graph.old → IfOk result (λ passed. IsGraph passed.traced.program graph.new) }
+    ensures facts { IsGraph traced.program graph.old
+        → IfOk result (λ passed. total_of passed.changes ≡ 0 → IsAnalysis outside.now admitted.now.methods.items traced.program facts.new) }
 {
-    let mut facts = facts_of(alloc, &traced.program, graph, outside, admitted)?;
-    value_passes_by(alloc, traced, graph, &mut facts, outside, admitted)
+    let found = facts_of(alloc, &traced.program, graph, outside, admitted)?;
+    *facts = found;
+    value_passes_by(alloc, traced, graph, facts, outside, admitted)
 }
 
 /// The passes on bodies that take no facts. Where they change nothing, the graph is that of what is left.
@@ -311,26 +318,66 @@ fn repeat_passes(
     Ok(left)
 }
 
-/// Each pass in its order, those on bodies again where they changed some, by the graph of the program as it stands before it.
+/// Each pass in its order, those on bodies again where they changed some. Where they change nothing, the facts are those of the program.
 fn all_passes(
     alloc: Global,
     traced: Traced,
     graph: &mut Option<Hierarchy>,
+    facts: &mut Option<Facts>,
     outside: &Outside,
     admitted: &Admitted,
     prints: &mut [u64],
 ) -> Result<Passed, AllocError>
-    ensures { IsGraph traced.program graph.old → IfOk result (IsRound outside.now admitted.now.methods.items traced) }
+    ensures passed { IsGraph traced.program graph.old → IfOk result (HaveAllPassed outside.now admitted.now.methods.items traced) }
+    ensures facts { IsGraph traced.program graph.old
+        → IfOk result (λ passed. total_of passed.changes ≡ 0 → IsAnalysis outside.now admitted.now.methods.items traced.program facts.new) }
 {
     let reached = remove_unreached(alloc, traced, graph, outside)?;
-    let valued = value_passes(alloc, reached.traced, graph, outside, admitted)?;
+    let valued = value_passes(alloc, reached.traced, graph, facts, outside, admitted)?;
     let valued = and_then(reached.changes, valued);
     let all = valued.changes.is_none();
     let left = repeat_passes(alloc, valued.traced, graph, prints, admitted, all)?;
     Ok(and_then(valued.changes, left))
 }
 
-/// A round, by a graph that it owns and lends to the passes.
+/// Folds constants once more behind passes that changed nothing, by facts of the program that are made sharp.
+fn fold_again(
+    alloc: Global,
+    left: Passed,
+    graph: &mut Option<Hierarchy>,
+    facts: &mut Option<Facts>,
+    outside: &Outside,
+    admitted: &Admitted,
+) -> Result<Passed, AllocError>
+    ensures { (t : Traced) → HaveAllPassed outside.now admitted.now.methods.items t left → total_of left.changes ≡ 0
+        → IsAnalysis outside.now admitted.now.methods.items t.program facts.old → IfOk result (IsRound outside.now admitted.now.methods.items t) }
+{
+    renew_graph(alloc, graph, &left.traced.program)?;
+    let folded = fold_exactly(alloc, left.traced, graph, facts, outside, admitted)?;
+    Ok(and_then(left.changes, folded))
+}
+
+/// A round, by a graph and facts that it is lent.
+fn lent_passes(
+    alloc: Global,
+    traced: Traced,
+    graph: &mut Option<Hierarchy>,
+    facts: &mut Option<Facts>,
+    outside: &Outside,
+    admitted: &Admitted,
+    prints: &mut [u64],
+) -> Result<Passed, AllocError>
+    ensures { IsGraph traced.program graph.old → IfOk result (IsRound outside.now admitted.now.methods.items traced) }
+{
+    let left = all_passes(alloc, traced, graph, facts, outside, admitted, prints)?;
+    if left.changes.is_none() {
+        fold_again(alloc, left, graph, facts, outside, admitted)
+    } else {
+        Ok(left)
+    }
+}
+
+/// A round, by a graph that it owns and lends to the passes, and facts that these fill in.
 fn owned_passes(
     alloc: Global,
     traced: Traced,
@@ -342,10 +389,14 @@ fn owned_passes(
     ensures { IsGraph traced.program graph → IfOk result (IsRound outside.now admitted.now.methods.items traced) }
 {
     let mut lent = graph;
-    all_passes(alloc, traced, &mut lent, outside, admitted, prints)
+    let mut facts: Option<Facts> = None;
+    lent_passes(
+        alloc, traced, &mut lent, &mut facts, outside, admitted, prints,
+    )
 }
 
-/// One round: each pass in its order, those on bodies again where they changed some.
+/// One round: each pass in its order, those on bodies again where they changed some. Where nothing was changed, constants are folded
+/// once more.
 fn round(
     alloc: Global,
     traced: Traced,

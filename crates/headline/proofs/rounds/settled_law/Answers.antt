@@ -1,11 +1,11 @@
-use Rattle.headline.proofs.Ends.{none_unreached, all_folded, all_bound, all_loosened, all_quiet, none_skipped, none_dead, all_fresh, all_packed}
+use Rattle.headline.proofs.Ends.{none_unreached, all_bound, all_loosened, all_quiet, none_skipped, none_dead, all_fresh, all_packed}
 use Rattle.headline.proofs.rounds.settled_law.Goals as goal
 
 pub returns-clause-reached : goal.returns-clause-reached
 returns-clause-reached c = λ o admitted p t count ran sound allowed. none_unreached o admitted t.program sound ran.ends allowed
 
 pub returns-clause-folded : goal.returns-clause-folded
-returns-clause-folded c = λ o admitted p t count ran sound. all_folded o admitted t.program sound ran.ends
+returns-clause-folded c = λ o admitted p t count ran sound. ran.exact sound.formed
 
 pub returns-clause-bound : goal.returns-clause-bound
 returns-clause-bound c = λ o admitted p t count ran sound. all_bound o admitted t.program sound ran.ends

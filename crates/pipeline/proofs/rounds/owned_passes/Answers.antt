@@ -1,4 +1,4 @@
 use Rattle.pipeline.proofs.rounds.owned_passes.Goals as goal
 
 pub returns : goal.returns
-returns c = c.all_passes.ensures
+returns c = c.lent_passes.ensures

@@ -1,0 +1,14 @@
+pub mod Answering
+pub mod Beginning
+pub mod Bounding
+pub mod Entering
+pub mod Finding
+pub mod Landing
+pub mod Linking
+pub mod Lists
+pub mod Needing
+pub mod Readying
+pub mod Results
+pub mod Rising
+pub mod Tabling
+pub mod Writing

@@ -1,0 +1,5 @@
+use Rattle.flat_search.proofs.Results.{on_any}
+use Rattle.flat_search.proofs.spread.Spread.enter.Goals as goal
+
+pub returns : goal.returns
+returns c = λ p live b h g. on_any c.rise.result (c.enter.ensures p live b h g)

@@ -1,0 +1,11 @@
+use Rattle.std.proofs.Common.{◌≡◌, List, Some, sym, ap, ◌∙◌}
+use Rattle.std.specs.Prelude.{slice_get}
+use Rattle.call_targets.specs.declared.table.Link.{Link}
+use Rattle.flat_search.proofs.Lists.{get_in}
+use Rattle.flat_search.proofs.spread.Spread.pass_place.Goals as goal
+
+pub returns-else-link-call : goal.returns-else-link-call
+returns-else-link-call c = λ b h u.
+    let links = c.args.k.now.targets.now.links.items in
+    let at : slice_get links c.args.place ≡ Some c.in-Some.link.now = ap (λ (xs : List Link). slice_get xs c.args.place) (sym c.as_slice.ensures.value) ∙ sym c.in-Some.ensures in
+    c.pass_link.ensures c.args.k.now.program.now c.args.k.now.live.now b u (h.grounded.targeted.only_links c.in-Some.link.now (get_in links c.args.place c.in-Some.link.now at))

@@ -1,0 +1,6 @@
+use Rattle.std.proofs.Common.{◌≡◌, ℕ, None}
+use Rattle.std.specs.Prelude.{slice_index_or}
+use Rattle.flat_search.proofs.tables.no_frames.Given as goal
+
+abbrev pub invariant-loop : goal.invariant-loop
+invariant-loop l = (n : ℕ) → slice_index_or l.frames.items n None ≡ None

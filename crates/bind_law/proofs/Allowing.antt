@@ -1,16 +1,13 @@
 -- What a caller may reach, and to what a call may go, by name is so by number.
 use Rattle.std.proofs.Common.{◌≡◌, ℕ, zero, suc, ◌*◌, ◌<◌, Bool, true, false, true≢false, nat_eq, List, [], ◌∷◌, length, Option, Some, None, refl, sym, ap, ◌∙◌, arith, eqb-true, eq-eqb}
 use Rattle.std.specs.Prelude.{◌&&◌, ◌||◌, ◌==◌, not, cond, if◌then◌else◌, is_some, slice_get, option_and_then}
-use Rattle.std.specs.Cmp.Lexicographic.{pointwise}
 use Rattle.std.specs.Int.RustNames.{bit_and}
 use Rattle.std.specs.Int.{bit_at}
 use Rattle.std.specs.List.{list_any}
-use Rattle.std.specs.Option.{option_map}
 use Rattle.std.proofs.lemmas.Nat.Bits.{and_pow, bit_at-lt}
 use Rattle.program_model.specs.MemberRules.{has_flag}
 use Rattle.program_model.specs.ProgramRules.{is_well_formed}
 use Rattle.program_model.specs.Texts.{type_text}
-use Rattle.program_model.specs.declared.body.Body.{Body}
 use Rattle.program_model.specs.declared.flags.Flags.{Flags}
 use Rattle.program_model.specs.declared.program.Class.{Class}
 use Rattle.program_model.specs.declared.program.Method.{Method}
@@ -26,8 +23,8 @@ use Rattle.dalvik_defs.specs.Find as find
 use Rattle.dalvik_defs.specs.Find.{Found, found_in, interface_named}
 use Rattle.dalvik_defs.specs.Flags.{has_bit}
 use Rattle.dalvik_defs.specs.Names.{Text, text_eq}
-use Rattle.dalvik_defs.specs.Naming.{body_of, method_at, named, named_class, named_method, type_at}
-use Rattle.dalvik_defs.specs.Under.{class_named, is_own_under}
+use Rattle.dalvik_defs.specs.Naming.{method_at, named, named_class, named_method, type_at}
+use Rattle.dalvik_defs.specs.Under.{is_own_under}
 use Rattle.dalvik_defs.specs.declared.program.NamedClass.{NamedClass}
 use Rattle.name_bridge.specs.Named.{found_at, found_of, found_there}
 use Rattle.name_bridge.proofs.Candidates.{coded_test}

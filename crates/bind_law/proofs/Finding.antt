@@ -1,5 +1,5 @@
 -- What a class of the program finds for a call by name it finds by number.
-use Rattle.std.proofs.Common.{◌≡◌, ℕ, ◌<◌, Bool, true, false, List, length, Option, Some, None, refl, sym, ap, ◌∙◌}
+use Rattle.std.proofs.Common.{◌≡◌, ℕ, Bool, true, false, Option, Some, None, refl, sym, ap, ◌∙◌}
 use Rattle.std.specs.Prelude.{cond, slice_get}
 use Rattle.lemmas.proofs.Options.{some_same}
 use Rattle.program_model.specs.Lookups.{class_place}
@@ -13,9 +13,9 @@ use Rattle.class_defs.specs.Finding as number
 use Rattle.class_defs.specs.Members.{own_virtual}
 use Rattle.class_defs.proofs.WellFormed.{Sound, sound}
 use Rattle.dalvik_defs.specs.Find as name
-use Rattle.dalvik_defs.specs.Find.{Found, found_in}
+use Rattle.dalvik_defs.specs.Find.{Found}
 use Rattle.dalvik_defs.specs.Names.{Text}
-use Rattle.dalvik_defs.specs.Naming.{method_at, named, named_class, named_method, type_at}
+use Rattle.dalvik_defs.specs.Naming.{method_at, named, type_at}
 use Rattle.dalvik_defs.specs.Under.{is_own_under}
 use Rattle.dalvik_defs.specs.declared.names.MethodKey.{MethodKey}
 use Rattle.dalvik_defs.specs.declared.program.NamedProgram.{NamedProgram}

@@ -3,7 +3,7 @@ use Rattle.std.proofs.Common.{◌≡◌, ℕ, zero, suc, Bool, true, false, true
 use Rattle.std.specs.Prelude.{if◌then◌else◌, is_some, find, slice_get}
 use Rattle.std.specs.List.{list_any}
 use Rattle.std.specs.Option.{option_map}
-use Rattle.lemmas.proofs.Options.{none_some, some_same}
+use Rattle.lemmas.proofs.Options.{none_some}
 use Rattle.program_model.specs.Lookups.{method_at}
 use Rattle.program_model.specs.ProgramRules.{is_well_formed}
 use Rattle.program_model.specs.declared.body.Body.{Body}
@@ -23,7 +23,7 @@ use Rattle.hierarchy.specs.declared.build.Hierarchy.{Hierarchy}
 use Rattle.pass_defs.specs.Kinds as name
 use Rattle.pass_defs.specs.Kinds.{class_or_reference, is_below, kind_eq, line_from, nearest}
 use Rattle.pass_defs.specs.Registers as by_name
-use Rattle.pass_defs.specs.Registers.{kinds_below, state_below}
+use Rattle.pass_defs.specs.Registers.{state_below}
 use Rattle.pass_defs.specs.Typed as typed
 use Rattle.type_bridge.specs.Views.{class_kind, kind_named, kinds_named, method_table}
 use Rattle.type_bridge.proofs.Frames.{at_named}
@@ -36,7 +36,6 @@ use Rattle.verify.specs.declared.kinds.Kind.TheVariants as kind
 use Rattle.verify.specs.declared.tables.Tables.{Tables}
 use Rattle.verify.specs.Flow.{place_at}
 use Rattle.verify.specs.Frames.{Kinds, kind_at}
-use Rattle.verify.specs.Joins.{joined}
 use Rattle.verify.specs.Methods.{TypesFor}
 use Rattle.verify.specs.Typings.{Below, Table, kind_before}
 use Rattle.verify.proofs.Ranks.{lattice_of}

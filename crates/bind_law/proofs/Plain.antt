@@ -1,7 +1,7 @@
 -- Where no class has an interface as its superclass, the kinds of classes in a least typing are those of classes that are no
 -- interfaces.
-use Rattle.std.proofs.Common.{◌≡◌, ℕ, zero, suc, ◌+◌, ◌-◌, Bool, true, false, true≢false, nat_eq, nat_lt, List, [], ◌∷◌, map, replicate, length, Option, Some, None, refl, sym, ap, ◌∙◌, subst}
-use Rattle.std.specs.Prelude.{◌&&◌, ◌||◌, ◌++◌, not, cond, if◌then◌else◌, All, Contains, ℤ, pos, slice_get, slice_index_or, slice_set}
+use Rattle.std.proofs.Common.{◌≡◌, ℕ, zero, suc, ◌+◌, ◌-◌, Bool, true, false, nat_eq, nat_lt, List, [], ◌∷◌, map, replicate, Option, Some, None, refl, sym, ap, ◌∙◌, subst}
+use Rattle.std.specs.Prelude.{◌&&◌, ◌||◌, ◌++◌, not, cond, if◌then◌else◌, All, Contains, ℤ, pos, slice_get, slice_set}
 use Rattle.std.specs.List.{list_all}
 use Rattle.std.specs.Ordering.{int_eq}
 use Rattle.std.proofs.lemmas.List.Elements.{All-nil, All-cons, All-weaker, All-contains_itself}
@@ -39,21 +39,18 @@ use Rattle.verify.specs.declared.shapes.Shape.{Shape}
 use Rattle.verify.specs.declared.shapes.Shape.TheVariants as shape
 use Rattle.verify.specs.declared.tables.Tables.{Tables}
 use Rattle.verify.specs.declared.typed.Verifier.{Verifier}
-use Rattle.verify.specs.After.{after, called, called_by, begun_call, constant_kind, constructed, got, got_object, moved, receiver_register}
-use Rattle.verify.specs.Building.{class_above}
+use Rattle.verify.specs.After.{after, called_by, begun_call, constant_kind, constructed, got, got_object, moved, receiver_register}
 use Rattle.verify.specs.Chains.{above, above_or, nearest}
 use Rattle.verify.specs.Descriptors.{base_shape, brackets, class_named, is_plain_class, item_number, plain_at, shape_named, shape_of_text, shape_of_unit, short, without_brackets}
 use Rattle.verify.specs.Entry.{begun, begun_from, begun_with, behind_parameter, put_parameter}
-use Rattle.verify.specs.Faults.{fault_of}
 use Rattle.verify.specs.Flow.{form_after, next_of, place_at, raised, raised_all, raised_kinds, rank}
 use Rattle.verify.specs.Frames.{Kinds, cleared, forget, kind_at, replace, split, written, written_kinds, written_one, written_pair}
 use Rattle.verify.specs.Joins.{class_or_reference, is_flat, joined, joined_arrays, joined_deep, joined_items, joined_null, joined_references, nearest_item}
 use Rattle.verify.specs.Kinds.{forgotten, is_initialised, is_number, number_kind, replaced, same_kind}
-use Rattle.verify.specs.Meeting.{IsMeeting}
-use Rattle.verify.specs.Methods.{HasTyping, IsFor, TypesFor, constructs, receiver_of}
+use Rattle.verify.specs.Methods.{HasTyping, TypesFor, constructs, receiver_of}
 use Rattle.verify.specs.Names.{field_kind, parameters_of, result_of}
 use Rattle.verify.specs.Types.{cast_kind, is_constructor, item_shape, kind_of, kind_of_class, kind_of_item, kind_of_shape, reference_kind, shape_in}
-use Rattle.verify.specs.Typings.{Below, IsLattice, IsMonotone, Table, catch_rest, catches, catches_in, kind_before, kind_in, onward, place_covering, region_at}
+use Rattle.verify.specs.Typings.{IsLattice, Table, catch_rest, catches, catches_in, kind_before, kind_in, onward, place_covering, region_at}
 use Rattle.verify.proofs.Chained as chained
 use Rattle.verify.proofs.Entries.{begun_long}
 use Rattle.verify.proofs.Leaving.{monotone}

@@ -1,8 +1,7 @@
 -- A class that stands under a type by name does so by number.
 use Rattle.std.proofs.Common.{◌≡◌, inl, inr, ℕ, zero, suc, ◌<◌, Bool, true, false, true≢false, nat_eq, List, [], ◌∷◌, length, map, Option, Some, None, refl, sym, ap, ◌∙◌, subst, arith}
 use Rattle.std.specs.Prelude.{◌&&◌, ◌||◌, slice_get, option_and_then}
-use Rattle.std.specs.List.{list_all, list_any, range_with_len}
-use Rattle.std.specs.Option.{option_map}
+use Rattle.std.specs.List.{list_any, range_with_len}
 use Rattle.lemmas.proofs.Bools.{and_both}
 use Rattle.lemmas.proofs.Lists.{got_short}
 use Rattle.lemmas.proofs.Options.{none_some}
@@ -17,8 +16,8 @@ use Rattle.class_defs.proofs.Positions.{number_test}
 use Rattle.class_defs.proofs.WellFormed.{Sound, below, class_parts, sound}
 use Rattle.dalvik_defs.proofs.Calm.{text_sound}
 use Rattle.dalvik_defs.specs.Names.{Text, text_eq}
-use Rattle.dalvik_defs.specs.Naming.{named, named_class, type_at}
-use Rattle.dalvik_defs.specs.Under.{class_named, is_own_under, own_above, walks}
+use Rattle.dalvik_defs.specs.Naming.{named, type_at}
+use Rattle.dalvik_defs.specs.Under.{is_own_under, own_above, walks}
 use Rattle.dalvik_defs.specs.declared.program.NamedClass.{NamedClass}
 use Rattle.hierarchy.specs.Climbing.{In}
 use Rattle.hierarchy.specs.Ranks.{IsRanked}

@@ -1,6 +1,6 @@
 -- Places of lists and tables of kinds, by number and by name.
 use Rattle.std.proofs.Common.{◌≡◌, ℕ, zero, suc, Bool, true, false, true≢false, List, [], ◌∷◌, map, Option, Some, None, refl, sym, ap, ◌∙◌}
-use Rattle.std.specs.Prelude.{◌&&◌, cond, find, slice_get, slice_index_or}
+use Rattle.std.specs.Prelude.{◌&&◌, cond, find, slice_get}
 use Rattle.lemmas.proofs.Bools.{and_left, and_right}
 use Rattle.lemmas.proofs.Options.{none_some, some_same}
 use Rattle.dalvik_defs.specs.declared.program.NamedProgram.{NamedProgram}

@@ -1,16 +1,14 @@
 -- A call that is bindable by name is so by number.
-use Rattle.std.proofs.Common.{◌≡◌, ℕ, ◌+◌, ◌<◌, ◌^◌, Bool, true, false, true≢false, nat_eq, List, [], ◌∷◌, length, Option, Some, None, refl, sym, ap, ◌∙◌, subst, arith}
-use Rattle.std.specs.Prelude.{◌&&◌, is_some, min, slice_get, slice_index_or, Contains, option_and_then}
-use Rattle.std.specs.Option.{option_map}
+use Rattle.std.proofs.Common.{◌≡◌, ℕ, ◌<◌, Bool, true, false, true≢false, nat_eq, List, ◌∷◌, length, Option, Some, None, refl, sym, ap, ◌∙◌, subst, arith}
+use Rattle.std.specs.Prelude.{◌&&◌, is_some, min, slice_get, slice_index_or, option_and_then}
 use Rattle.std.proofs.Math.Nat.{min-eq_left}
 use Rattle.std.specs.Cmp.Lexicographic.{bytes_decides, pointwise_decides}
 use Rattle.lemmas.proofs.Bools.{and_both, untrue}
 use Rattle.lemmas.proofs.Lists.{get_map, got_short, map_long}
-use Rattle.lemmas.proofs.Options.{before_map, none_some, some_same}
+use Rattle.lemmas.proofs.Options.{before_map, some_same}
 use Rattle.insn_set.specs.declared.ops.InvokeKind.{InvokeKind}
 use Rattle.insn_set.specs.declared.ops.InvokeKind.TheVariants as call
 use Rattle.insn_set.specs.declared.form.Insn.{Insn}
-use Rattle.insn_set.specs.declared.form.Insn.TheVariants as insn
 use Rattle.program_model.specs.Lookups as look
 use Rattle.program_model.specs.OperandRules.{numbers_fit}
 use Rattle.program_model.specs.ProgramRules.{is_well_formed}
@@ -33,14 +31,11 @@ use Rattle.dalvik_defs.specs.declared.forms.Form.{Form}
 use Rattle.dalvik_defs.specs.declared.forms.Form.TheVariants as form
 use Rattle.dalvik_defs.specs.declared.names.MethodKey.{MethodKey}
 use Rattle.dalvik_defs.specs.declared.program.NamedBody.{NamedBody}
-use Rattle.dalvik_defs.specs.declared.program.NamedClass.{NamedClass}
-use Rattle.dalvik_defs.specs.declared.program.NamedMethod.{NamedMethod}
 use Rattle.facts_kept.proofs.Few.{few_members}
 use Rattle.facts.specs.declared.facts.Facts.{Facts}
 use Rattle.hierarchy.specs.Ranks.{IsRanked}
 use Rattle.hierarchy.specs.Shapes.{IsResolved}
 use Rattle.hierarchy.specs.declared.build.Hierarchy.{Hierarchy}
-use Rattle.name_bridge.specs.Named.{found_at}
 use Rattle.name_bridge.proofs.Candidates.{coded_test}
 use Rattle.name_bridge.proofs.Found.{FoundParts, found_parts, looked_up}
 use Rattle.name_bridge.proofs.Resolved.{key_of}

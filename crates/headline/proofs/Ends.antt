@@ -30,6 +30,7 @@ use Rattle.copy_prop.specs.Propagated.{IsPropagatedProgram}
 use Rattle.bodies_kept.specs.CopyBridged.{AllFresh}
 use Rattle.bodies_kept.proofs.CopySettled.{program_settled as copies_settled}
 use Rattle.type_bridge.proofs.Refused.{refused_program}
+use Rattle.bind_law.proofs.Unbinding.{none_bindable}
 use Rattle.pipeline.specs.Passes.{Removes, IsBarred, IsRemoval, KeepsForms, Rebinds, IsRebinding, Loosens, IsLoosening, Quiets, IsQuieting, Propagates, KeepsReads, NoneStale, Wide, Faulty, IllTyped, IsPropagation, Thins, IsCleaning, IsCompaction, passes, AreStill}
 use Rattle.headline.specs.Ended.{NoneBindable, NoneLoosable, NoneQuiet, NoneUnreached}
 use Rattle.headline.specs.Owed.{IsSound}
@@ -106,7 +107,14 @@ module _ (o : Outside) (admitted : List Bool) (p : Program) (sound : IsSound p) 
   all_bound = let h : IsRebinding o admitted p p [] = still.1.1.0 sound.formed in by h.rebinding
     where
       by : Rebinds o admitted p p ⊎ ((p ≡ p) × KeepsForms o admitted p) → NoneBindable o admitted p ⊎ KeepsForms o admitted p
-      by (inl r) = inl (record { hierarchy = r.hierarchy; resolved = r.resolved; facts = r.facts; known = r.known; none_left = r.none_left refl })
+      by (inl r) = inl (record {
+        hierarchy = r.hierarchy;
+        resolved = r.resolved;
+        facts = r.facts;
+        known = r.known;
+        none_left = r.none_left refl;
+        unbindable = λ straight. none_bindable p r.hierarchy r.facts admitted sound.formed r.resolved (r.none_left refl straight);
+      })
       by (inr none) = inr none.1
 
   -- and such facts let no method be static

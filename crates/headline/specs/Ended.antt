@@ -14,19 +14,21 @@ use Rattle.call_graph.specs.Tables.{AreTables}
 use Rattle.facts.specs.declared.facts.Facts.{Facts}
 use Rattle.receivers.specs.Receiving.{is_straight}
 use Rattle.devirt.specs.Left.{NoneLeft as NoCallLeft}
+use Rattle.bind_law.specs.Bound.{NoneBindable as NoneBindableByName}
 use Rattle.staticise.specs.Left.{NoneLeft as NoneLoose}
 use Rattle.quiet_methods.specs.Quiet.{AreQuiet}
 use Rattle.quiet_code.specs.Quieted.{NoneIdle}
 use Rattle.pipeline.specs.Passes.{AreKnown}
 
--- Facts that are known of the program, and the kinds of receivers, leave no call in these bodies to name another method. (`is_straight`: the lists of
--- interfaces name interfaces alone.)
+-- Facts that are known of the program, and the kinds of receivers, leave no call in these bodies to name another method, and so no call is
+-- bindable by name by the kind of a class that is no interface. (`is_straight`: the lists of interfaces name interfaces alone.)
 pub record NoneBindable (o : Outside) (admitted : List Bool) (p : Program) : Type 0 where
   pub hierarchy : Hierarchy
   pub resolved : IsResolved p hierarchy
   pub facts : Facts
   pub known : AreKnown o p facts
   pub none_left : is_straight p ≡ true → NoCallLeft p hierarchy facts admitted
+  pub unbindable : is_straight p ≡ true → NoneBindableByName p admitted
 
 -- Such facts let no method do without its receiver, of those for whose new protos the tables have room.
 pub record NoneLoosable (o : Outside) (admitted : List Bool) (p : Program) : Type 0 where

@@ -1,0 +1,10 @@
+pub mod Circles
+pub mod Divisors
+pub mod Ways
+pub mod Small
+pub mod Places
+pub mod Forms
+pub mod Family
+pub mod Within
+pub mod Dropped
+pub mod Spare

@@ -1,0 +1,8 @@
+use Rattle.flat_bridge.proofs.Given.{asked_of}
+use Rattle.drop_law.proofs.Spare.{not_spare}
+use Rattle.drop_law.proofs.Within.{under_solutions}
+use Rattle.drop_law.proofs.laws.spare_law.Goals as goal
+
+pub returns : goal.returns
+returns call = λ p o t quiet admitted given under left k j c m b is_class is_method may coded n d.
+    not_spare p o (asked_of p o given) t quiet (under_solutions p o t given under) admitted left k j c m b is_class is_method may coded n d

@@ -1,15 +1,15 @@
 -- What is wished for a body with dead positions is right, and loses nothing that is seen.
-use Rattle.std.proofs.Common.{◌≡◌, ◌↔◌, ◌⊎◌, inl, inr, ℕ, zero, suc, ◌+◌, ◌<◌, ◌≤◌, Bool, true, false, true≢false, if◌then◌else◌, not, ◌&&◌, ◌||◌, List, [], ◌∷◌, ◌++◌, length, map, Option, Some, None, slice_get, Contains, refl, sym, ap, ◌∙◌, subst, arith, lt-ltb, ltb-true, eq-eqb}
+use Rattle.std.proofs.Common.{◌≡◌, ◌⊎◌, inl, inr, ℕ, zero, suc, ◌+◌, ◌<◌, ◌≤◌, Bool, true, false, true≢false, not, ◌||◌, List, [], ◌∷◌, length, map, Option, Some, None, slice_get, Contains, refl, sym, ap, ◌∙◌, subst, arith, lt-ltb, ltb-true, eq-eqb}
 use Rattle.std.specs.Prelude.{nat_eq, nat_le, nat_lt, filter}
 use Rattle.std.specs.List.{list_any}
 use Rattle.std.specs.Option.{option_map}
-use Rattle.std.proofs.lemmas.Bool.{eqb-true, leb-true, cases_lt, le-ltb}
+use Rattle.std.proofs.lemmas.Bool.{leb-true, cases_lt, le-ltb}
 use Rattle.std.proofs.lemmas.List.{length-map}
 use Rattle.lemmas.proofs.Bools.{and_right, clash}
 use Rattle.lemmas.proofs.Lists.{contains_here, contains_there}
 use Rattle.lemmas.proofs.Numbers.{next_is}
-use Rattle.insn_set.specs.Flow.{goes_on, targets_of}
-use Rattle.insn_set.specs.Registers.{reads_of, writes_of}
+use Rattle.insn_set.specs.Flow.{goes_on}
+use Rattle.insn_set.specs.Registers.{writes_of}
 use Rattle.insn_set.specs.declared.form.Insn.{Insn}
 use Rattle.insn_set.specs.declared.form.Insn.TheVariants as insn
 use Rattle.insn_set.specs.declared.ops.Slot.{Slot}
@@ -17,7 +17,6 @@ use Rattle.program_model.specs.BodyRules.{has_result, handles_at, body_fits}
 use Rattle.program_model.specs.ProgramRules.{is_well_formed}
 use Rattle.program_model.specs.RegionRules.{may_begin, rest_fits}
 use Rattle.program_model.specs.declared.body.Body.{Body}
-use Rattle.program_model.specs.declared.body.Handler.{Handler}
 use Rattle.program_model.specs.declared.body.Region.{Region}
 use Rattle.program_model.specs.declared.program.Program.{Program}
 use Rattle.class_defs.specs.ClassGraph.{IsTwice}
@@ -36,26 +35,24 @@ use Rattle.pass_defs.specs.Typed.{Table, IsTyping}
 use Rattle.pass_defs.specs.Walks.{form_at}
 use Rattle.pass_defs.specs.Walks as named
 use Rattle.body_edit.specs.declared.fate.Fate.{Fate}
-use Rattle.body_edit.specs.declared.fate.Fate.TheVariants.{Stays, Empties, Goes}
+use Rattle.body_edit.specs.declared.fate.Fate.TheVariants.{Stays}
 use Rattle.flow_cfg.specs.Walks.{successors_of}
 use Rattle.walk_marks.specs.Walks.{is_on}
-use Rattle.body_graph.specs.Walks.{IsRead, IsReadAfter}
+use Rattle.body_graph.specs.Walks as numbered
 use Rattle.body_graph.proofs.Members.{get_inside, get_some}
 use Rattle.body_graph.proofs.Links.{step_on, step_caught}
-use Rattle.live_regs.specs.Live.{is_live}
-use Rattle.program_laws.proofs.ChangedLists.{and_left, and_both}
+use Rattle.program_laws.proofs.ChangedLists.{and_left}
 use Rattle.thin_laws.specs.Squeezing.{IsSkipped, Nop}
-use Rattle.thin_laws.specs.Cleaning.{IsDropped, Unread, IsCleaning}
+use Rattle.thin_laws.specs.Cleaning.{IsDemanded, IsLost, Unasked, IsCleaning}
 use Rattle.thin_laws.specs.Squeezed.{IsTransitive, SqueezesMarked, squeezed_table}
 use Rattle.thin_laws.proofs.SqueezedTypes.{squeezed_typing}
-use Rattle.thin_pass.specs.Wishing.{wish_at, goes, is_to_go, is_held}
+use Rattle.thin_pass.specs.Wishing.{wish_at, goes, is_held}
 use Rattle.thin_laws.specs.Tidy.{IsTidy}
 use Rattle.thin_laws.proofs.Rules.{follows_at, next_there, target_there, caught_at, covers_at, may_begin_at, rest_of}
 use Rattle.removal_bridge.proofs.WalkedForms.{same_reads, same_writes, same_onward, same_caught, form_there}
-use Rattle.removal_bridge.proofs.Walked.{read_by_number, read_after_by_number}
-use Rattle.dead_code.specs.Dead.{is_pure, is_quiet_field, IsDead}
-use Rattle.dead_code.specs.Wishes.{begins, wish_for, AreCleaned}
-use Rattle.bodies_kept.specs.Right.{fates_by, PassesOn, On, Next, StillCatches, AreRight}
+use Rattle.dead_code.specs.Dead.{is_pure, is_quiet_field, IsNeeded, IsIdle}
+use Rattle.dead_code.specs.Wishes.{wish_for, AreCleaned}
+use Rattle.bodies_kept.specs.Right.{fates_by, PassesOn, On, StillCatches, AreRight}
 use Rattle.bodies_kept.proofs.Chosen.{Chosen, long, chosen_at, insn_there, lost_by, stays_by}
 use Rattle.bodies_kept.proofs.Tidying.{tidy}
 use Rattle.bodies_kept.proofs.Inside.{step_of, step_inside, falls_on, some_position, named_inside}
@@ -127,13 +124,13 @@ module _ (p : Program) (fit : is_well_formed p ≡ true) (twice : (class : ℕ) 
   wish_is n i e = s.are.each n i e
 
   -- what is lost is dead
-  dead_at : (n : ℕ) (i : Insn) → slice_get b.insns n ≡ Some i → is_on s.dead n ≡ true → IsDead quiet b n
-  dead_at n i e d = (s.are_dead.each n (get_inside b.insns n i e)).0 d
+  dead_at : (n : ℕ) (i : Insn) → slice_get b.insns n ≡ Some i → is_on s.dead n ≡ true → IsIdle quiet b s.dead n
+  dead_at n i e d = s.are_dead.closed n (get_inside b.insns n i e) d
 
   lost_dead : (n : ℕ) (i : Insn) → slice_get b.insns n ≡ Some i → (wish_at ws n ≡ Stays → ⊥) → is_on s.dead n ≡ true
   lost_dead n i e w = dead_if (is_on s.dead n) (is_on s.firsts n) (λ h. w (wish_is n i e ∙ h))
 
-  same_form : (n : ℕ) (i : Insn) → slice_get b.insns n ≡ Some i → (d : IsDead quiet b n) → d.form ≡ i
+  same_form : (n : ℕ) (i : Insn) → slice_get b.insns n ≡ Some i → (d : IsIdle quiet b s.dead n) → d.form ≡ i
   same_form n i e d = let z : ◌≡◌ {A = Option Insn} (Some d.form) (Some i) = sym d.has_form ∙ e in cc
 
   pure_at : (n : ℕ) (i : Insn) → slice_get b.insns n ≡ Some i → is_on s.dead n ≡ true → is_pure quiet i ≡ true
@@ -207,14 +204,54 @@ module _ (p : Program) (fit : is_well_formed p ≡ true) (twice : (class : ℕ) 
   pure_form : (n : ℕ) (x : Form) → form_at (body_of p b) n ≡ Some x → is_on s.dead n ≡ true → pure.is_pure (named p) x ≡ true
   pure_form n x e d = let i = insn_for n x e in subst (λ (y : Form). pure.is_pure (named p) y ≡ true) i.1.1 (pure_named p fit twice i.0 (pure_at n i.0 i.1.0 d))
 
-  dropped : (n : ℕ) (x : Form) (f : Meant) → form_at (body_of p b) n ≡ Some x → slice_get fs n ≡ Some f → stays f ≡ false → IsDropped (named p) (body_of p b) fs n x
+  -- a position that stays is not dead
+  stays_alive : (n : ℕ) → slice_get fs n ≡ Some MeantStays → is_on s.dead n ≡ false
+  stays_alive n h =
+      let i = insn_there b.insns ws n MeantStays h in
+      by i.0 i.1.0 (is_on s.dead n) refl i.1.1
+    where
+      by : (i : Insn) → slice_get b.insns n ≡ Some i → (z : Bool) → is_on s.dead n ≡ z → Chosen b.insns ws n i MeantStays → z ≡ false
+      by i e false on a = refl
+      by i e true on a =
+          let k = dead_at n i e on in
+          let not_nop : (i ≡ insn.Nop → ⊥) = λ g. true≢false (sym k.writes_it ∙ ap (λ (j : Insn). writes_of j k.register) (same_form n i e k ∙ g)) in
+          let w : wish_at ws n ≡ Stays = stays_by (wish_at ws n) (is_held b.insns ws a.start n) i not_nop (sym a.is_it) in
+          absurd (true≢false (sym on ∙ stays_if (is_on s.dead n) (is_on s.firsts n) (sym (wish_is n i e) ∙ w)))
+
+  -- ---- reads, by name and by number
+
+  read_to : (r n k : ℕ) → named.IsReadAt (body_of p b) r n k → numbered.IsReadAt b r n k
+  read_to r n k (named.Here m f e h) = let w = insn_for n f e in numbered.Here n w.0 w.1.0 (sym (same_reads p w.0 r) ∙ ap (λ (g : Form). reads g r) w.1.1 ∙ h)
+  read_to r n k (named.Onward m l j f e h c rest) =
+      let w = insn_for n f e in
+      numbered.Onward n l k w.0 w.1.0 (sym (same_writes p w.0 r) ∙ ap (λ (g : Form). writes g r) w.1.1 ∙ h)
+      (subst (λ (l' : List ℕ). Contains l' l) (ap (λ (g : Form). named.onward g n) (sym w.1.1) ∙ same_onward p w.0 n) c) (read_to r l k rest)
+  read_to r n k (named.Caught m l j f e c rest) =
+      let w = insn_for n f e in
+      numbered.Caught n l k w.0 w.1.0 (subst (λ (l' : List ℕ). Contains l' l) (ap (λ (g : Form). named.caught (body_of p b) g n) (sym w.1.1) ∙ same_caught p b w.0 n) c) (read_to r l k rest)
+
+  form_for : (n : ℕ) (i : Insn) → slice_get b.insns n ≡ Some i → form_at (body_of p b) n ≡ Some (form_of p i)
+  form_for n i e = form_there p b n ∙ ap (option_map (form_of p)) e
+
+  read_from : (r n k : ℕ) → numbered.IsReadAt b r n k → named.IsReadAt (body_of p b) r n k
+  read_from r n k (numbered.Here m i e h) = named.Here n (form_of p i) (form_for n i e) (same_reads p i r ∙ h)
+  read_from r n k (numbered.Onward m l j i e h c rest) =
+      named.Onward n l k (form_of p i) (form_for n i e) (same_writes p i r ∙ h) (subst (λ (l' : List ℕ). Contains l' l) (sym (same_onward p i n)) c) (read_from r l k rest)
+  read_from r n k (numbered.Caught m l j i e c rest) =
+      named.Caught n l k (form_of p i) (form_for n i e) (subst (λ (l' : List ℕ). Contains l' l) (sym (same_caught p b i n)) c) (read_from r l k rest)
+
+  -- what a position reads that stays is needed
+  demanded : (n r : ℕ) → IsDemanded fs (body_of p b) n r → IsNeeded b s.dead n r
+  demanded n r a = record { reader = a.reader; read = read_to r n a.reader a.read; unmarked = stays_alive a.reader a.left }
+
+  dropped : (n : ℕ) (x : Form) (f : Meant) → form_at (body_of p b) n ≡ Some x → slice_get fs n ≡ Some f → stays f ≡ false → IsLost (named p) (body_of p b) fs n x
   dropped n x f e h st =
       let i = insn_for n x e in
       let a = chosen_at b.insns ws n i.0 f i.1.0 h in
       let on = lost_dead n i.0 i.1.0 (lost_by (wish_at ws n) (is_held b.insns ws a.start n) i.0 (sym (ap stays a.is_it) ∙ st)) in
       let d = dead_at n i.0 i.1.0 on in
-      subst (IsDropped (named p) (body_of p b) fs n) i.1.1 (Unread (form_of p i.0) (pure_named p fit twice i.0 (pure_at n i.0 i.1.0 on)) (fine_of p quiet i.0 (pure_at n i.0 i.1.0 on))
-      (λ r w after. d.unread r (ap (λ (j : Insn). writes_of j r) (same_form n i.0 i.1.0 d) ∙ sym (same_writes p i.0 r) ∙ w) ((read_after_by_number p b r n).0 after)))
+      subst (IsLost (named p) (body_of p b) fs n) i.1.1 (Unasked (form_of p i.0) (pure_named p fit twice i.0 (pure_at n i.0 i.1.0 on)) (fine_of p quiet i.0 (pure_at n i.0 i.1.0 on))
+      (λ r w after. d.unneeded r (ap (λ (j : Insn). writes_of j r) (same_form n i.0 i.1.0 d) ∙ sym (same_writes p i.0 r) ∙ w) (demanded (n + 1) r after)))
 
   pub cleaned_cleaning : IsCleaning (named p) fs (body_of p b)
   cleaned_cleaning = record {
@@ -226,12 +263,12 @@ module _ (p : Program) (fit : is_well_formed p ≡ true) (twice : (class : ℕ) 
   -- ---- what is live
 
   abbrev live : ℕ → ℕ → Bool
-  live n r = not (nat_lt r b.registers) || is_live s.are_dead.live n r
+  live n r = not (nat_lt r b.registers) || s.are_dead.needed n r
 
   abbrev dead : ℕ → Bool
   dead n = is_on s.dead n
 
-  live_of : (n r : ℕ) → (r < b.registers → IsRead b r n) → live n r ≡ true
+  live_of : (n r : ℕ) → (r < b.registers → IsNeeded b s.dead n r) → live n r ≡ true
   live_of n r h = by (cases_lt r b.registers)
     where
       or_right : (a c : Bool) → c ≡ true → (a || c) ≡ true
@@ -239,17 +276,17 @@ module _ (p : Program) (fit : is_well_formed p ≡ true) (twice : (class : ℕ) 
       or_right false c e = e
 
       by : (r < b.registers) ⊎ (b.registers ≤ r) → live n r ≡ true
-      by (inl l) = or_right (not (nat_lt r b.registers)) (is_live s.are_dead.live n r) ((s.are_dead.live_is n r l).1 (h l))
-      by (inr l) = ap (λ z. not z || is_live s.are_dead.live n r) (le-ltb r b.registers l)
+      by (inl l) = or_right (not (nat_lt r b.registers)) (s.are_dead.needed n r) ((s.are_dead.needed_is n r l).1 (h l))
+      by (inr l) = ap (λ z. not z || s.are_dead.needed n r) (le-ltb r b.registers l)
 
-  read_of : (n r : ℕ) → r < b.registers → live n r ≡ true → IsRead b r n
-  read_of n r l e = (s.are_dead.live_is n r l).0 (sym (ap (λ z. not z || is_live s.are_dead.live n r) (lt-ltb r b.registers l)) ∙ e)
+  need_of : (n r : ℕ) → r < b.registers → live n r ≡ true → IsNeeded b s.dead n r
+  need_of n r l e = (s.are_dead.needed_is n r l).0 (sym (ap (λ z. not z || s.are_dead.needed n r) (lt-ltb r b.registers l)) ∙ e)
 
   hides : Hides (named p) live dead (body_of p b)
   hides = record {
-    read = λ n f r e j. live_of n r (λ l. (read_by_number p b r n).0 (n, named.Here n f e j));
-    on = λ n q f r e c i w. live_of n r (λ l. let k = (read_by_number p b r q).1 (read_of q r l i) in (read_by_number p b r n).0 (k.0, named.Onward n q k.0 f e w c k.1));
-    thrown = λ n q f r e c i. live_of n r (λ l. let k = (read_by_number p b r q).1 (read_of q r l i) in (read_by_number p b r n).0 (k.0, named.Caught n q k.0 f e c k.1));
+    read = λ n f r e alive j. live_of n r (λ l. record { reader = n; read = read_to r n n (named.Here n f e j); unmarked = alive });
+    on = λ n q f r e c i w. live_of n r (λ l. let k = need_of q r l i in record { reader = k.reader; read = read_to r n k.reader (named.Onward n q k.reader f e w c (read_from r q k.reader k.read)); unmarked = k.unmarked });
+    thrown = λ n q f r e c i. live_of n r (λ l. let k = need_of q r l i in record { reader = k.reader; read = read_to r n k.reader (named.Caught n q k.reader f e c (read_from r q k.reader k.read)); unmarked = k.unmarked });
     pure = λ n f e d. pure_form n f e d;
     unread = unread;
   }
@@ -259,9 +296,7 @@ module _ (p : Program) (fit : is_well_formed p ≡ true) (twice : (class : ℕ) 
           let i = insn_for n f e in
           let d = dead_at n i.0 i.1.0 on in
           let writes_it : writes_of d.form r ≡ true = ap (λ (j : Insn). writes_of j r) (same_form n i.0 i.1.0 d) ∙ sym (same_writes p i.0 r) ∙ ap (λ (y : Form). writes y r) i.1.1 ∙ w in
-          let inside = d.inside r writes_it in
-          let next : Contains (successors_of b n) (n + 1) = subst (λ (k : ℕ). Contains (successors_of b n) k) (sym (next_is n)) (falls_on b n i.0 i.1.0 (pure_goes_on quiet i.0 (pure_at n i.0 i.1.0 on))) in
-          by (live (n + 1) r) refl (λ z. d.unread r writes_it (n + 1, next, read_of (n + 1) r inside z))
+          by (live (n + 1) r) refl (λ z. d.unneeded r writes_it (need_of (n + 1) r (d.inside r writes_it) z))
         where
           by : (z : Bool) → live (n + 1) r ≡ z → (live (n + 1) r ≡ true → ⊥) → live (n + 1) r ≡ false
           by false h gone = h
@@ -271,20 +306,6 @@ module _ (p : Program) (fit : is_well_formed p ≡ true) (twice : (class : ℕ) 
 
   abbrev d : NamedBody
   d = emptied dead (body_of p b)
-
-  -- a position that stays is not dead
-  stays_alive : (n : ℕ) → slice_get fs n ≡ Some MeantStays → dead n ≡ false
-  stays_alive n h =
-      let i = insn_there b.insns ws n MeantStays h in
-      by i.0 i.1.0 (dead n) refl i.1.1
-    where
-      by : (i : Insn) → slice_get b.insns n ≡ Some i → (z : Bool) → dead n ≡ z → Chosen b.insns ws n i MeantStays → z ≡ false
-      by i e false on a = refl
-      by i e true on a =
-          let k = dead_at n i e on in
-          let not_nop : (i ≡ insn.Nop → ⊥) = λ g. true≢false (sym k.writes_it ∙ ap (λ (j : Insn). writes_of j k.register) (same_form n i e k ∙ g)) in
-          let w : wish_at ws n ≡ Stays = stays_by (wish_at ws n) (is_held b.insns ws a.start n) i not_nop (sym a.is_it) in
-          absurd (true≢false (sym on ∙ stays_if (is_on s.dead n) (is_on s.firsts n) (sym (wish_is n i e) ∙ w)))
 
   same_left : (at : ℕ → ℕ) (gs : List Meant) (xs : List Form) (marks : ℕ → Bool) → ((n : ℕ) → slice_get gs n ≡ Some MeantStays → marks n ≡ false) → forms_left at gs (emptied_forms marks xs) ≡ forms_left at gs xs
   same_left at gs [] marks h = refl

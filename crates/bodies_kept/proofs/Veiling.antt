@@ -191,8 +191,8 @@ module _ (p : NamedProgram) (c : NamedClass) (m : NamedMethod) (b : NamedBody) (
         (λ r i. veil_at (live n) a.registers r (used r i)) al
     form_allowed f used al ri = held_allowed f used tt al ri
 
-    veil_allowed : is_allowed p c m v f ≡ true
-    veil_allowed = form_allowed f (λ o i. h.read n f o x i) allowed right
+    veil_allowed : dead n ≡ false → is_allowed p c m v f ≡ true
+    veil_allowed alive = form_allowed f (λ o i. h.read n f o x alive i) allowed right
 
     wrong_same : (f : Form) → is_wrong p c m v f ≡ is_wrong p c m a f
     wrong_same form.Nop = refl
@@ -200,8 +200,8 @@ module _ (p : NamedProgram) (c : NamedClass) (m : NamedMethod) (b : NamedBody) (
 
     -- ---- edges of a form that stays
 
-    after_veil : (q : ℕ) → Contains (onward f n) q → arrives p t (q, after p c n f a) ≡ true → arrives p u (q, after p c n f v) ≡ true
-    after_veil q i e = let s = after_same p c m n Live_here (λ r. live q r ≡ true) a v start f (λ r j. h.read n f r x j) (λ r j w. h.on n q f r x i j w) allowed right in
+    after_veil : dead n ≡ false → (q : ℕ) → Contains (onward f n) q → arrives p t (q, after p c n f a) ≡ true → arrives p u (q, after p c n f v) ≡ true
+    after_veil alive q i e = let s = after_same p c m n Live_here (λ r. live q r ≡ true) a v start f (λ r j. h.read n f r x alive j) (λ r j w. h.on n q f r x i j w) allowed right in
         arrive q (after p c n f a) (after p c n f v) s.registers.long (λ r j. inl (s.registers.same r j)) s.result s.caught s.receiver e
 
     caught_veil : (q : ℕ) (k : Kind) → Contains (caught b f n) q → arrives p t (q, record a { caught = k }) ≡ true → arrives p u (q, record v { caught = k }) ≡ true
@@ -234,10 +234,10 @@ module _ (p : NamedProgram) (c : NamedClass) (m : NamedMethod) (b : NamedBody) (
     catches_veil false e i = refl
     catches_veil true e i = region_veil (region_at b n) (λ q j. subst (λ z. Contains (elim z as (λ z. List ℕ) [ true ↦ handlers_at b n | false ↦ [] ]) q) (sym e) j) i
 
-    stays_edges : list_all (arrives p u) (edges p c d n f v) ≡ true
-    stays_edges = all_append (arrives p u) (map (λ q. (q, after p c n f v)) (onward f n)) (map (λ z. (z.0, record v { caught = z.1 })) (catches p d n f))
+    stays_edges : dead n ≡ false → list_all (arrives p u) (edges p c d n f v) ≡ true
+    stays_edges alive = all_append (arrives p u) (map (λ q. (q, after p c n f v)) (onward f n)) (map (λ z. (z.0, record v { caught = z.1 })) (catches p d n f))
         (all_map (arrives p u) (λ q. (q, after p c n f v)) (onward f n)
-        ∙ all_with (λ q. arrives p t (q, after p c n f a)) (λ q. arrives p u (q, after p c n f v)) (onward f n) after_veil onward_arrives)
+        ∙ all_with (λ q. arrives p t (q, after p c n f a)) (λ q. arrives p u (q, after p c n f v)) (onward f n) (after_veil alive) onward_arrives)
         (all_map (arrives p u) (λ (z : ℕ × Kind). (z.0, record v { caught = z.1 })) (catches p d n f) ∙ catches_veil (may_throw f) refl caught_arrives)
 
     -- ---- edges of a nop in a dead position's place
@@ -269,7 +269,7 @@ module _ (p : NamedProgram) (c : NamedClass) (m : NamedMethod) (b : NamedBody) (
   form_there : (n : ℕ) → form_at d n ≡ option_map (or_nop (dead n)) (form_at b n)
   form_there n = emptied_at dead b.forms n
 
-  module _ (test : ℕ → Form → Kinds → Bool) (stays : (n : ℕ) (f : Form) (a : Kinds) → form_at b n ≡ Some f → state_at t n ≡ Some a → test n f (veiled (live n) a) ≡ true)
+  module _ (test : ℕ → Form → Kinds → Bool) (stays : (n : ℕ) (f : Form) (a : Kinds) → form_at b n ≡ Some f → state_at t n ≡ Some a → dead n ≡ false → test n f (veiled (live n) a) ≡ true)
       (gone : (n : ℕ) (f : Form) (a : Kinds) → form_at b n ≡ Some f → state_at t n ≡ Some a → dead n ≡ true → test n form.Nop (veiled (live n) a) ≡ true) where
     each_state : (n : ℕ) → at_state d u (test n) n ≡ true
     each_state n = at_form (form_at b n) refl
@@ -277,7 +277,7 @@ module _ (p : NamedProgram) (c : NamedClass) (m : NamedMethod) (b : NamedBody) (
         at_kinds : (f : Form) → form_at b n ≡ Some f → (z : Bool) → dead n ≡ z → (o : Option Kinds) → state_at t n ≡ o → (elim (option_map (veiled (live n)) o) as (λ s. Bool) [ Some a ↦ test n (or_nop z f) a | None ↦ true ]) ≡ true
         at_kinds f x z i None e = refl
         at_kinds f x true i (Some a) e = gone n f a x e i
-        at_kinds f x false i (Some a) e = stays n f a x e
+        at_kinds f x false i (Some a) e = stays n f a x e i
 
         at_form : (o : Option Form) → form_at b n ≡ o → at_state d u (test n) n ≡ true
         at_form None x = ap (λ o. elim o as (λ o. Bool) [ Some f ↦ elim (state_at u n) as (λ s. Bool) [ Some a ↦ test n f a | None ↦ true ] | None ↦ true ]) (form_there n ∙ ap (option_map (or_nop (dead n))) x)
@@ -292,6 +292,6 @@ module _ (p : NamedProgram) (c : NamedClass) (m : NamedMethod) (b : NamedBody) (
     long = veiled_long live t ∙ typing.long ∙ sym (emptied_long dead b.forms);
     entry = entered;
     reads = each_all (length d.forms) (at_state d u (λ f a. is_allowed p c m a f)) (each_state (λ n f a. is_allowed p c m a f) veil_allowed (λ n f a x y e. refl));
-    right = each_all (length d.forms) (at_state d u (λ f a. not (is_wrong p c m a f))) (each_state (λ n f a. not (is_wrong p c m a f)) (λ n f a x y. ap not (wrong_same n f a x y f ∙ right n f a x y)) (λ n f a x y e. refl));
+    right = each_all (length d.forms) (at_state d u (λ f a. not (is_wrong p c m a f))) (each_state (λ n f a. not (is_wrong p c m a f)) (λ n f a x y alive. ap not (wrong_same n f a x y f ∙ right n f a x y)) (λ n f a x y e. refl));
     edges = each_all (length d.forms) (λ n. at_state d u (λ f a. list_all (arrives p u) (edges p c d n f a)) n) (each_state (λ n f a. list_all (arrives p u) (edges p c d n f a)) stays_edges dead_edges);
   }

@@ -35,10 +35,10 @@ emptied_forms dead (f ∷ fs) = or_nop (dead 0) f ∷ emptied_forms (λ n. dead 
 abbrev pub emptied : (ℕ → Bool) → NamedBody → NamedBody
 emptied dead b = record b { forms = emptied_forms dead b.forms }
 
--- What is read is live, and what is live later and not written is live. A dead position has a pure form, and what it writes isn't
--- live behind it.
+-- What a position reads that isn't dead is live, and what is live later and not written is live. A dead position has a pure form,
+-- and what it writes isn't live behind it. What it reads needn't be live.
 pub record Hides (p : NamedProgram) (live : ℕ → ℕ → Bool) (dead : ℕ → Bool) (b : NamedBody) : Type 0 where
-  pub read : (n : ℕ) (f : Form) (r : ℕ) → form_at b n ≡ Some f → reads f r ≡ true → live n r ≡ true
+  pub read : (n : ℕ) (f : Form) (r : ℕ) → form_at b n ≡ Some f → dead n ≡ false → reads f r ≡ true → live n r ≡ true
   pub on : (n q : ℕ) (f : Form) (r : ℕ) → form_at b n ≡ Some f → Contains (onward f n) q → live q r ≡ true → writes f r ≡ false → live n r ≡ true
   pub thrown : (n q : ℕ) (f : Form) (r : ℕ) → form_at b n ≡ Some f → Contains (caught b f n) q → live q r ≡ true → live n r ≡ true
   pub pure : (n : ℕ) (f : Form) → form_at b n ≡ Some f → dead n ≡ true → is_pure p f ≡ true

@@ -1,5 +1,5 @@
 -- What is marked dead is dead, and the other way round.
-use Rattle.std.proofs.Common.{◌≡◌, ◌↔◌, ◌⊎◌, inl, inr, ℕ, suc, ◌+◌, ◌<◌, if◌then◌else◌, Bool, true, false, not, ◌&&◌, ◌||◌, List, [], ◌∷◌, ◌++◌, length, Option, Some, None, slice_get, nat_eq, nat_lt, Contains, refl, sym, ap, ◌∙◌, subst, arith, lt-ltb, ltb-true}
+use Rattle.std.proofs.Common.{◌≡◌, ◌↔◌, ◌⊎◌, inl, inr, ℕ, zero, suc, ◌+◌, ◌<◌, if◌then◌else◌, Bool, true, false, not, ◌&&◌, ◌||◌, List, [], ◌∷◌, ◌++◌, length, Option, Some, None, slice_get, nat_eq, nat_lt, Contains, refl, sym, ap, ◌∙◌, subst, arith, lt-ltb, ltb-true}
 use Rattle.std.specs.List.{list_any}
 use Rattle.std.proofs.lemmas.Bool.{cases_lt, false≢true, and_parts, and_from, or_cases, or_left, or_right, not-true, not_from_false, false_from_ne_true, eqb-true, eq-eqb}
 use Rattle.std.proofs.lemmas.List.{length_push, get_or_push, get_or_append_left}
@@ -17,15 +17,15 @@ use Rattle.body_graph.proofs.Links.{step_insn, step_on, step_caught, caught_of}
 use Rattle.body_graph.proofs.Members.{none, first, there, split}
 use Rattle.live_regs.specs.Live.{is_live}
 use Rattle.live_regs.specs.declared.table.Live.{Live}
-use Rattle.dead_code.specs.Dead.{is_pure, IsDead, AreDead, written_of, is_live_caught, is_live_after, unread_by, unread_if, dead_by, dead_at, LiveAs}
+use Rattle.dead_code.specs.Dead.{is_pure, IsDead, AreUnread, AreDead, written_of, is_live_caught, is_live_after, unread_by, unread_if, dead_by, dead_at, LiveAs}
 
 -- ---- what a form writes
 
-abbrev writes_by : Option (ℕ × Bool) → ℕ → Bool
+abbrev pub writes_by : Option (ℕ × Bool) → ℕ → Bool
 writes_by None r = false
 writes_by (Some w) r = in_operand w.1 w.0 r
 
-writes_is : (i : Insn) (r : ℕ) → writes_of i r ≡ writes_by (written_of i) r
+pub writes_is : (i : Insn) (r : ℕ) → writes_of i r ≡ writes_by (written_of i) r
 writes_is (insn.Move slot to from) r = refl
 writes_is (insn.MoveResult slot to) r = refl
 writes_is (insn.MoveException to) r = refl
@@ -46,7 +46,7 @@ writes_is (insn.Binary op to a b) r = refl
 writes_is (insn.Literal op to a value) r = refl
 writes_is i r = refl
 
-first_in : (wide : Bool) (to : ℕ) → in_operand wide to to ≡ true
+pub first_in : (wide : Bool) (to : ℕ) → in_operand wide to to ≡ true
 first_in false to = eq-eqb to to refl
 first_in true to = or_left (nat_eq to to) (nat_eq to (to + 1)) (eq-eqb to to refl)
 
@@ -72,7 +72,7 @@ any_to p (n ∷ ns) m c h = elim (split n ns m c) [
 -- ---- what a walk goes to
 
 -- a pure form goes on to the next position
-pure_onward : (quiet : ℕ → Bool) (i : Insn) (n : ℕ) → is_pure quiet i ≡ true → onward i n ≡ (n + 1) ∷ []
+pub pure_onward : (quiet : ℕ → Bool) (i : Insn) (n : ℕ) → is_pure quiet i ≡ true → onward i n ≡ (n + 1) ∷ []
 pure_onward quiet insn.Nop n h = refl
 pure_onward quiet (insn.Move slot to from) n h = refl
 pure_onward quiet (insn.MoveResult slot to) n h = refl
@@ -148,7 +148,7 @@ pub record Unread (behind : ℕ → Bool) (registers r : ℕ) : Type 0 where
   pub inside : r < registers
   pub dead : behind r ≡ false
 
-unread_of : (behind : ℕ → Bool) (registers to : ℕ) (wide : Bool) → unread_by behind registers to wide ≡ true → (r : ℕ) → in_operand wide to r ≡ true → Unread behind registers r
+pub unread_of : (behind : ℕ → Bool) (registers to : ℕ) (wide : Bool) → unread_by behind registers to wide ≡ true → (r : ℕ) → in_operand wide to r ≡ true → Unread behind registers r
 unread_of behind registers to false h r at =
     let both = and_parts (nat_lt to registers) (not (behind to)) h in
     let same : r ≡ to = eqb-true r to at in
@@ -164,7 +164,7 @@ unread_of behind registers to true h r at =
           subst (Unread behind registers) (sym same) (record { inside = low; dead = not-true (behind (to + 1)) both.1 }))
     ]
 
-unread_to : (behind : ℕ → Bool) (registers to : ℕ) (wide : Bool) → ((r : ℕ) → in_operand wide to r ≡ true → Unread behind registers r) → unread_by behind registers to wide ≡ true
+pub unread_to : (behind : ℕ → Bool) (registers to : ℕ) (wide : Bool) → ((r : ℕ) → in_operand wide to r ≡ true → Unread behind registers r) → unread_by behind registers to wide ≡ true
 unread_to behind registers to false h =
     let u = h to (first_in false to) in
     and_from (nat_lt to registers) (not (behind to)) (lt-ltb to registers u.inside) (not_from_false (behind to) u.dead)
@@ -251,7 +251,7 @@ upto_more quiet b live upto k marks marks' m s place e f = record {
   ];
 }
 
-pub upto_all : (quiet : ℕ → Bool) (b : Body) (live : Live) (upto : ℕ) (marks : List Bool) → LiveAs b live → upto ≡ length b.insns → DeadUpto quiet b live upto marks → AreDead quiet b marks
+pub upto_all : (quiet : ℕ → Bool) (b : Body) (live : Live) (upto : ℕ) (marks : List Bool) → LiveAs b live → upto ≡ length b.insns → DeadUpto quiet b live upto marks → AreUnread quiet b marks
 upto_all quiet b live upto marks as' all s = record {
   live = live;
   live_is = as';
@@ -261,3 +261,26 @@ upto_all quiet b live upto marks as' all s = record {
       let d = dead_is quiet b live as' n in
       ((λ on. d.0 (sym same ∙ on)), (λ x. same ∙ d.1 x)));
 }
+
+-- ---- where none is marked
+
+none_of : (marks : List Bool) → list_any (λ m. m) marks ≡ false → (n : ℕ) → is_on marks n ≡ false
+none_of [] e n = refl
+none_of (true ∷ marks) e n = absurd (false≢true (sym e))
+none_of (false ∷ marks) e zero = refl
+none_of (false ∷ marks) e (suc n) = none_of marks e n
+
+pub none_dead : (quiet : ℕ → Bool) (b : Body) (marks : List Bool) → list_any (λ m. m) marks ≡ false → AreUnread quiet b marks → AreDead quiet b marks
+none_dead quiet b marks none s = record {
+  needed = λ n r. is_live s.live n r;
+  needed_is = λ n r lt. (
+    (λ on. let w = (s.live_is n r lt).0 on in record { reader = w.0; read = w.1; unmarked = off w.0 }),
+    (λ k. (s.live_is n r lt).1 (k.reader, k.read)),
+  );
+  long = s.long;
+  closed = λ n lt on. absurd (false≢true (sym (off n) ∙ on));
+  complete = λ n lt d. (s.each n lt).1 d;
+}
+  where
+    off : (n : ℕ) → is_on marks n ≡ false
+    off n = none_of marks none n

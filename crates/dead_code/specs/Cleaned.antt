@@ -8,7 +8,7 @@ use Rattle.thin_pass.specs.Plans.{IsThinnedBy}
 use Rattle.dead_code.specs.Dead.{AreQuiet}
 use Rattle.dead_code.specs.Wishes.{AreCleaned, NoneDead}
 
--- The dead positions of the admitted bodies are gone or are nops, where gets of the fields are pure that the hierarchy says.
+-- The dead positions of the admitted bodies, and what computes for such positions alone, are gone or are nops, where gets of the fields are pure that the hierarchy says.
 -- Where nothing is counted there was none.
 pub record IsCleaned (h : Hierarchy) (admitted : List Bool) (p : Program) (c : Changed) : Type 0 where
   pub quiet : List Bool

@@ -1,4 +1,4 @@
--- Which positions of a body compute what nobody reads, by number (Dalvik bytecode, "Summary of bytecode set"; this
+-- Which positions of a body compute for nothing, by number (Dalvik bytecode, "Summary of bytecode set"; this
 -- project's profile).
 use Rattle.std.specs.Prelude.{◌≡◌, ◌↔◌, ℕ, ◌+◌, ◌<◌, Bool, true, false, ◌&&◌, not, nat_lt, List, length, Option, Some, None, slice_get, slice_index_or}
 use Rattle.insn_set.specs.Widths.{is_wide_slot, is_wide_item, unary_writes_wide, binary_is_wide}
@@ -12,7 +12,7 @@ use Rattle.class_defs.specs.Starts.{is_trivial}
 use Rattle.hierarchy.specs.Tables.{answer}
 use Rattle.hierarchy.specs.declared.build.Hierarchy.{Hierarchy}
 use Rattle.walk_marks.specs.Walks.{is_on}
-use Rattle.body_graph.specs.Walks.{insn_at, IsRead, IsReadAfter}
+use Rattle.body_graph.specs.Walks.{insn_at, IsRead, IsReadAt, IsReadAfter}
 use Rattle.live_regs.specs.Live.{is_live}
 use Rattle.live_regs.specs.declared.table.Live.{Live}
 pub use Rattle.criteria.specs.Pure.{is_pure}
@@ -54,8 +54,36 @@ pub record IsDead (quiet : ℕ → Bool) (b : Body) (n : ℕ) : Type 0 where
 abbrev pub LiveAs : Body → Live → Type 0
 LiveAs b live = (n r : ℕ) → r < b.registers → (is_live live n r ≡ true) ↔ IsRead b r n
 
--- exactly the dead positions are marked, by what is live
+-- ---- positions that go together
+
+-- some walk from a position reads the register before it is written, and reads it at a position that isn't marked
+pub record IsNeeded (b : Body) (marks : List Bool) (n r : ℕ) : Type 0 where
+  pub reader : ℕ
+  pub read : IsReadAt b r n reader
+  pub unmarked : is_on marks reader ≡ false
+
+-- A pure form that writes a register, and what it writes is read at marked positions alone, before that is written. What it
+-- writes are registers of the body. What is pure goes on to the next position.
+pub record IsIdle (quiet : ℕ → Bool) (b : Body) (marks : List Bool) (n : ℕ) : Type 0 where
+  pub form : Insn
+  pub has_form : insn_at b n ≡ Some form
+  pub pure : is_pure quiet form ≡ true
+  pub register : ℕ
+  pub writes_it : writes_of form register ≡ true
+  pub inside : (r : ℕ) → writes_of form r ≡ true → r < b.registers
+  pub unneeded : (r : ℕ) → writes_of form r ≡ true → IsNeeded b marks (n + 1) r → ⊥
+
+-- The marked positions compute for nothing, each for itself or for other marked ones, and each dead position is marked. So whole
+-- chains are marked, whose first links compute for the last one, which nobody reads.
 pub record AreDead (quiet : ℕ → Bool) (b : Body) (marks : List Bool) : Type 0 where
+  pub needed : ℕ → ℕ → Bool
+  pub needed_is : (n r : ℕ) → r < b.registers → (needed n r ≡ true) ↔ IsNeeded b marks n r
+  pub long : length marks ≡ length b.insns
+  pub closed : (n : ℕ) → n < length b.insns → is_on marks n ≡ true → IsIdle quiet b marks n
+  pub complete : (n : ℕ) → n < length b.insns → IsDead quiet b n → is_on marks n ≡ true
+
+-- exactly the dead positions are marked, by what is live
+pub record AreUnread (quiet : ℕ → Bool) (b : Body) (marks : List Bool) : Type 0 where
   pub live : Live
   pub live_is : LiveAs b live
   pub long : length marks ≡ length b.insns

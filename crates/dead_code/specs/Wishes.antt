@@ -1,4 +1,4 @@
--- What a body without its dead positions is to be: a dead position goes, or becomes a nop where a region begins with it. So
+-- What a body without its dead positions is to be: a position that computes for nothing goes, or becomes a nop where a region begins with it. So
 -- no region comes to cover nothing, whose handler would be left without one.
 use Rattle.std.specs.Prelude.{◌≡◌, ℕ, ◌<◌, Bool, true, false, nat_eq, List, length, Some, Contains, slice_index_or}
 use Rattle.std.specs.List.{list_any}

@@ -31,7 +31,7 @@ impl Thinning for Cleaning {
     }
 }
 
-/// Takes the dead positions out of the admitted bodies of a program, in place. Where a branch would lead to itself without
+/// Takes the dead positions out of the admitted bodies of a program, in place, and with them what computes for them alone. Where a branch would lead to itself without
 /// them, the last one becomes a nop, and so does one with which a region begins. All else stays, and lines and origins
 /// follow. `count` is how many positions went or became nops, 0 exactly where the program is the same: then none is dead. A
 /// program that isn't the same weighs less: a nop weighs 1 and every other instruction 2. The hierarchy is that of the

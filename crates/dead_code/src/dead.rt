@@ -1,9 +1,11 @@
-//! Which positions are dead.
+//! Which positions compute for nothing.
 
 ghost use Rattle.std.specs.Prelude.{◌≡◌, ◌+◌, ◌<◌, ◌^◌, length, slice_get, IfOk};
 ghost use Rattle.walk_marks.specs.Walks.{is_on};
-ghost use Rattle.dead_code.specs.Dead.{AreDead, is_live_after, unread_by, dead_by, dead_at};
+ghost use Rattle.std.specs.List.{list_any};
+ghost use Rattle.dead_code.specs.Dead.{AreDead, AreUnread, is_live_after, unread_by, dead_by, dead_at};
 
+use crate::needs::unneeded;
 use crate::written::written;
 use body_graph::covers_of;
 use criteria::is_pure;
@@ -57,10 +59,10 @@ fn is_dead_at(quiet: &[bool], live: &Live, body: &Body, position: u32, region: u
     }
 }
 
-/// Which positions of a body are dead, where gets of the marked static fields are pure. The only error is want of memory.
-pub fn dead_positions(alloc: Global, quiet: &[bool], body: &Body) -> Result<Vec<bool>, AllocError>
+/// Which positions of a body are dead.
+fn unread_positions(alloc: Global, quiet: &[bool], body: &Body) -> Result<Vec<bool>, AllocError>
     requires { length body.now.insns + length body.now.regions < 2 ^ 32 }
-    ensures { IfOk result (λ v. AreDead (is_on quiet.now) body.now v.items) }
+    ensures { IfOk result (λ v. AreUnread (is_on quiet.now) body.now v.items) }
 {
     let live = live(alloc, body)?;
     let covers = covers_of(alloc, body)?;
@@ -68,6 +70,26 @@ pub fn dead_positions(alloc: Global, quiet: &[bool], body: &Body) -> Result<Vec<
     for position in 0..body.insns.len() {
         let region = covers[position];
         dead.push(is_dead_at(quiet, &live, body, position as u32, region))?;
+    }
+    Ok(dead)
+}
+
+/// Whether some position is marked.
+fn any_marked(marks: &[bool]) -> bool
+    ensures { result ≡ list_any (λ m. m) marks.now }
+{
+    marks.iter().any(|mark| *mark)
+}
+
+/// The positions of a body that compute for nothing, where gets of the marked static fields are pure: each dead one, and what
+/// computes for such positions alone. Where no position is dead, none is marked. The only error is want of memory.
+pub fn dead_positions(alloc: Global, quiet: &[bool], body: &Body) -> Result<Vec<bool>, AllocError>
+    requires { length body.now.insns + length body.now.regions < 2 ^ 32 }
+    ensures { IfOk result (λ v. AreDead (is_on quiet.now) body.now v.items) }
+{
+    let dead = unread_positions(alloc, quiet, body)?;
+    if any_marked(&dead) {
+        return unneeded(alloc, quiet, body);
     }
     Ok(dead)
 }

@@ -41,7 +41,7 @@ fn wishes_by(
     Ok(wishes)
 }
 
-/// A dead position is to go, where gets of the marked static fields are pure; one with which a region begins is to become a
+/// A position that computes for nothing is to go, where gets of the marked static fields are pure; one with which a region begins is to become a
 /// nop. The only error is want of memory.
 pub(crate) fn cleaned(alloc: Global, quiet: &[bool], body: &Body) -> Result<Vec<Fate>, AllocError>
     requires { length body.now.insns + length body.now.regions < 2 ^ 32 }

@@ -21,10 +21,10 @@ use Rattle.pass_defs.specs.Thinned.{Fate}
 use Rattle.pass_defs.specs.Walks.{form_at, Here, Onward, Caught, IsRead}
 use Rattle.program_laws.specs.Results.{gives_result}
 use Rattle.program_laws.specs.Alike.{gets_void}
-use Rattle.program_laws.proofs.Walks.{goes_next, goes_onward}
+use Rattle.program_laws.proofs.Walks.{goes_next}
 use Rattle.thin_laws.specs.Thin.{IsNeed}
 use Rattle.thin_laws.specs.Fates.{MayGo, AreFates}
-use Rattle.thin_laws.specs.Cleaning.{IsTaken, Takes, Leads, Catches, Drops, IsDropped, Skipped, Unread, IsCleaning, IsSound}
+use Rattle.thin_laws.specs.Cleaning.{IsTaken, Takes, Leads, Catches, Drops, IsDemanded, IsLost, Passed, Unasked, IsCleaning, IsSound}
 use Rattle.thin_laws.proofs.Thinning.{Leaps}
 use Rattle.thin_laws.proofs.Squeezed.{more, skip_leaps, skipped_goes}
 use Rattle.thin_laws.proofs.Pure.{pure_leaps}
@@ -34,14 +34,23 @@ read_need b v = record {
   takes = λ n to sl e. Takes n to sl e;
   wanted = λ n m x e i g k. Leads n m x e g i k;
   wanted_caught = λ n m x e i k. Catches n m x e i k;
-  reads = λ n x r h e. (n, Here n x h e);
   onward = λ n m x r h i k e. (k.0, Onward n m k.0 x h e i k.1);
   caught = λ n m x r h i k. (k.0, Caught n m k.0 x h i k.1);
   voids = λ n x r h e k. absurd (true≢false (sym e ∙ v n x h));
 }
 
+pub demand_need : (fs : List Fate) (b : NamedBody) → ((n : ℕ) (x : Form) → form_at b n ≡ Some x → gets_void x ≡ false) → IsNeed b (IsDemanded fs b) (IsTaken b)
+demand_need fs b v = record {
+  takes = λ n to sl e. Takes n to sl e;
+  wanted = λ n m x e i g k. Leads n m x e g i k;
+  wanted_caught = λ n m x e i k. Catches n m x e i k;
+  onward = λ n m x r h i k e. record { reader = k.reader; read = Onward n m k.reader x h e i k.read; left = k.left };
+  caught = λ n m x r h i k. record { reader = k.reader; read = Caught n m k.reader x h i k.read; left = k.left };
+  voids = λ n x r h e k. absurd (true≢false (sym e ∙ v n x h));
+}
+
 -- a pure form goes on
-pure_continues : (p : NamedProgram) (x : Form) → is_pure p x ≡ true → continues x ≡ true
+pub pure_continues : (p : NamedProgram) (x : Form) → is_pure p x ≡ true → continues x ≡ true
 pure_continues p form.ReturnVoid e = absurd (true≢false (sym e))
 pure_continues p (form.Return s from) e = absurd (true≢false (sym e))
 pure_continues p (form.Throw on) e = absurd (true≢false (sym e))
@@ -54,9 +63,9 @@ pure_plain p (form.FilledNewArray kind args) e = absurd (true≢false (sym e))
 pure_plain p (form.Invoke kind key args) e = absurd (true≢false (sym e))
 pure_plain p x e = refl
 
-dropped_goes : (p : NamedProgram) (b : NamedBody) (fs : List Fate) (n : ℕ) (x : Form) → form_at b n ≡ Some x → IsDropped p b fs n x → MayGo (λ n r. IsRead b r n) (IsTaken b) (Drops p) fs n x
-dropped_goes p b fs n x e (Skipped _ h) = skipped_goes (λ n r. IsRead b r n) (IsTaken b) (Drops p) fs n x (λ m j. inl j) h
-dropped_goes p b fs n x e (Unread _ h v u) = let j = goes_next x n (pure_continues p x h) in record {
+lost_goes : (p : NamedProgram) (b : NamedBody) (fs : List Fate) (n : ℕ) (x : Form) → IsLost p b fs n x → MayGo (IsDemanded fs b) (IsTaken b) (Drops p) fs n x
+lost_goes p b fs n x (Passed _ h) = skipped_goes (IsDemanded fs b) (IsTaken b) (Drops p) fs n x (λ m j. inl j) h
+lost_goes p b fs n x (Unasked _ h v u) = let j = goes_next x n (pure_continues p x h) in record {
   to = n + 1;
   loses_it = inr (h, (v, refl));
   ahead = more n;
@@ -66,12 +75,17 @@ dropped_goes p b fs n x e (Unread _ h v u) = let j = goes_next x n (pure_continu
   untaken = λ g k. absurd (true≢false (sym g ∙ pure_plain p x h));
 }
   where
-    at : (r : ℕ) → IsRead b r (n + 1) → (z : Bool) → writes x r ≡ z → writes x r ≡ false
+    at : (r : ℕ) → IsDemanded fs b (n + 1) r → (z : Bool) → writes x r ≡ z → writes x r ≡ false
     at r y false k = k
-    at r y true k = absurd (u r k (n + 1, goes_onward b n x e (n + 1) (goes_next x n (pure_continues p x h)), y))
+    at r y true k = absurd (u r k y)
 
-pub cleaning_fates : (p : NamedProgram) (fs : List Fate) (b : NamedBody) → IsCleaning p fs b → AreFates (λ n r. IsRead b r n) (IsTaken b) (Drops p) fs b
-cleaning_fates p fs b h = record { long = h.long; within = h.within; leaves = λ n x f i e k s. dropped_goes p b fs n x e (h.dropped n x f i e k s) }
+pub cleaning_fates : (p : NamedProgram) (fs : List Fate) (b : NamedBody) → IsCleaning p fs b → AreFates (IsDemanded fs b) (IsTaken b) (Drops p) fs b
+cleaning_fates p fs b h = record {
+  long = h.long;
+  within = h.within;
+  leaves = λ n x f i e k s. lost_goes p b fs n x (h.dropped n x f i e k s);
+  used = λ n x r e k u. record { reader = n; read = Here n x e u; left = k };
+}
 
 -- ---- in a run
 

@@ -29,7 +29,7 @@ use Rattle.pass_defs.specs.Bare.{writes, continues}
 use Rattle.pass_defs.specs.Pure.{is_pure}
 use Rattle.pass_defs.specs.Thinned.{Fate, thinned}
 use Rattle.pass_defs.specs.Remade.{retargeted}
-use Rattle.pass_defs.specs.Walks.{form_at, IsRead, IsReadAfter}
+use Rattle.pass_defs.specs.Walks.{form_at, Here, IsRead, IsReadAfter}
 use Rattle.program_laws.specs.Results.{gives_result}
 use Rattle.program_laws.specs.Others.{Codes, OtherBodies}
 use Rattle.program_laws.proofs.Faces.{others_face}
@@ -109,7 +109,7 @@ spare_goes p gone spare fs b n x e g = record {
     at r y true k = absurd (g.unread r k (n + 1, goes_onward b n x e (n + 1) (goes_next x n g.goes_on), y))
 
 pub quiet_fates : (p : NamedProgram) (gone spare : ℕ → Type 0) (fs : List Fate) (b : NamedBody) → IsQuietCleaning p gone spare fs b → AreFates (λ n r. IsRead b r n) (IsTaken b) (Loses p gone spare) fs b
-quiet_fates p gone spare fs b h = record { long = h.long; within = h.within; leaves = λ n x f i e k s. by n x e (h.dropped n x f i e k s) }
+quiet_fates p gone spare fs b h = record { long = h.long; within = h.within; leaves = λ n x f i e k s. by n x e (h.dropped n x f i e k s); used = λ n x r e k u. (n, Here n x e u) }
   where
     by : (n : ℕ) (x : Form) → form_at b n ≡ Some x → IsDropped p b fs n x ⊎ (IsCallGone gone b n x ⊎ IsSpare spare b n x) → MayGo (λ n r. IsRead b r n) (IsTaken b) (Loses p gone spare) fs n x
     by n x e (inl d) = dead_goes p gone spare b fs n x e d
@@ -146,8 +146,8 @@ module _ (p : NamedProgram) (gone spare : ℕ → Type 0) (b c : NamedBody) (h :
   one_handler : (above : Text → Bool) (n : ℕ) → handler_at above n c ≡ option_map (λ n. n) (handler_at above n b)
   one_handler above n = ap (λ rs. option_and_then (handler_in above) (find (covers n) rs)) h.regions ∙ same_place (handler_at above n b)
 
-  still : (n : ℕ) (x : Form) → form_at c n ≡ Some x → W n (Some x)
-  still n x e = Stood x (e ∙ ap Some (sym (same_form x))) refl (λ t above. one_handler above n)
+  still : (n : ℕ) (x : Form) → form_at b n ≡ Some x → form_at c n ≡ Some x → W n (Some x)
+  still n x i e = Stood x (e ∙ ap Some (sym (same_form x))) refl (λ t above. one_handler above n) (λ r u. (n, Here n x i u))
 
   unread_of : (n : ℕ) (x : Form) → form_at b n ≡ Some x → continues x ≡ true → ((r : ℕ) → writes x r ≡ true → IsReadAfter b r n → ⊥) → (r : ℕ) → IsRead b r (n + 1) → writes x r ≡ false
   unread_of n x e goes unread r y = at (writes x r) refl
@@ -167,7 +167,7 @@ module _ (p : NamedProgram) (gone spare : ℕ → Type 0) (b c : NamedBody) (h :
   went n (Some x) e = by (h.forms n x e)
     where
       by : (form_at c n ≡ Some x) ⊎ ((form_at c n ≡ Some form.Nop) × (IsCallGone gone b n x ⊎ IsSpare spare b n x)) → W n (Some x)
-      by (inl s) = still n x s
+      by (inl s) = still n x e s
       by (inr (e1, inl g)) = emptied_call n x e1 g
       by (inr (e1, inr g)) = emptied_spare n x e e1 g
 
@@ -193,12 +193,12 @@ module _ (p : NamedProgram) (gone spare : Gone) where
 
   quiet_thin : (k : MethodKey) (o o' : Option NamedBody) → Thins Quietens k o o' → AreThin (read_in o) (taken_in o) (Loses p (gone k) (spare k)) o o'
   quiet_thin k _ _ NoCode = Neither
-  quiet_thin k _ _ (Same b) = Both b b (same_thin (λ n r. IsRead b r n) (IsTaken b) (Loses p (gone k) (spare k)) b)
+  quiet_thin k _ _ (Same b) = Both b b (same_thin (λ n r. IsRead b r n) (IsTaken b) (Loses p (gone k) (spare k)) b (λ n x r e u. (n, Here n x e u)))
   quiet_thin k _ _ (Thinned fs b h) = Both b (thinned fs b) (fated_thin (λ n r. IsRead b r n) (IsTaken b) (Loses p (gone k) (spare k)) fs b (quiet_fates p (gone k) (spare k) fs b h))
 
   empty_thin : (k : MethodKey) (o o' : Option NamedBody) → Empties gone spare k o o' → AreThin (read_in o) (taken_in o) (Loses p (gone k) (spare k)) o o'
   empty_thin k _ _ emptied.NoCode = Neither
-  empty_thin k _ _ (SameCode b) = Both b b (same_thin (λ n r. IsRead b r n) (IsTaken b) (Loses p (gone k) (spare k)) b)
+  empty_thin k _ _ (SameCode b) = Both b b (same_thin (λ n r. IsRead b r n) (IsTaken b) (Loses p (gone k) (spare k)) b (λ n x r e u. (n, Here n x e u)))
   empty_thin k _ _ (EmptiedCode b c h) = Both b c (emptied_thin p (gone k) (spare k) b c h)
 
   module _ (o : Outer) (quiet : MethodKey → Type 0) (rank : Rank) (sound : IsSound p) where

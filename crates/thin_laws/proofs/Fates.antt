@@ -9,7 +9,7 @@ use Rattle.dalvik_defs.specs.declared.forms.Form.TheVariants as form
 use Rattle.dalvik_defs.specs.declared.program.NamedBody.{NamedBody}
 use Rattle.pass_defs.specs.Remade.{retargeted}
 use Rattle.pass_defs.specs.Thinned.{Fate, Stays, Empties, Goes, place, forms_left, thinned}
-use Rattle.pass_defs.specs.Bare.{may_throw}
+use Rattle.pass_defs.specs.Bare.{reads, may_throw}
 use Rattle.pass_defs.specs.Walks.{form_at, successors, handlers_at, IsReached}
 use Rattle.program_laws.proofs.Walks.{walk_on, goes_onward, goes_caught}
 use Rattle.thin_laws.specs.Thin.{Went, Past, Stood, Emptied, Gone, IsThin}
@@ -79,7 +79,7 @@ module _ (need : ℕ → ℕ → Type 0) (wants : ℕ → Type 0) (loses : ℕ �
       after l = ap (place fs) (next_is n) ∙ place_next fs n l ∙ sym (next_is (place fs n))
 
       by : (f : Fate) → slice_get fs n ≡ Some f → Went b (thinned fs b) (place fs) need wants loses n (Some x)
-      by Stays k = let l : IsLeft (slice_get fs n) = subst IsLeft (sym k) tt in Stood x (form_left (place fs) fs b.forms n Stays x k e tt) (after l) (λ t above. handlers_same fs b n l (handlers_land n x i e t) above)
+      by Stays k = let l : IsLeft (slice_get fs n) = subst IsLeft (sym k) tt in Stood x (form_left (place fs) fs b.forms n Stays x k e tt) (after l) (λ t above. handlers_same fs b n l (handlers_land n x i e t) above) (λ r u. h.used n x r e k u)
       by Empties k = let l : IsLeft (slice_get fs n) = subst IsLeft (sym k) tt in let g = h.leaves n x Empties i e k refl in
           Emptied x g.to (form_left (place fs) fs b.forms n Empties x k e tt) (g.beside ∙ after l) g.loses_it g.onward g.unneeded g.untaken
       by Goes k = let g = h.leaves n x Goes i e k refl in Gone x g.to g.ahead (g.beside ∙ ap (place fs) (next_is n) ∙ place_gone fs n k) g.loses_it g.onward g.unneeded g.untaken
@@ -104,10 +104,10 @@ kept_option : (o : Option ℕ) → option_map (λ n. n) o ≡ o
 kept_option None = refl
 kept_option (Some n) = refl
 
-module _ (need : ℕ → ℕ → Type 0) (wants : ℕ → Type 0) (loses : ℕ → Form → ℕ → Type 0) (b : NamedBody) where
+module _ (need : ℕ → ℕ → Type 0) (wants : ℕ → Type 0) (loses : ℕ → Form → ℕ → Type 0) (b : NamedBody) (used : (n : ℕ) (x : Form) (r : ℕ) → form_at b n ≡ Some x → reads x r ≡ true → need n r) where
   stood : (n : ℕ) (o : Option Form) → form_at b n ≡ o → Went b b (λ n. n) need wants loses n o
   stood n None e = Past e
-  stood n (Some x) e = Stood x (e ∙ ap (λ y. Some y) (sym (kept x))) refl (λ t above. sym (kept_option _))
+  stood n (Some x) e = Stood x (e ∙ ap (λ y. Some y) (sym (kept x))) refl (λ t above. sym (kept_option _)) (λ r u. used n x r e u)
 
   pub same_thin : IsThin need wants loses b b
   same_thin = record { at = λ n. n; registers = refl; ins = refl; entry = refl; went = λ n i. stood n (form_at b n) refl }

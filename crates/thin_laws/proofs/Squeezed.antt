@@ -25,7 +25,7 @@ skip_leaps s find w c f (form.Goto t) m h e = leap_by s find w c f _ m f.registe
 skip_leaps s find w c f x m h e = absurd e
 
 pub all_needed : (b : NamedBody) → IsNeed b Everything Anywhere
-all_needed b = record { takes = λ n to sl e. tt; wanted = λ n m x e i g k. tt; wanted_caught = λ n m x e i k. tt; reads = λ n x r e h. tt; onward = λ n m x r e i k h. tt; caught = λ n m x r e i k. tt; voids = λ n x r e h k. tt }
+all_needed b = record { takes = λ n to sl e. tt; wanted = λ n m x e i g k. tt; wanted_caught = λ n m x e i k. tt; onward = λ n m x r e i k h. tt; caught = λ n m x r e i k. tt; voids = λ n x r e h k. tt }
 
 pub more : (n : ℕ) → n < n + 1
 more n = omega arith
@@ -52,4 +52,4 @@ skipped_goes need wants loses fs n _ skips (Over m l e) = record {
 }
 
 pub squeezing_fates : (fs : List Fate) (b : NamedBody) → IsSqueezing fs b → AreFates Everything Anywhere Skips fs b
-squeezing_fates fs b h = record { long = h.long; within = h.within; leaves = λ n x f i e k s. skipped_goes Everything Anywhere Skips fs n x (λ m j. j) (h.skipped n x f i e k s) }
+squeezing_fates fs b h = record { long = h.long; within = h.within; leaves = λ n x f i e k s. skipped_goes Everything Anywhere Skips fs n x (λ m j. j) (h.skipped n x f i e k s); used = λ n x r e k u. tt }

@@ -104,6 +104,7 @@ module _ (need : MethodKey → ℕ → ℕ → Type 0) (wants : MethodKey → �
     pub there : form_at p.rest g.position ≡ Some (retargeted p.thin.at x)
     pub next : p.thin.at (f.position + 1) ≡ p.thin.at f.position + 1
     pub handlers : may_throw x ≡ true → (above : Text → Bool) → handler_at above (p.thin.at f.position) p.rest ≡ option_map p.thin.at (handler_at above f.position p.body)
+    pub used : (r : ℕ) → reads x r ≡ true → need f.method f.position r
 
   there_form : (f g : Frame) (p : Paired f g) → other g.method ≡ Some p.rest
   there_form f g p = ap other p.method ∙ p.has_rest
@@ -123,11 +124,11 @@ module _ (need : MethodKey → ℕ → ℕ → Type 0) (wants : MethodKey → �
     wanted : (m : ℕ) → Contains (onward x f.position) m → gives_result x ≡ false → wants f.method m → g.result ≡ f.result
     wanted m i e k = p.result (p.is_need.wanted f.position m x here i e k)
 
-    holds : Holds x (λ r. r) f g
-    holds = record {
-      reads = λ n e. sym (agree_at (need f.method f.position) f.registers g.registers n (Word 0) (p.is_need.reads f.position x n here e) p.registers);
+    holds : ((r : ℕ) → reads x r ≡ true → need f.method f.position r) → Holds x (λ r. r) f g
+    holds used = record {
+      reads = λ n e. sym (agree_at (need f.method f.position) f.registers g.registers n (Word 0) (used n e) p.registers);
       second = λ to from e. sym (agree_at (need f.method f.position) f.registers g.registers (from + 1) (Word 0)
-          (p.is_need.reads f.position x (from + 1) here (ap (λ y. reads y (from + 1)) e ∙ second_read (from + 1) (nat_eq (from + 1) from) (eq-eqb (from + 1) (from + 1) refl))) p.registers);
+          (used (from + 1) (ap (λ y. reads y (from + 1)) e ∙ second_read (from + 1) (nat_eq (from + 1) from) (eq-eqb (from + 1) (from + 1) refl))) p.registers);
       result = λ s to e. p.result (p.is_need.takes f.position to s (here ∙ ap Some e));
       caught = λ to e. p.caught;
     }
@@ -201,7 +202,7 @@ module _ (need : MethodKey → ℕ → ℕ → Type 0) (wants : MethodKey → �
     here = form_of f p.body (Some x) p.has h.here;
     there = form_there f g p (Some (retargeted p.thin.at x)) (ap (form_at p.rest) (sym p.position) ∙ h.there);
     class = ap (λ k. k.class) p.method;
-    holds = holds f g p x h.here;
+    holds = holds f g p x h.here h.used;
     accepts = pair_accepts f g p x h.here h.next;
     voids = λ e. One _ _ (arrives f g p (f.position + 1) (g.position + 1) f.registers g.registers (Word 0) (Word 0) f.caught g.caught
         (comes f g p x h.here (f.position + 1) (goes_next x f.position (void_goes x e))) (next_place f g p x h.here h.next)
@@ -250,7 +251,7 @@ module _ (need : MethodKey → ℕ → ℕ → Type 0) (wants : MethodKey → �
       where
         by : (o : Option Form) → form_at p.body f.position ≡ o → Went p.body p.rest p.thin.at (need f.method) (wants f.method) (loses f.method) f.position o → Goes s find other P w c (alone f) (alone g)
         by _ e (WasPast n) = Past (alone f) (alone g) (form_of f p.body None p.has e) (form_there f g p None n)
-        by _ e (Stood x n k h) = StandsBoth (alone f) (alone g) (stands s f g p x (record { here = e; there = ap (form_at p.rest) p.position ∙ n; next = k; handlers = h }))
+        by _ e (Stood x n k h u) = StandsBoth (alone f) (alone g) (stands s f g p x (record { here = e; there = ap (form_at p.rest) p.position ∙ n; next = k; handlers = h; used = u }))
         by _ e (Emptied x m n k l j u v) = let t = idle.leaps w c f r script x m i (form_of f p.body (Some x) p.has e) l in
             LeapsBoth (alone f) (alone g) t.steps 0 w c (alone (landing_frame f m t.registers t.result)) (alone (next g)) (lifted f (suc t.steps) _ t.glides)
             (step_stays s other w c (alone g) w (next g) (ap (λ y. outcome s.face (need_of s.face c) (effect_of s y w g) w g) (form_there f g p (Some form.Nop) n)))

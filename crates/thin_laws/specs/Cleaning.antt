@@ -1,4 +1,4 @@
--- What goes as dead code: what a squeeze removes, and pure forms whose registers no walk reads.
+-- What goes as dead code: what a squeeze removes, and pure forms whose registers no walk reads at a position that stays.
 use Rattle.std.specs.Prelude.{◌≡◌, ◌⊎◌, ℕ, ◌+◌, ◌<◌, true, false, List, length, Some, nat_eq, slice_get, Contains}
 use Rattle.std.specs.Int.{w32, cast_unsigned}
 use Rattle.insn_set.specs.Flow.{divides_by_literal}
@@ -17,8 +17,8 @@ use Rattle.pass_defs.specs.Bare.{writes}
 use Rattle.pass_defs.specs.Constants.{DividesKnown}
 use Rattle.pass_defs.specs.Idle.{IsIdleForm}
 use Rattle.pass_defs.specs.Pure.{is_pure}
-use Rattle.pass_defs.specs.Thinned.{Fate, stays}
-use Rattle.pass_defs.specs.Walks.{form_at, onward, caught, IsReached, IsReadAfter}
+use Rattle.pass_defs.specs.Thinned.{Fate, Stays, stays}
+use Rattle.pass_defs.specs.Walks.{form_at, onward, caught, IsReached, IsReadAt, IsReadAfter}
 use Rattle.program_laws.specs.Alike.{gets_void}
 use Rattle.thin_laws.specs.Squeezing.{Skips, IsSkipped}
 
@@ -41,11 +41,23 @@ pub data IsDropped (p : NamedProgram) (b : NamedBody) (fs : List Fate) (n : ℕ)
   Skipped : (x : Form) → IsSkipped fs n x → IsDropped p b fs n x
   Unread : (x : Form) → is_pure p x ≡ true → IsFine x → ((r : ℕ) → writes x r ≡ true → IsReadAfter b r n → ⊥) → IsDropped p b fs n x
 
+-- some walk from a position reads the register before it is written, at a position that stays
+pub record IsDemanded (fs : List Fate) (b : NamedBody) (n r : ℕ) : Type 0 where
+  pub reader : ℕ
+  pub read : IsReadAt b r n reader
+  pub left : slice_get fs reader ≡ Some Stays
+
+-- What a squeeze removes, or a pure form none of whose registers some walk behind it reads, at a position that stays, before it
+-- is written. So what computes for positions that go may go with them.
+pub data IsLost (p : NamedProgram) (b : NamedBody) (fs : List Fate) (n : ℕ) : Form → Type 0 where
+  Passed : (x : Form) → IsSkipped fs n x → IsLost p b fs n x
+  Unasked : (x : Form) → is_pure p x ≡ true → IsFine x → ((r : ℕ) → writes x r ≡ true → IsDemanded fs b (n + 1) r → ⊥) → IsLost p b fs n x
+
 -- no walk passes the end
 pub record IsCleaning (p : NamedProgram) (fs : List Fate) (b : NamedBody) : Type 0 where
   pub long : length fs ≡ length b.forms
   pub within : (n : ℕ) → IsReached b n → n < length b.forms
-  pub dropped : (n : ℕ) (x : Form) (f : Fate) → IsReached b n → form_at b n ≡ Some x → slice_get fs n ≡ Some f → stays f ≡ false → IsDropped p b fs n x
+  pub dropped : (n : ℕ) (x : Form) (f : Fate) → IsReached b n → form_at b n ≡ Some x → slice_get fs n ≡ Some f → stays f ≡ false → IsLost p b fs n x
 
 -- no walk passes the end, each position that goes or empties is idle, none is so only as a division by a register that the
 -- constants know, and no literal of such a division is 0 as a word

@@ -21,8 +21,8 @@ pub fn squeezed_law()
     ensures by_number { (p q : Program) (o : Outer) → OtherNumberedBodies (ThinsNumbered (λ k fs b. IsSqueezing fs b) p) p q → SameShown (named p) (named q) o }
 {}
 
-/// And without pure forms whose registers no walk reads before they are written, static reads of trivially initialised
-/// classes among them.
+/// And without pure forms whose registers no walk reads, at a position that stays, before they are written: what computes for
+/// such forms alone goes with them. Static reads of trivially initialised classes are among them.
 pub fn cleaned_law()
     ensures by_name { (p q : NamedProgram) (o : Outer) → IsSound p → OtherBodies (Thins (λ k fs b. IsCleaning p fs b)) p q → SameShown p q o }
     ensures by_number { (p q : Program) (o : Outer) → IsSound (named p)

@@ -34,7 +34,7 @@ use Rattle.const_prop.specs.Given.{number_at}
 use Rattle.const_prop.specs.Kinds.{is_narrow_move, is_typed_so, typing_fits}
 use Rattle.fold_law.proofs.Settled.{Settled}
 use Rattle.fold_law.proofs.Dimensions.{HaveDimensions}
-use Rattle.fold_law.proofs.Kinds.{Agrees, IsTypedBy, KindsAgree}
+use Rattle.fold_law.proofs.KindsOfPrograms.{Agrees, IsTypedBy, KindsAgree}
 use Rattle.fold_law.proofs.Typings.{BodyOf, MetLow}
 use Rattle.fold_law.proofs.Agreeing.{no_wide_there, number_fits, number_typed}
 use Rattle.fold_law.proofs.Known.{register_is}

@@ -36,7 +36,7 @@ use Rattle.const_prop.specs.Given.{number_at}
 use Rattle.const_prop.specs.Kinds.{is_typed_so}
 use Rattle.const_prop.specs.Known.{way_by, way_in}
 use Rattle.fold_law.proofs.Settled.{LeavesNone, Settled}
-use Rattle.fold_law.proofs.Kinds.{KindsAgree}
+use Rattle.fold_law.proofs.KindsOfPrograms.{KindsAgree}
 use Rattle.fold_law.proofs.Left.{left_typed}
 use Rattle.fold_law.proofs.Known.{gives, low, no_choice, register_is, registers_under}
 use Rattle.fold_law.proofs.Ways.{has_way}

@@ -18,7 +18,7 @@ use Rattle.rewrite_pass.specs.declared.edit.Edit.{Edit}
 use Rattle.const_prop.specs.declared.folding.Fold.{Fold}
 use Rattle.const_prop.specs.Folds.{edit_of, edits_of, fold_at, folds_from, folds_of, is_asked, is_typed, IsJudged, one_or_none}
 use Rattle.fold_law.proofs.Settled.{LeavesNone}
-use Rattle.fold_law.proofs.Kinds.{IsTypedBy}
+use Rattle.fold_law.proofs.KindsOfPrograms.{IsTypedBy}
 
 -- ---- lists
 

@@ -1,5 +1,5 @@
 pub mod Typings
-pub mod Kinds
+pub mod KindsOfPrograms
 pub mod Settled
 pub mod Left
 pub mod Numbers

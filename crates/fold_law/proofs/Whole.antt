@@ -22,7 +22,7 @@ use Rattle.fold_law.proofs.Dimensions.{dimensions}
 use Rattle.const_prop.specs.Folds.{NoneLeft, NoneLeftAt}
 use Rattle.fold_law.specs.Asked.{IsSettled}
 use Rattle.fold_law.proofs.Settled.{leaves_none, settle, Settled}
-use Rattle.fold_law.proofs.Kinds.{KindsAgree}
+use Rattle.fold_law.proofs.KindsOfPrograms.{KindsAgree}
 use Rattle.fold_law.proofs.Lowering.{met_low}
 use Rattle.fold_law.proofs.Agreed.{agreed}
 use Rattle.fold_law.proofs.Folded.{folded}

@@ -8,7 +8,8 @@ use Rattle.dalvik_defs.specs.Names.{is_array, is_reference, is_wide, is_word, Te
 use Rattle.dalvik_defs.specs.declared.program.NamedProgram.{NamedProgram}
 use Rattle.pass_defs.specs.Demands.{result_fits}
 use Rattle.pass_defs.specs.Kinds.{Array, Class, is_below, is_number, is_plain, Kind, kind_eq, kind_of, kind_of_reference, Low, Reference, Undefined, Word, Zero}
-use Rattle.facts_kept.proofs.Beneath.{initialised_under, reference_only, type_not_zero, type_of_objects, wide_type}
+use Rattle.fold_law.proofs.Apart.{reference_only}
+use Rattle.facts_kept.proofs.Beneath.{initialised_under, type_not_zero, type_of_objects, wide_type}
 use Rattle.const_prop.specs.declared.numbers.Number.{Number}
 use Rattle.const_prop.specs.Kinds.{in_type, is_null, is_wide_number, letter}
 
@@ -65,7 +66,7 @@ module _ (q : NamedProgram) where
   -- a type of words is none of wides or references
   word_alone : (t : Text) → is_word t ≡ true → (is_reference t ≡ false) × (is_wide t ≡ false)
   word_alone t e = (
-    untrue (is_reference t) (λ i. true≢false (sym e ∙ (reference_only q t i).0)),
+    untrue (is_reference t) (λ i. true≢false (sym e ∙ (reference_only t i).0)),
     untrue (is_wide t) (λ i. true≢false (ap low (sym (word_kind (is_word t) e) ∙ wide_type q t i))),
   )
     where
@@ -93,5 +94,5 @@ module _ (q : NamedProgram) where
   pub letter_wide : (t : Text) (n : Number) → is_wide t ≡ true → is_wide_number n ≡ true → in_type (letter t) n ≡ true
   letter_wide [] n e w = absurd (true≢false (sym e))
   letter_wide (u ∷ us) n e w =
-      ap (λ (b : Bool). if b then is_null n else if u == 74 || u == 68 then is_wide_number n else not (is_wide_number n)) (untrue (is_reference (u ∷ us)) (λ i. true≢false (sym e ∙ (reference_only q (u ∷ us) i).1)))
+      ap (λ (b : Bool). if b then is_null n else if u == 74 || u == 68 then is_wide_number n else not (is_wide_number n)) (untrue (is_reference (u ∷ us)) (λ i. true≢false (sym e ∙ (reference_only (u ∷ us) i).1)))
       ∙ ap (λ (b : Bool). if b then is_wide_number n else not (is_wide_number n)) e ∙ w

@@ -1,3 +1,4 @@
+pub mod Apart
 pub mod Typings
 pub mod KindsOfPrograms
 pub mod Settled

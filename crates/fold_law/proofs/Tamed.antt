@@ -9,7 +9,8 @@ use Rattle.pass_defs.specs.Demands.{Demand, Fits, meets, of_type, Pair}
 use Rattle.pass_defs.specs.Registers.{kind_at}
 use Rattle.dalvik_defs.specs.declared.program.NamedClass.{NamedClass}
 use Rattle.pass_defs.specs.Kinds.{Array, Class, fits, fits_array, Fresh, FreshThis, High, is_below, is_initialised, is_number, is_plain, Kind, kind_of, kind_of_reference, Low, Null, Reference, Undefined, Word, Zero}
-use Rattle.facts_kept.proofs.Beneath.{initialised_under, reference_only, wide_type}
+use Rattle.fold_law.proofs.Apart.{reference_only}
+use Rattle.facts_kept.proofs.Beneath.{initialised_under, wide_type}
 use Rattle.fold_law.proofs.Typings.{met, null_fits, suits, word_fits}
 use Rattle.fold_law.proofs.Parts.{Gone, IsPart, Same}
 use Rattle.fold_law.proofs.Suits.{any_suits, null_suits, number_suits}
@@ -96,7 +97,7 @@ met_rises k v w b = by (suits k true v) refl
 module _ (q : NamedProgram) where
   -- the kind of a reference type is one of references
   pub reference_kind : (t : Text) → is_reference t ≡ true → is_initialised (kind_of q t) ≡ true
-  reference_kind t e = by (is_word t) (is_wide t) (is_reference t) (reference_only q t e).0 (reference_only q t e).1 e
+  reference_kind t e = by (is_word t) (is_wide t) (is_reference t) (reference_only t e).0 (reference_only t e).1 e
     where
       reference : (c d : Bool) → is_initialised (if c then Array t else if d then Class t else Reference) ≡ true
       reference true d = refl

@@ -17,7 +17,7 @@ use Rattle.body_graph.proofs.Links.{step_insn, step_on, step_caught, caught_of}
 use Rattle.body_graph.proofs.Members.{none, first, there, split}
 use Rattle.live_regs.specs.Live.{is_live}
 use Rattle.live_regs.specs.declared.table.Live.{Live}
-use Rattle.dead_code.specs.Dead.{is_pure, IsDead, AreUnread, AreDead, IsNeeded, written_of, is_live_caught, is_live_after, unread_by, unread_if, dead_by, dead_at, LiveAs}
+use Rattle.dead_code.specs.Dead.{is_pure, IsDead, AreUnread, AreDead, written_of, is_live_caught, is_live_after, unread_by, unread_if, dead_by, dead_at, LiveAs}
 
 -- ---- what a form writes
 

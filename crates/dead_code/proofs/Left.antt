@@ -1,5 +1,5 @@
 -- Where nothing is counted, nothing was dead.
-use Rattle.std.proofs.Common.{◌≡◌, ℕ, Bool, true, false, true≢false, List, length, Some, slice_get, refl, sym, ap, ◌∙◌, subst}
+use Rattle.std.proofs.Common.{◌≡◌, ℕ, Bool, true, false, true≢false, List, length, sym, ap, ◌∙◌}
 use Rattle.insn_set.specs.Registers.{writes_of}
 use Rattle.insn_set.specs.declared.form.Insn.{Insn}
 use Rattle.insn_set.specs.declared.form.Insn.TheVariants as insn
@@ -7,7 +7,7 @@ use Rattle.program_model.specs.declared.body.Body.{Body}
 use Rattle.program_model.specs.declared.program.Program.{Program}
 use Rattle.program_model.specs.declared.pass.Changed.{Changed}
 use Rattle.body_edit.specs.declared.fate.Fate.{Fate}
-use Rattle.body_edit.specs.declared.fate.Fate.TheVariants.{Stays, Empties, Goes}
+use Rattle.body_edit.specs.declared.fate.Fate.TheVariants.{Stays}
 use Rattle.walk_marks.specs.Walks.{is_on}
 use Rattle.body_graph.proofs.Members.{get_inside}
 use Rattle.thin_pass.specs.Wishing.{wish_at, fates_from}

@@ -1,23 +1,22 @@
 -- What isn't needed, by the table of marks, computes for nothing, and each dead position is so.
-use Rattle.std.proofs.Common.{◌≡◌, ◌↔◌, ◌⊎◌, inl, inr, ℕ, suc, ◌+◌, ◌*◌, ◌/◌, ◌%◌, ◌<◌, ◌≤◌, if◌then◌else◌, Bool, true, false, not, ◌&&◌, List, [], ◌∷◌, ◌++◌, length, Option, Some, None, slice_get, nat_lt, Contains, refl, sym, ap, ◌∙◌, subst, arith, lt-ltb, le-ltb, ltb-true}
+use Rattle.std.proofs.Common.{◌≡◌, ◌↔◌, inl, inr, ℕ, ◌+◌, ◌*◌, ◌/◌, ◌%◌, ◌<◌, ◌≤◌, if◌then◌else◌, Bool, true, false, not, ◌&&◌, List, [], ◌∷◌, ◌++◌, length, Option, Some, None, slice_get, nat_lt, Contains, refl, sym, ap, ◌∙◌, subst, arith, lt-ltb, le-ltb, ltb-true}
 use Rattle.std.proofs.Math.Nat.{mul_comm}
 use Rattle.std.proofs.lemmas.Bool.{cases_lt, false≢true, and_parts, and_from, and_left, and_right, not-true, not_from_false, false_from_ne_true}
 use Rattle.std.proofs.lemmas.List.{length_push, get_or_push, get_or_append_left}
 use Rattle.std.proofs.lemmas.Nat.{div-mul-add, mod-mul-add, mul-add-lt, div-add-mod', mod_below, div_below}
 use Rattle.insn_set.specs.declared.form.Insn.{Insn}
-use Rattle.insn_set.specs.Flow.{throws}
-use Rattle.insn_set.specs.Registers.{in_operand, reads_of, writes_of}
+use Rattle.insn_set.specs.Registers.{writes_of}
 use Rattle.program_model.specs.declared.body.Body.{Body}
 use Rattle.program_model.specs.declared.body.Region.{Region}
 use Rattle.flow_cfg.specs.Walks.{handlers_in}
 use Rattle.walk_marks.specs.Walks.{AreTurned, row_of, is_on}
-use Rattle.body_graph.specs.Walks.{insn_at, onward, IsReadAt, Here, Onward, Caught}
+use Rattle.body_graph.specs.Walks.{insn_at, IsReadAt, Here, Onward, Caught}
 use Rattle.body_graph.specs.Graph.{covering, node_row}
-use Rattle.body_graph.proofs.Members.{first, get_inside, get_past, get_some}
+use Rattle.body_graph.proofs.Members.{first, get_inside, get_past}
 use Rattle.body_graph.proofs.Links.{Edge, On, Throws, Handles, edge_of, edge_to, caught_of, caught_by, step_on}
 use Rattle.live_regs.specs.Liveness.{reads_at, writes_at, sees, IsBack}
-use Rattle.dead_code.specs.Dead.{is_pure, IsDead, IsNeeded, IsIdle, AreDead, written_of, unread_by, unread_if, dead_by}
-use Rattle.dead_code.specs.Needs.{count_of, place_of, size_of, removable_by, is_removable, row_before, Before, ReadBelow, Leads, Seen, Needed, LeadsFrom, IsSeed, AllOn, Comes, Begins, Goes, AreNeeds, AreRest}
+use Rattle.dead_code.specs.Dead.{is_pure, IsDead, IsNeeded, IsIdle, AreDead, written_of, unread_if, dead_by}
+use Rattle.dead_code.specs.Needs.{count_of, place_of, size_of, removable_by, is_removable, row_before, Leads, Seen, Needed, LeadsFrom, Comes, Begins, Goes, AreNeeds, AreRest}
 use Rattle.dead_code.proofs.Dying.{writes_by, writes_is, first_in, pure_onward, unread_of, unread_to}
 
 pub back_is : (b : Body) (rows given back : List (List ℕ)) (count : ℕ) → count ≡ length b.insns + length b.regions → ((n : ℕ) → row_of given n ≡ node_row b n) → rows ≡ given → AreTurned rows count back → IsBack b back
@@ -277,7 +276,7 @@ module _ (quiet : ℕ → Bool) (b : Body) (back : List (List ℕ)) (turned : Is
 
   -- ---- the marks
 
-  is_needed : ℕ → ℕ → Bool
+  abbrev is_needed : ℕ → ℕ → Bool
   is_needed n r = nat_lt n (length b.insns) && is_on table (place_of b r n)
 
   needed_is : (n r : ℕ) → r < R → (is_needed n r ≡ true) ↔ IsNeeded b marks n r

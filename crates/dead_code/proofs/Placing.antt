@@ -1,5 +1,5 @@
 -- Places of a table have numbers that fit.
-use Rattle.std.proofs.Common.{◌≡◌, ℕ, ◌+◌, ◌*◌, ◌^◌, ◌<◌, arith}
+use Rattle.std.proofs.Common.{ℕ, ◌+◌, ◌*◌, ◌^◌, ◌<◌, arith}
 use Rattle.std.proofs.lemmas.Nat.{mul-lt}
 
 pub row_small : (row count : ℕ) → row < 2 ^ 16 → count < 2 ^ 32 → row * count < 2 ^ 48

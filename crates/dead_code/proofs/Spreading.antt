@@ -8,9 +8,7 @@ use Rattle.std.proofs.lemmas.List.Sums.{sum_by-set}
 use Rattle.program_model.specs.declared.body.Body.{Body}
 use Rattle.walk_marks.specs.Walks.{is_on, row_of}
 use Rattle.walk_marks.specs.Steps.{Marks}
-use Rattle.body_graph.specs.Walks.{insn_at}
-use Rattle.live_regs.specs.Liveness.{reads_at}
-use Rattle.dead_code.specs.Needs.{place_of, size_of, is_removable, row_before, Before, ReadBelow, Leads, Seen, Needed, LeadsFrom, IsSeed, AllOn, Comes, Begins, Goes, AreNeeds}
+use Rattle.dead_code.specs.Needs.{count_of, place_of, size_of, row_before, Before, ReadBelow, Leads, Seen, Needed, LeadsFrom, IsSeed, AllOn, Comes, Begins, Goes, AreNeeds}
 
 -- ---- marks and lists
 
@@ -150,20 +148,46 @@ module _ (test : ℕ → Type 0) (place : ℕ → ℕ) where
 
 -- ---- what one mark leads to
 
-module _ (b : Body) (back : List (List ℕ)) (row n : ℕ) where
-  pub leads_seen : (m m' : List Bool) (w w' : List ℕ) → row < b.registers → Marks (Before b row n (row_of back n)) m w m' w' → Marks (Leads b back row n) m w m' w'
-  leads_seen m m' w w' lt a = marks_more (Before b row n (row_of back n)) (Leads b back row n) m m' w w' (λ p l. Seen lt l) a
+module _ (b : Body) (back : List (List ℕ)) (place count r n : ℕ) (all : count ≡ length b.insns + length b.regions) (node : n ≡ place % count) where
+  node_at : n ≡ place % count_of b
+  node_at = node ∙ ap (λ (k : ℕ). place % k) all
 
-  pub leads_needed : (m m' : List Bool) (w w' : List ℕ) → b.registers ≤ row → Marks (ReadBelow b n b.registers) m w m' w' → Marks (Leads b back row n) m w m' w'
-  leads_needed m m' w w' le a = marks_more (ReadBelow b n b.registers) (Leads b back row n) m m' w w' (λ p l. Needed le l) a
+  module _ (row : r ≡ place / count) (lt : r < b.registers) (list : List ℕ) (same : list ≡ row_of back n) where
+    row_at : r ≡ place / count_of b
+    row_at = row ∙ ap (λ (k : ℕ). place / k) all
 
-  pub on_seen : (m : List Bool) → row < b.registers → AllOn (Before b row n (row_of back n)) m → AllOn (Leads b back row n) m
-  on_seen m lt f p (Seen l h) inside = f p h inside
-  on_seen m lt f p (Needed l h) inside = absurd (omega (arith, lt, l))
+    seen_leads : (p : ℕ) → Before b r n list p → LeadsFrom b back place p
+    seen_leads p l = subst (λ (k : ℕ). Leads b back k (place % count_of b) p) row_at (subst (λ (k : ℕ). Leads b back r k p) node_at (Seen lt (subst (λ (x : List ℕ). Before b r n x p) same l)))
 
-  pub on_needed : (m : List Bool) → b.registers ≤ row → AllOn (ReadBelow b n b.registers) m → AllOn (Leads b back row n) m
-  on_needed m le f p (Seen l h) inside = absurd (omega (arith, le, l))
-  on_needed m le f p (Needed l h) inside = f p h inside
+    leads_seen : (p : ℕ) → LeadsFrom b back place p → Before b r n list p
+    leads_seen p l = by (subst (λ (k : ℕ). Leads b back k n p) (sym row_at) (subst (λ (k : ℕ). Leads b back (place / count_of b) k p) (sym node_at) l))
+      where
+        by : Leads b back r n p → Before b r n list p
+        by (Seen x h) = subst (λ (y : List ℕ). Before b r n y p) (sym same) h
+        by (Needed x h) = absurd (omega (arith, lt, x))
+
+    pub seen_marks : (m m' : List Bool) (w w' : List ℕ) → Marks (Before b r n list) m w m' w' → Marks (LeadsFrom b back place) m w m' w'
+    seen_marks m m' w w' a = marks_more (Before b r n list) (LeadsFrom b back place) m m' w w' seen_leads a
+
+    pub seen_on : (m : List Bool) → AllOn (Before b r n list) m → AllOn (LeadsFrom b back place) m
+    seen_on m f p l inside = f p (leads_seen p l) inside
+
+  module _ (le : b.registers ≤ place / count) where
+    last : b.registers ≤ place / count_of b
+    last = subst (λ (k : ℕ). b.registers ≤ place / k) all le
+
+    needed_leads : (p : ℕ) → ReadBelow b n b.registers p → LeadsFrom b back place p
+    needed_leads p l = Needed last (subst (λ (k : ℕ). ReadBelow b k b.registers p) node_at l)
+
+    leads_needed : (p : ℕ) → LeadsFrom b back place p → ReadBelow b n b.registers p
+    leads_needed p (Seen x h) = absurd (omega (arith, last, x))
+    leads_needed p (Needed x h) = subst (λ (k : ℕ). ReadBelow b k b.registers p) (sym node_at) h
+
+    pub needed_marks : (m m' : List Bool) (w w' : List ℕ) → Marks (ReadBelow b n b.registers) m w m' w' → Marks (LeadsFrom b back place) m w m' w'
+    needed_marks m m' w w' a = marks_more (ReadBelow b n b.registers) (LeadsFrom b back place) m m' w w' needed_leads a
+
+    pub needed_on : (m : List Bool) → AllOn (ReadBelow b n b.registers) m → AllOn (LeadsFrom b back place) m
+    needed_on m f p l inside = f p (leads_needed p l) inside
 
 -- ---- the whole table
 

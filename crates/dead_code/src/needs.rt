@@ -5,7 +5,7 @@
 //! marks itself in the row of each register that it reads; a mark goes backwards along the edges of the body's graph, and where
 //! it comes to a position that writes the register, that one is needed. So each mark is set once, however long the chains are.
 
-ghost use Rattle.std.specs.Prelude.{◌≡◌, ◌↔◌, ℕ, ◌+◌, ◌<◌, ◌≤◌, ◌^◌, false, length, slice_get, take, IfOk, OnOk};
+ghost use Rattle.std.specs.Prelude.{◌≡◌, ◌+◌, ◌*◌, ◌<◌, ◌^◌, true, false, length, slice_get, IfOk, OnOk};
 ghost use Rattle.walk_marks.specs.Walks.{is_on};
 ghost use Rattle.walk_marks.specs.Steps.{Marks};
 ghost use Rattle.live_regs.specs.Liveness.{IsBack, writes_at, reads_at};
@@ -31,11 +31,7 @@ fn place(row: u16, node: u32, count: usize) -> usize
 }
 
 /// Marks a place that isn't marked yet, and lets it wait.
-fn mark(
-    marks: &mut Vec<bool>,
-    waiting: &mut Vec<usize>,
-    place: usize,
-) -> Result<(), AllocError>
+fn mark(marks: &mut Vec<bool>, waiting: &mut Vec<usize>, place: usize) -> Result<(), AllocError>
     ensures marks { OnOk result (Marks (λ p. p ≡ place) marks.old.items waiting.old.items marks.new.items waiting.new.items) }
     ensures on { OnOk result (place < length marks.old.items → is_on marks.new.items place ≡ true) }
 {
@@ -141,6 +137,14 @@ fn read(
     Ok(())
 }
 
+/// The register of a row that isn't the last one.
+fn register_of(row: usize, registers: u16) -> u16
+    requires { row < registers }
+    ensures { result ≡ row }
+{
+    row as u16
+}
+
 /// Marks what a mark leads to.
 fn spread(
     body: &Body,
@@ -159,11 +163,13 @@ fn spread(
     let row = place / count;
     let node = place % count;
     if row < usize::from(body.registers) {
+        let register = register_of(row, body.registers);
         let before = back[node].as_slice();
-        follow(body, row as u16, node as u32, before, count, marks, waiting)
-    } else {
-        read(body, node as u32, count, marks, waiting)
+        follow(body, register, node as u32, before, count, marks, waiting)?;
+        return Ok(());
     }
+    read(body, node as u32, count, marks, waiting)?;
+    Ok(())
 }
 
 /// Whether a position is a pure form that writes registers of the body alone.
@@ -269,12 +275,7 @@ fn size(body: &Body, count: usize) -> usize
 }
 
 /// The positions that aren't needed, by the table.
-fn rest(
-    alloc: Global,
-    body: &Body,
-    table: &[bool],
-    count: usize,
-) -> Result<Vec<bool>, AllocError>
+fn rest(alloc: Global, body: &Body, table: &[bool], count: usize) -> Result<Vec<bool>, AllocError>
     requires small { count < 2 ^ 32 }
     requires count { count ≡ count_of body.now }
     requires long { length table.now ≡ size_of body.now }

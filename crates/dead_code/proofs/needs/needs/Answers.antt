@@ -1,4 +1,4 @@
-use Rattle.std.proofs.Common.{◌≡◌, ◌∷◌, ◌++◌, [], ℕ, length, arith, length-append, sym, ap, ◌∙◌, refl, rules, replicate, false}
+use Rattle.std.proofs.Common.{◌≡◌, ◌∷◌, [], length, arith, length-append, ap, rules, replicate, false}
 use Rattle.walk_marks.specs.Walks.{is_on}
 use Rattle.dead_code.proofs.Spreading.{spreads_begin, spreads_on, spreads_end, some_node}
 use Rattle.dead_code.proofs.needs.needs.Goals as goal

@@ -1,4 +1,4 @@
-use Rattle.std.proofs.Common.{◌≡◌, ◌+◌, ◌*◌, not, ap, ◌∙◌, arith}
+use Rattle.std.proofs.Common.{◌+◌, ◌*◌, not, ap, ◌∙◌, arith}
 use Rattle.walk_marks.specs.Walks.{is_on}
 use Rattle.dead_code.proofs.Needed.{rest_none, rest_more, rest_all}
 use Rattle.dead_code.proofs.needs.rest.Goals as goal

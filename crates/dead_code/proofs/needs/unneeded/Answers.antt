@@ -1,4 +1,4 @@
-use Rattle.std.proofs.Common.{◌≡◌, ℕ, List, Bool, length, sym, ap, ◌∙◌, subst, arith}
+use Rattle.std.proofs.Common.{ℕ, List, Bool, subst, arith}
 use Rattle.walk_marks.specs.Walks.{is_on}
 use Rattle.live_regs.specs.Liveness.{IsBack}
 use Rattle.dead_code.specs.Needs.{AreNeeds, AreRest}

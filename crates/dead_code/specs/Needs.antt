@@ -38,6 +38,10 @@ Before b r n row p = (m : ℕ) × (Contains row m × (p ≡ place_of b (row_befo
 abbrev pub ReadBelow : Body → ℕ → ℕ → ℕ → Type 0
 ReadBelow b n upto p = (r : ℕ) × ((r < upto) × ((reads_at r (insn_at b n) ≡ true) × (p ≡ place_of b r n)))
 
+-- one of them
+abbrev pub ReadAt : Body → ℕ → ℕ → ℕ → Type 0
+ReadAt b n r p = (p ≡ place_of b r n) × (reads_at r (insn_at b n) ≡ true)
+
 -- what a mark leads to
 pub data Leads (b : Body) (back : List (List ℕ)) (row n p : ℕ) : Type 0 where
   Seen : row < b.registers → Before b row n (row_of back n) p → Leads b back row n p
@@ -49,6 +53,10 @@ LeadsFrom b back x p = Leads b back (x / count_of b) (x % count_of b) p
 -- what is needed whatever is read
 abbrev pub IsSeed : (ℕ → Bool) → Body → ℕ → ℕ → Type 0
 IsSeed quiet b upto p = (n : ℕ) × ((n < upto) × ((is_removable quiet b n ≡ false) × (p ≡ place_of b b.registers n)))
+
+-- one of them
+abbrev pub SeedAt : (ℕ → Bool) → Body → ℕ → ℕ → Type 0
+SeedAt quiet b n p = (p ≡ place_of b b.registers n) × (is_removable quiet b n ≡ false)
 
 -- each of these that is a place is marked
 abbrev pub AllOn : (ℕ → Type 0) → List Bool → Type 0

@@ -10,7 +10,7 @@ ghost use Rattle.walk_marks.specs.Walks.{is_on};
 ghost use Rattle.walk_marks.specs.Steps.{Marks};
 ghost use Rattle.live_regs.specs.Liveness.{IsBack, writes_at, reads_at};
 ghost use Rattle.dead_code.specs.Dead.{unread_by, dead_by, AreDead};
-ghost use Rattle.dead_code.specs.Needs.{count_of, size_of, place_of, removable_by, row_before, Before, ReadBelow, LeadsFrom, IsSeed, AllOn, AreNeeds, AreRest};
+ghost use Rattle.dead_code.specs.Needs.{count_of, size_of, place_of, removable_by, row_before, Before, ReadBelow, ReadAt, LeadsFrom, IsSeed, SeedAt, AllOn, AreNeeds, AreRest};
 
 use crate::written::written;
 use body_graph::rows;
@@ -108,8 +108,9 @@ fn read_one(
 ) -> Result<(), AllocError>
     requires small { count < 2 ^ 32 }
     requires count { count ≡ count_of body.now }
-    ensures marks { OnOk result (Marks (λ p. (p ≡ place_of body.now register position) × (reads_at register (slice_get body.now.insns position) ≡ true)) marks.old.items waiting.old.items marks.new.items waiting.new.items) }
-    ensures on { OnOk result (reads_at register (slice_get body.now.insns position) ≡ true → place_of body.now register position < length marks.old.items → is_on marks.new.items (place_of body.now register position) ≡ true) }
+    ensures marks { OnOk result (Marks (ReadAt body.now position register) marks.old.items waiting.old.items marks.new.items waiting.new.items) }
+    ensures on { OnOk result (reads_at register (slice_get body.now.insns position) ≡ true → place_of body.now register position < length marks.old.items
+        → is_on marks.new.items (place_of body.now register position) ≡ true) }
 {
     if reads_at(body.insns.as_slice(), position as usize, register) {
         let there = place(register, position, count);
@@ -214,8 +215,9 @@ fn begin_one(
     requires small { count < 2 ^ 32 }
     requires count { count ≡ count_of body.now }
     requires inside { position < length body.now.insns }
-    ensures marks { OnOk result (Marks (λ p. (p ≡ place_of body.now body.now.registers position) × (removable_by (is_on quiet.now) body.now.registers (slice_get body.now.insns position) ≡ false)) marks.old.items waiting.old.items marks.new.items waiting.new.items) }
-    ensures on { OnOk result (removable_by (is_on quiet.now) body.now.registers (slice_get body.now.insns position) ≡ false → place_of body.now body.now.registers position < length marks.old.items → is_on marks.new.items (place_of body.now body.now.registers position) ≡ true) }
+    ensures marks { OnOk result (Marks (SeedAt (is_on quiet.now) body.now position) marks.old.items waiting.old.items marks.new.items waiting.new.items) }
+    ensures on { OnOk result (removable_by (is_on quiet.now) body.now.registers (slice_get body.now.insns position) ≡ false
+        → place_of body.now body.now.registers position < length marks.old.items → is_on marks.new.items (place_of body.now body.now.registers position) ≡ true) }
 {
     if !is_removable(quiet, body, position) {
         let there = place(body.registers, position as u32, count);

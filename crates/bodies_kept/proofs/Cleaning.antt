@@ -1,15 +1,15 @@
 -- What is wished for a body with dead positions is right, and loses nothing that is seen.
-use Rattle.std.proofs.Common.{◌≡◌, ◌↔◌, ◌⊎◌, inl, inr, ℕ, zero, suc, ◌+◌, ◌<◌, ◌≤◌, Bool, true, false, true≢false, if◌then◌else◌, not, ◌&&◌, ◌||◌, List, [], ◌∷◌, ◌++◌, length, map, Option, Some, None, slice_get, Contains, refl, sym, ap, ◌∙◌, subst, arith, lt-ltb, ltb-true, eq-eqb}
+use Rattle.std.proofs.Common.{◌≡◌, ◌⊎◌, inl, inr, ℕ, zero, suc, ◌+◌, ◌<◌, ◌≤◌, Bool, true, false, true≢false, not, ◌||◌, List, [], ◌∷◌, length, map, Option, Some, None, slice_get, Contains, refl, sym, ap, ◌∙◌, subst, arith, lt-ltb, ltb-true, eq-eqb}
 use Rattle.std.specs.Prelude.{nat_eq, nat_le, nat_lt, filter}
 use Rattle.std.specs.List.{list_any}
 use Rattle.std.specs.Option.{option_map}
-use Rattle.std.proofs.lemmas.Bool.{eqb-true, leb-true, cases_lt, le-ltb}
+use Rattle.std.proofs.lemmas.Bool.{leb-true, cases_lt, le-ltb}
 use Rattle.std.proofs.lemmas.List.{length-map}
 use Rattle.lemmas.proofs.Bools.{and_right, clash}
 use Rattle.lemmas.proofs.Lists.{contains_here, contains_there}
 use Rattle.lemmas.proofs.Numbers.{next_is}
-use Rattle.insn_set.specs.Flow.{goes_on, targets_of}
-use Rattle.insn_set.specs.Registers.{reads_of, writes_of}
+use Rattle.insn_set.specs.Flow.{goes_on}
+use Rattle.insn_set.specs.Registers.{writes_of}
 use Rattle.insn_set.specs.declared.form.Insn.{Insn}
 use Rattle.insn_set.specs.declared.form.Insn.TheVariants as insn
 use Rattle.insn_set.specs.declared.ops.Slot.{Slot}
@@ -17,7 +17,6 @@ use Rattle.program_model.specs.BodyRules.{has_result, handles_at, body_fits}
 use Rattle.program_model.specs.ProgramRules.{is_well_formed}
 use Rattle.program_model.specs.RegionRules.{may_begin, rest_fits}
 use Rattle.program_model.specs.declared.body.Body.{Body}
-use Rattle.program_model.specs.declared.body.Handler.{Handler}
 use Rattle.program_model.specs.declared.body.Region.{Region}
 use Rattle.program_model.specs.declared.program.Program.{Program}
 use Rattle.class_defs.specs.ClassGraph.{IsTwice}
@@ -36,24 +35,24 @@ use Rattle.pass_defs.specs.Typed.{Table, IsTyping}
 use Rattle.pass_defs.specs.Walks.{form_at}
 use Rattle.pass_defs.specs.Walks as named
 use Rattle.body_edit.specs.declared.fate.Fate.{Fate}
-use Rattle.body_edit.specs.declared.fate.Fate.TheVariants.{Stays, Empties, Goes}
+use Rattle.body_edit.specs.declared.fate.Fate.TheVariants.{Stays}
 use Rattle.flow_cfg.specs.Walks.{successors_of}
 use Rattle.walk_marks.specs.Walks.{is_on}
 use Rattle.body_graph.specs.Walks as numbered
 use Rattle.body_graph.proofs.Members.{get_inside, get_some}
 use Rattle.body_graph.proofs.Links.{step_on, step_caught}
-use Rattle.program_laws.proofs.ChangedLists.{and_left, and_both}
+use Rattle.program_laws.proofs.ChangedLists.{and_left}
 use Rattle.thin_laws.specs.Squeezing.{IsSkipped, Nop}
 use Rattle.thin_laws.specs.Cleaning.{IsDemanded, IsLost, Unasked, IsCleaning}
 use Rattle.thin_laws.specs.Squeezed.{IsTransitive, SqueezesMarked, squeezed_table}
 use Rattle.thin_laws.proofs.SqueezedTypes.{squeezed_typing}
-use Rattle.thin_pass.specs.Wishing.{wish_at, goes, is_to_go, is_held}
+use Rattle.thin_pass.specs.Wishing.{wish_at, goes, is_held}
 use Rattle.thin_laws.specs.Tidy.{IsTidy}
 use Rattle.thin_laws.proofs.Rules.{follows_at, next_there, target_there, caught_at, covers_at, may_begin_at, rest_of}
 use Rattle.removal_bridge.proofs.WalkedForms.{same_reads, same_writes, same_onward, same_caught, form_there}
 use Rattle.dead_code.specs.Dead.{is_pure, is_quiet_field, IsNeeded, IsIdle}
-use Rattle.dead_code.specs.Wishes.{begins, wish_for, AreCleaned}
-use Rattle.bodies_kept.specs.Right.{fates_by, PassesOn, On, Next, StillCatches, AreRight}
+use Rattle.dead_code.specs.Wishes.{wish_for, AreCleaned}
+use Rattle.bodies_kept.specs.Right.{fates_by, PassesOn, On, StillCatches, AreRight}
 use Rattle.bodies_kept.proofs.Chosen.{Chosen, long, chosen_at, insn_there, lost_by, stays_by}
 use Rattle.bodies_kept.proofs.Tidying.{tidy}
 use Rattle.bodies_kept.proofs.Inside.{step_of, step_inside, falls_on, some_position, named_inside}
